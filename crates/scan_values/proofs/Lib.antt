@@ -1,0 +1,15 @@
+pub mod Lent
+pub mod FitsLemmas
+pub mod Deepest
+pub mod Places
+pub mod Faults
+pub mod Uneven
+pub mod MaskLemmas
+pub mod Rising
+pub mod Fitting
+pub mod SameFields
+pub mod Loose
+pub mod DTypeSent
+pub mod ValuesSent
+pub mod ArraysSent
+pub mod Named

@@ -1,0 +1,25 @@
+// Values, dtypes, arrays, masks and selections.
+#![tactic(auto)]
+
+mod array;
+mod dtype;
+mod field_path;
+mod mask;
+mod memory;
+mod ptype;
+mod selection;
+mod text;
+mod value;
+
+pub use array::{Array, ArrayFault};
+pub use dtype::{DType, DTypeFault, DTypeKind, StructFields};
+pub use field_path::{FieldMask, FieldPath};
+pub use mask::Mask;
+pub use memory::NoMemory;
+pub use ptype::{Nullability, PType};
+pub use selection::{Selection, StrictSorted, StrictSortedFault};
+pub use text::{FieldName, NameFault, Names, Text, has_name, names_fault};
+pub use value::{Value, Values};
+
+#[cfg(test)]
+mod tests;
