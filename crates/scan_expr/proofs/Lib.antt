@@ -1,0 +1,10 @@
+pub mod Picks
+pub mod Evals
+pub mod Fitting
+pub mod Sound
+pub mod Clean
+pub mod Reading
+pub mod Binding
+pub mod Choices
+pub mod Binds
+pub mod Sames

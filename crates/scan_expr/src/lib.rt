@@ -1,0 +1,26 @@
+// Expressions, their binding to a dtype and their evaluation.
+#![tactic(auto)]
+
+mod apply;
+mod bind;
+mod bound;
+mod compare;
+mod constructors;
+mod evaluate;
+mod expression;
+mod laws;
+mod op;
+mod request;
+#[cfg(test)]
+mod tests;
+mod typing;
+
+pub use bound::{BoundExpression, BoundNode};
+pub use evaluate::Lent;
+pub use expression::Expression;
+pub use laws::{
+    clean_values_stay_clean, conjuncts_are_all_true, needs_are_those_of_the_uses,
+    row_numbers_play_no_part, values_fit_the_dtype, what_binds_has_the_inferred_dtype,
+};
+pub use op::{Binary, BindFault, Unary};
+pub use request::ScanRequest;
