@@ -1,0 +1,155 @@
+-- The live requests stay those of the table.
+use Rattle.std.proofs.Common.{◌≡◌, ℕ, zero, suc, ◌+◌, ◌<◌, List, [], ◌∷◌, ◌++◌, length, Bool, true, false, ◌||◌, cond, eqb, Option, Some, None, is_some, is_none, Result, Ok, Err, OnOk, OnErr, is_ok, refl, sym, ap, ◌∙◌, subst, arith}
+use Rattle.std.specs.List.{Contains, slice_index_or}
+use Rattle.std.proofs.lemmas.Bool.Decides.{nat_tests}
+use Rattle.scan_segments.specs.Source.{SourceState, without, Begins, Stays, Ends}
+use Rattle.scan_segments.specs.Sharing.{Held, Table, has, joined, kept, left, answered, with_holder, with_answer, without_holder, is_live, entry_at, Same, Agree}
+
+neither : (a b : Bool) → (a || b) ≡ false → (a ≡ false) × (b ≡ false)
+neither true b e = absurd (cc)
+neither false b e = (refl, e)
+
+or_under : (a b c : Bool) → (a || cond b true c) ≡ cond b true (a || c)
+or_under true true c = refl
+or_under true false c = refl
+or_under false b c = refl
+
+pub has_snoc : (n : ℕ) (xs : List ℕ) (y : ℕ) → has n (xs ++ y ∷ []) ≡ cond (eqb n y) true (has n xs)
+has_snoc n [] y = grind (arith, nat_tests)
+has_snoc n (x ∷ xs) y = rw (has_snoc n xs y) (or_under (eqb x n) (eqb n y) (has n xs))
+
+apart_tests : (n i x : ℕ) (c : Bool) → eqb x n ≡ false → (eqb x i || cond (eqb i n) false c) ≡ cond (eqb i n) false (eqb x i || c)
+apart_tests n i x c apart = go (eqb x i) (eqb i n) refl refl
+  where
+    go : (a b : Bool) → eqb x i ≡ a → eqb i n ≡ b → (eqb x i || cond (eqb i n) false c) ≡ cond (eqb i n) false (eqb x i || c)
+    go true true p q = let bad : eqb x n ≡ true = grind (arith, nat_tests) in absurd (cc)
+    go true false p q = rw (p, q) refl
+    go false true p q = rw (p, q) refl
+    go false false p q = rw (p, q) refl
+
+same_tests : (n i x : ℕ) (c : Bool) → eqb x n ≡ true → cond (eqb i n) false c ≡ cond (eqb i n) false (eqb x i || c)
+same_tests n i x c same = go (eqb i n) refl
+  where
+    go : (b : Bool) → eqb i n ≡ b → cond (eqb i n) false c ≡ cond (eqb i n) false (eqb x i || c)
+    go true q = rw q refl
+    go false q = let no : eqb x i ≡ false = grind (arith, nat_tests) in rw (q, no) refl
+
+without_step : (b : Bool) (n i x : ℕ) (xs : List ℕ) → eqb x n ≡ b → has i (without n xs) ≡ cond (eqb i n) false (has i xs) → has i (without n (x ∷ xs)) ≡ cond (eqb i n) false (has i (x ∷ xs))
+without_step true n i x xs eq ih = rw (eq, ih) (same_tests n i x (has i xs) eq)
+without_step false n i x xs eq ih = rw (eq, ih) (apart_tests n i x (has i xs) eq)
+
+pub has_without : (n i : ℕ) (xs : List ℕ) → has i (without n xs) ≡ cond (eqb i n) false (has i xs)
+has_without n i [] = grind (arith, nat_tests)
+has_without n i (x ∷ xs) = without_step (eqb x n) n i x xs refl (has_without n i xs)
+
+-- a choice that changes nothing
+if_at : (i id : ℕ) (f : ℕ → Bool) (x : Bool) → x ≡ f id → cond (eqb i id) x (f i) ≡ f i
+if_at i id f x is = go (eqb i id) refl
+  where
+    go : (b : Bool) → eqb i id ≡ b → cond (eqb i id) x (f i) ≡ f i
+    go true q = let same : i ≡ id = grind (arith, nat_tests) in rw q (is ∙ sym (ap f same))
+    go false q = rw q refl
+
+pub always_ok : {U N : Type 0} (r : Result U N) (P : Type 0) → P → OnOk r P
+always_ok (Ok x) P p = p
+always_ok (Err e) P p = tt
+
+off_where_dead : (live : List ℕ) (id i : ℕ) (b : Bool) → has id live ≡ b → has i (cond b (without id live) live) ≡ cond (eqb i id) false (has i live)
+off_where_dead live id i true is = has_without id i live
+off_where_dead live id i false is = sym (if_at i id (λ k. has k live) false (sym is))
+
+module _ {A : Type 0} where
+  live_put : (b : Bool) (e f : Option (Held A)) → is_live (cond b e f) ≡ cond b (is_live e) (is_live f)
+  live_put true e f = refl
+  live_put false e f = refl
+
+  live_joined : (n : ℕ) (e : Option (Held A)) → is_some e ≡ true → is_live (Some (joined n e)) ≡ is_live e
+  live_joined n None h = absurd (cc)
+  live_joined n (Some e) h = refl
+
+  live_answered : (a : A) (e : Option (Held A)) → is_live (answered a e) ≡ false
+  live_answered a None = refl
+  live_answered a (Some e) = refl
+
+  pub agrees_join : (live : List ℕ) (t u : Table A) (n id : ℕ) → Agree live t → is_some (t id) ≡ true → Same u (with_holder n id t) → Agree live u
+  agrees_join live t u n id h there same i =
+      h i ∙ sym (ap is_live (same i) ∙ live_put (eqb i id) (Some (joined n (t id))) (t i) ∙ if_at i id (λ k. is_live (t k)) (is_live (Some (joined n (t id)))) (live_joined n (t id) there))
+
+  pub agrees_ask : (live : List ℕ) (t u : Table A) (n id : ℕ) → Agree live t → t id ≡ None → Same u (with_holder n id t) → Agree (live ++ id ∷ []) u
+  agrees_ask live t u n id h none same i =
+      has_snoc i live id ∙ ap (cond (eqb i id) true) (h i)
+      ∙ sym (ap is_live (same i) ∙ live_put (eqb i id) (Some (joined n (t id))) (t i) ∙ ap (λ e. cond (eqb i id) (is_live (Some (joined n e))) (is_live (t i))) none)
+
+  pub agrees_answer : (live : List ℕ) (t u : Table A) (id : ℕ) (a : A) → Agree live t → Same u (with_answer id a t) → Agree (without id live) u
+  agrees_answer live t u id a h same i =
+      has_without id i live ∙ ap (cond (eqb i id) false) (h i)
+      ∙ sym (ap is_live (same i) ∙ live_put (eqb i id) (answered a (t id)) (t i) ∙ ap (λ b. cond (eqb i id) b (is_live (t i))) (live_answered a (t id)))
+
+  module _ {U N : Type 0} where
+    pub enters_there : (r : Result U N) (live : List ℕ) (es es' : List (ℕ × Held A)) (n id : ℕ) → Agree live (entry_at es) → is_some (entry_at es id) ≡ true
+        → OnOk r (Same (entry_at es') (with_holder n id (entry_at es))) → OnErr r (es' ≡ es) → Agree live (entry_at es')
+    enters_there (Ok x) live es es' n id h there ok err = agrees_join live (entry_at es) (entry_at es') n id h there ok
+    enters_there (Err e) live es es' n id h there ok err = subst (λ xs. Agree live (entry_at xs)) (sym err) h
+
+    pub enters_new : (r : Result U N) (old new : SourceState) (es es' : List (ℕ × Held A)) (n id : ℕ) → Agree old.live (entry_at es) → entry_at es id ≡ None
+        → OnOk r (Same (entry_at es') (with_holder n id (entry_at es))) → OnErr r (es' ≡ es) → OnOk r (Begins id old new) → OnErr r (Stays old new) → Agree new.live (entry_at es')
+    enters_new (Ok x) old new es es' n id h none ok err begins stays = subst (λ l. Agree l (entry_at es')) (sym begins.live) (agrees_ask old.live (entry_at es) (entry_at es') n id h none ok)
+    enters_new (Err e) old new es es' n id h none ok err begins stays = subst (λ (p : List ℕ × List (ℕ × Held A)). Agree p.0 (entry_at p.1)) (λ i. (sym stays.live i, sym err i)) h
+
+  pub placed_live : (live : List ℕ) (t : Table A) (id : ℕ) (e : Held A) → Agree live t → t id ≡ Some e → has id live ≡ is_none e.answer
+  placed_live live t id e h there = h id ∙ ap is_live there
+
+  pub agrees_ended : (live live' : List ℕ) (t u : Table A) (id : ℕ) (a : A) → live' ≡ without id live → Agree live t → Same u (with_answer id a t) → Agree live' u
+  agrees_ended live live' t u id a is h same = subst (λ l. Agree l u) (sym is) (agrees_answer live t u id a h same)
+
+  live_kept : (ns : List ℕ) (a : Option A) → is_live (kept ns a) ≡ cond (is_some (kept ns a)) (is_none a) false
+  live_kept [] a = refl
+  live_kept (n ∷ ns) a = refl
+
+  -- other holders are left
+  pub agrees_stay : (live : List ℕ) (t u : Table A) (n id : ℕ) (e : Held A) → Agree live t → t id ≡ Some e → is_some (kept (without n e.holders) e.answer) ≡ true → Same u (without_holder n id t) → Agree live u
+  agrees_stay live t u n id e h there some same i =
+      h i
+      ∙ sym
+      (ap is_live (same i) ∙ live_put (eqb i id) (left n (t id)) (t i)
+      ∙ if_at i id (λ k. is_live (t k)) (is_live (left n (t id))) (ap (λ x. is_live (left n x)) there ∙ live_kept (without n e.holders) e.answer ∙ ap (λ b. cond b (is_none e.answer) false) some ∙ sym (ap is_live there)))
+
+  -- the last holder ends the request, where it is live
+  pub agrees_last : (live live' : List ℕ) (t u : Table A) (n id : ℕ) (e : Held A) → Agree live t → t id ≡ Some e → kept (without n e.holders) e.answer ≡ None → Same u (without_holder n id t) → live' ≡ cond (is_none e.answer) (without id live) live → Agree live' u
+  agrees_last live live' t u n id e h there none same is i =
+      ap (has i) is ∙ off_where_dead live id i (is_none e.answer) (h id ∙ ap is_live there) ∙ ap (cond (eqb i id) false) (h i)
+      ∙ sym (ap is_live (same i) ∙ live_put (eqb i id) (left n (t id)) (t i) ∙ ap (λ x. cond (eqb i id) (is_live x) (is_live (t i))) (ap (left n) there ∙ none))
+
+contains_step : (b : Bool) (n x : ℕ) (xs : List ℕ) → eqb x n ≡ b → (has n xs ≡ true → Contains xs n) → has n (x ∷ xs) ≡ true → Contains (x ∷ xs) n
+contains_step true n x xs eq ih h = (0, omega arith, grind (arith, nat_tests))
+contains_step false n x xs eq ih h = let r = ih (rw eq at h) in let lt = r.1 in (suc r.0, omega arith, r.2)
+
+lacks_at : (n : ℕ) (xs : List ℕ) (k : ℕ) → has n xs ≡ false → k < length xs → slice_index_or xs k n ≡ n → ⊥
+lacks_at n [] k h lt is = absurd (omega arith)
+lacks_at n (x ∷ xs) zero h lt is = let e : x ≡ n = is in let t : eqb x n ≡ true = grind (arith, nat_tests) in let f = neither (eqb x n) (has n xs) h in cc
+lacks_at n (x ∷ xs) (suc k) h lt is = lacks_at n xs k (neither (eqb x n) (has n xs) h).1 (omega arith) is
+
+-- a number that is found is in the list, and the other way round
+pub contains : (n : ℕ) (xs : List ℕ) → has n xs ≡ true → Contains xs n
+contains n [] h = absurd (cc)
+contains n (x ∷ xs) h = contains_step (eqb x n) n x xs refl (λ k. contains n xs k) h
+
+pub lacks : (n : ℕ) (xs : List ℕ) → has n xs ≡ false → Contains xs n → ⊥
+lacks n xs h c = lacks_at n xs c.0 h c.1 c.2
+
+pub has_not : (n : ℕ) (xs : List ℕ) → (Contains xs n → ⊥) → has n xs ≡ false
+has_not n xs h = go (has n xs) refl
+  where
+    go : (b : Bool) → has n xs ≡ b → has n xs ≡ false
+    go true p = absurd (h (contains n xs p))
+    go false p = p
+
+member_at : (n : ℕ) (xs : List ℕ) (k : ℕ) → k < length xs → slice_index_or xs k n ≡ n → has n xs ≡ true
+member_at n xs k lt is = go (has n xs) refl
+  where
+    go : (b : Bool) → has n xs ≡ b → has n xs ≡ true
+    go true p = p
+    go false p = absurd (lacks_at n xs k p lt is)
+
+pub member : (n : ℕ) (xs : List ℕ) → Contains xs n → has n xs ≡ true
+member n xs c = member_at n xs c.0 c.1 c.2

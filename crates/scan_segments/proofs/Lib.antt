@@ -1,0 +1,12 @@
+pub mod Agrees
+pub mod Counts
+pub mod Entries
+pub mod Faithful
+pub mod Given
+pub mod Keeps
+pub mod Links
+pub mod Lookups
+pub mod Moves
+pub mod Pasts
+pub mod Tables
+pub mod Weights

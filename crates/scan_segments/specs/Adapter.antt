@@ -1,0 +1,144 @@
+-- A source over a cache and an inner source: what it is, and what its calls do to both.
+use Rattle.std.specs.Prelude.{◌≡◌, ◌⊎◌, ℕ, ◌+◌, ◌≤◌, List, [], ◌∷◌, ◌++◌, Bool, true, false, nat_eq, Option, None, Some, is_some, option_map}
+use Rattle.std.specs.Map.{lookup}
+use Rattle.scan_segments.specs.declared.adapter.Stage.{Stage}
+use Rattle.scan_segments.specs.declared.adapter.Stage.TheVariants as stage
+use Rattle.scan_segments.specs.declared.adapter.Looked.{Looked}
+use Rattle.scan_segments.specs.declared.adapter.Looked.TheVariants as looked
+use Rattle.scan_segments.specs.declared.cache.CacheEvent.TheVariants.{Offered}
+use Rattle.scan_segments.specs.declared.cache.CacheGet.TheVariants as get
+use Rattle.scan_segments.specs.declared.source.Polled.{Polled}
+use Rattle.scan_segments.specs.declared.source.Polled.TheVariants.{Pending, Bytes, Missing, Failed, NoMemory}
+use Rattle.scan_segments.specs.Faults.{RaisedByOne}
+use Rattle.scan_segments.specs.Source.{Store, SourceState, without, Begins, Stays, Ends}
+use Rattle.scan_segments.specs.Polled.{IsPolled}
+use Rattle.scan_segments.specs.Cache.{Entries, CacheState, Stores, Both, happened}
+use Rattle.scan_segments.specs.Cached.{IsGot}
+use Rattle.scan_segments.specs.Sharing.{has}
+
+-- the cache and the source, what was asked, what is live, and the stage of each live id
+pub record Adapted (C S : Type 0) : Type 0 where
+  pub cache : C
+  pub source : S
+  pub asked : List ℕ
+  pub live : List ℕ
+  pub stages : List (ℕ × Stage)
+
+-- as a source it does not tell what it holds; its faults are the inner source's, and its turns those of both
+abbrev pub adapter_state : CacheState ℕ → SourceState → List ℕ → List ℕ → SourceState
+adapter_state c s asked live = record { holds = None; asked = asked; live = live; faults = s.faults; turns = c.turns + s.turns }
+
+-- the stage of an id that is live
+abbrev pub stage_at : List (ℕ × Stage) → ℕ → Option Stage
+stage_at stages id = lookup (nat_eq id) stages
+
+abbrev pub is_asked : Option Stage → Bool
+is_asked None = false
+is_asked (Some stage.Looking) = false
+is_asked (Some (stage.Found b)) = false
+is_asked (Some stage.Asked) = true
+
+-- each live id has a stage, and those that were asked of the inner source are live there
+abbrev pub IsLinked : List ℕ → List ℕ → List (ℕ × Stage) → Type 0
+IsLinked inner live stages = (id : ℕ) → (has id inner ≡ is_asked (stage_at stages id)) × (has id live ≡ is_some (stage_at stages id))
+
+-- the other ids keep their stages
+abbrev pub KeepsStages : ℕ → List (ℕ × Stage) → List (ℕ × Stage) → Type 0
+KeepsStages id old new = (q : ℕ) → nat_eq id q ≡ false → stage_at new q ≡ stage_at old q
+
+-- a lookup that ended without bytes
+abbrev pub IsMissed : ℕ → CacheState ℕ → CacheState ℕ → Type 0
+IsMissed id c d = IsGot id c d get.Miss ⊎ IsGot id c d get.Failed
+
+-- one poll of a lookup: only where it missed or failed is the source asked
+abbrev pub Looks : ℕ → CacheState ℕ → CacheState ℕ → SourceState → SourceState → Looked → Type 0
+Looks id c d s t looked.Pending = IsGot id c d get.Pending × (t ≡ s)
+Looks id c d s t (looked.Hit b) = IsGot id c d (get.Hit b) × (t ≡ s)
+Looks id c d s t looked.Asked = IsMissed id c d × Begins id s t
+Looks id c d s t looked.NoMemory = (IsGot id c d get.NoMemory × (t ≡ s)) ⊎ (IsMissed id c d × Stays s t)
+
+-- a put that was polled to its end
+pub record Offers (id : ℕ) (bytes : List ℕ) (c d : CacheState ℕ) : Type 0 where
+  pub entries : Both c.entries d.entries (Stores id bytes)
+  pub noted : ((d.ended ≡ happened (Offered id) c.ended) × (d.short ≡ c.short)) ⊎ ((d.ended ≡ c.ended) × RaisedByOne c.short d.short)
+  pub faults : c.faults ≤ d.faults
+  pub turns : d.turns ≤ c.turns
+
+-- one poll of the inner source: bytes that come from it are put
+abbrev pub PollsSource : (ℕ → List ℕ → Type 0) → ℕ → CacheState ℕ → CacheState ℕ → SourceState → SourceState → Polled → Type 0
+PollsSource fits id c d s t Pending = IsPolled fits id s t Pending × (d ≡ c)
+PollsSource fits id c d s t (Bytes b) = IsPolled fits id s t (Bytes b) × Offers id b c d
+PollsSource fits id c d s t Missing = IsPolled fits id s t Missing × (d ≡ c)
+PollsSource fits id c d s t Failed = IsPolled fits id s t Failed × (d ≡ c)
+PollsSource fits id c d s t NoMemory = IsPolled fits id s t NoMemory × (d ≡ c)
+
+-- the stage of an id after a poll of the inner source
+abbrev pub asked_after : Polled → Option Stage
+asked_after Pending = Some stage.Asked
+asked_after NoMemory = Some stage.Asked
+asked_after (Bytes b) = None
+asked_after Missing = None
+asked_after Failed = None
+
+-- the live ids after a poll
+abbrev pub live_after : Polled → ℕ → List ℕ → List ℕ
+live_after Pending id ids = ids
+live_after NoMemory id ids = ids
+live_after (Bytes b) id ids = without id ids
+live_after Missing id ids = without id ids
+live_after Failed id ids = without id ids
+
+-- how a poll goes on after its lookup
+abbrev pub GoesOn : (ℕ → List ℕ → Type 0) → ℕ → CacheState ℕ → CacheState ℕ → SourceState → SourceState → Polled → Option Stage → Looked → Type 0
+GoesOn fits id c d s t r after looked.Pending = (r ≡ Pending) × (d ≡ c) × (t ≡ s) × (after ≡ Some stage.Looking)
+GoesOn fits id c d s t r after (looked.Hit b) = (r ≡ Bytes b) × (d ≡ c) × (t ≡ s) × (after ≡ None)
+GoesOn fits id c d s t r after looked.Asked = PollsSource fits id c d s t r × (after ≡ asked_after r)
+GoesOn fits id c d s t r after looked.NoMemory = (r ≡ NoMemory) × (d ≡ c) × (t ≡ s) × (after ≡ Some stage.Looking)
+
+-- a poll whose lookup is pending looks up again, and only then may ask
+pub record LooksAgain (fits : ℕ → List ℕ → Type 0) (id : ℕ) (c d : CacheState ℕ) (s t : SourceState) (r : Polled) (after : Option Stage) : Type 0 where
+  pub cache : CacheState ℕ
+  pub source : SourceState
+  pub way : Looked
+  pub looks : Looks id c cache s source way
+  pub goes_on : GoesOn fits id cache d source t r after way
+
+-- the bytes that a lookup found are given, where there is memory to share them
+abbrev pub GivesFound : List ℕ → CacheState ℕ → CacheState ℕ → SourceState → SourceState → Polled → Option Stage → Type 0
+GivesFound b c d s t r after = (d ≡ c) × (t ≡ s) × (((r ≡ Bytes b) × (after ≡ None)) ⊎ ((r ≡ NoMemory) × (after ≡ Some (stage.Found b))))
+
+-- one poll of the adapter, by the stage of the id
+abbrev pub PollsBoth : (ℕ → List ℕ → Type 0) → ℕ → CacheState ℕ → CacheState ℕ → SourceState → SourceState → Polled → Option Stage → Option Stage → Type 0
+PollsBoth fits id c d s t r after None = ⊥
+PollsBoth fits id c d s t r after (Some stage.Looking) = LooksAgain fits id c d s t r after
+PollsBoth fits id c d s t r after (Some (stage.Found b)) = GivesFound b c d s t r after
+PollsBoth fits id c d s t r after (Some stage.Asked) = PollsSource fits id c d s t r × (after ≡ asked_after r)
+
+-- the stage of an id after its request
+abbrev pub stage_of : Looked → Option Stage
+stage_of looked.Pending = Some stage.Looking
+stage_of (looked.Hit b) = Some (stage.Found b)
+stage_of looked.Asked = Some stage.Asked
+stage_of looked.NoMemory = None
+
+-- a request looks up once
+pub record LooksFirst (id : ℕ) (c d : CacheState ℕ) (s t : SourceState) (after : Option Stage) : Type 0 where
+  pub way : Looked
+  pub looks : Looks id c d s t way
+  pub stage : after ≡ stage_of way
+
+-- a store has all that a cache tells and that lookups have found
+pub record IsFaithful (store : Store) (c : CacheState ℕ) (s : SourceState) (stages : List (ℕ × Stage)) : Type 0 where
+  pub source : s.holds ≡ Some store
+  pub entries : Entries ℕ
+  pub told : c.entries ≡ Some entries
+  pub kept : (id : ℕ) (b : List ℕ) → entries id ≡ Some b → store id ≡ Some b
+  pub found : (id : ℕ) (b : List ℕ) → stage_at stages id ≡ Some (stage.Found b) → store id ≡ Some b
+
+-- an answer that tells what a store has
+abbrev pub GivesContent : Store → ℕ → Polled → Type 0
+GivesContent store id (Bytes b) = store id ≡ Some b
+GivesContent store id Missing = store id ≡ None
+GivesContent store id Pending = Unit {0}
+GivesContent store id Failed = Unit {0}
+GivesContent store id NoMemory = Unit {0}

@@ -1,0 +1,17 @@
+pub mod Bounded
+pub mod Cache
+pub mod Cached
+pub mod Faults
+pub mod Holding
+pub mod Keys
+pub mod MemorySource
+pub mod Outcomes
+pub mod Past
+pub mod Polled
+pub mod Script
+pub mod SharedTables
+pub mod Sharing
+pub mod Source
+pub mod Counted
+pub mod MemoryCache
+pub mod Adapter

@@ -1,0 +1,60 @@
+-- What contracts see of a shared table, and what its calls do to the table and to the source.
+use Rattle.std.specs.Prelude.{◌≡◌, ◌⊎◌, ◌+◌, ◌<◌, ℕ, List, map, Option, Some, None, true, is_some}
+use Rattle.scan_segments.specs.declared.holder.SharedAnswer.{SharedAnswer}
+use Rattle.scan_segments.specs.declared.holder.SharedAnswer.TheVariants as answer
+use Rattle.scan_segments.specs.declared.holder.SharedEvent.TheVariants.{Arrived}
+use Rattle.scan_segments.specs.declared.holder.SharedPolled.{SharedPolled}
+use Rattle.scan_segments.specs.declared.holder.SharedPolled.TheVariants.{Pending, Bytes, Missing, Failed, NoMemory}
+use Rattle.scan_segments.specs.declared.shared.Entry.{Entry}
+use Rattle.scan_segments.specs.Faults.{Rose}
+use Rattle.scan_segments.specs.Source.{SourceState, Begins, Stays, Ends, TellsBytes, TellsNone}
+use Rattle.scan_segments.specs.Sharing.{Held, is_live, answer_of, after, entry_at, owed, Same}
+
+abbrev pub held_of : Entry → ℕ × Held SharedAnswer
+held_of e = (e.id, record { holders = e.holders.items; answer = e.answer })
+
+abbrev pub entries_of : List Entry → List (ℕ × Held SharedAnswer)
+entries_of es = map held_of es
+
+-- an id that has an entry is not asked anew; one that has none is
+abbrev pub Asks : Option (Held SharedAnswer) → ℕ → SourceState → SourceState → Type 0
+Asks None id old new = Begins id old new
+Asks (Some e) id old new = new ≡ old
+
+-- a poll gives the answer that is kept, and is pending only while there is none
+abbrev pub Gives : Option (Held SharedAnswer) → SharedPolled → Type 0
+Gives e Pending = is_live e ≡ true
+Gives e (Bytes b) = answer_of e ≡ Some (answer.Bytes b)
+Gives e Missing = answer_of e ≡ Some answer.Missing
+Gives e (Failed n) = answer_of e ≡ Some (answer.Failed n)
+Gives e NoMemory = Unit {0}
+
+-- no answer has come: the request goes on, and the source put it off or had no memory
+abbrev pub IsOpen : SourceState → SourceState → SharedPolled → Type 0
+IsOpen old new Pending = new.turns < old.turns
+IsOpen old new (Bytes b) = ⊥
+IsOpen old new Missing = ⊥
+IsOpen old new (Failed n) = ⊥
+IsOpen old new NoMemory = Unit {0}
+
+-- an answer that the source gives of an id in a call
+abbrev pub IsFound : (ℕ → List ℕ → Type 0) → ℕ → SourceState → SourceState → SharedAnswer → Type 0
+IsFound fits id old new (answer.Bytes b) = TellsBytes old id b × fits id b
+IsFound fits id old new answer.Missing = TellsNone old id
+IsFound fits id old new (answer.Failed n) = Rose old.faults new.faults × (n ≡ new.faults)
+
+-- the answer of a live request comes from the source, and is kept
+pub record Arrives (fits : ℕ → List ℕ → Type 0) (old new : SourceState) (s t : List (ℕ × Held SharedAnswer)) (id : ℕ) : Type 0 where
+  pub answer : SharedAnswer
+  pub was_live : is_live (entry_at s id) ≡ true
+  pub source : Ends id old new
+  pub found : IsFound fits id old new answer
+  pub step : Same (entry_at t) (after (Arrived id answer) (entry_at s))
+  pub lighter : owed t + 1 ≡ owed s
+
+-- nothing is kept anew: the answer is there and the source is not polled, or the request goes on
+abbrev pub Rests : SourceState → SourceState → Option (Held SharedAnswer) → Type 0
+Rests old new e = ((is_some (answer_of e) ≡ true) × (new ≡ old)) ⊎ ((is_live e ≡ true) × Stays old new)
+
+abbrev pub Polls : (ℕ → List ℕ → Type 0) → SourceState → SourceState → List (ℕ × Held SharedAnswer) → List (ℕ × Held SharedAnswer) → ℕ → Type 0
+Polls fits old new s t id = ((t ≡ s) × Rests old new (entry_at s id)) ⊎ Arrives fits old new s t id

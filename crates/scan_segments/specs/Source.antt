@@ -1,0 +1,55 @@
+-- What a source of segments is, and what its calls do to it.
+use Rattle.std.specs.Prelude.{◌≡◌, ℕ, ◌≤◌, List, [], ◌∷◌, ◌++◌, Option, None, Some, filter, not, ◌==◌, IfSome}
+
+-- the bytes of each segment that there is
+abbrev pub Store : Type 0
+Store = ℕ → Option (List ℕ)
+
+-- what a source is, as far as contracts see it
+pub record SourceState : Type 0 where
+  -- what it holds, where it tells
+  pub holds : Option Store
+  -- each id that was asked of it, in order
+  pub asked : List ℕ
+  -- the ids with a request that has not ended
+  pub live : List ℕ
+  -- how often it failed, up to the greatest number that is kept
+  pub faults : ℕ
+  -- at most so often it can still put off an answer
+  pub turns : ℕ
+
+-- the list without this number
+abbrev pub without : ℕ → List ℕ → List ℕ
+without id ids = filter (λ k. not (k == id)) ids
+
+-- the request of an id begins
+pub record Begins (id : ℕ) (old new : SourceState) : Type 0 where
+  pub holds : new.holds ≡ old.holds
+  pub asked : new.asked ≡ old.asked ++ id ∷ []
+  pub live : new.live ≡ old.live ++ id ∷ []
+  pub faults : old.faults ≤ new.faults
+  pub turns : new.turns ≤ old.turns
+
+-- nothing is asked and no request begins or ends
+pub record Stays (old new : SourceState) : Type 0 where
+  pub holds : new.holds ≡ old.holds
+  pub asked : new.asked ≡ old.asked
+  pub live : new.live ≡ old.live
+  pub faults : old.faults ≤ new.faults
+  pub turns : new.turns ≤ old.turns
+
+-- the request of an id ends
+pub record Ends (id : ℕ) (old new : SourceState) : Type 0 where
+  pub holds : new.holds ≡ old.holds
+  pub asked : new.asked ≡ old.asked
+  pub live : new.live ≡ without id old.live
+  pub faults : old.faults ≤ new.faults
+  pub turns : new.turns ≤ old.turns
+
+-- a told store has these bytes at the id
+abbrev pub TellsBytes : SourceState → ℕ → List ℕ → Type 0
+TellsBytes s id bytes = IfSome s.holds (λ store. store id ≡ Some bytes)
+
+-- a told store has nothing at the id
+abbrev pub TellsNone : SourceState → ℕ → Type 0
+TellsNone s id = IfSome s.holds (λ store. store id ≡ None)

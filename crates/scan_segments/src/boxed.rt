@@ -1,0 +1,36 @@
+//! Sources of different kinds in one list.
+ghost use Rattle.std.specs.Prelude.{◌≡◌, ℕ, List};
+ghost use Rattle.scan_segments.specs.Source.{SourceState};
+
+use crate::segment::SegmentId;
+use crate::source::{Fits, Polled, SegmentSource};
+use scan_values::NoMemory;
+use std::alloc::Global;
+
+/// A boxed source. It passes each call on.
+#[derive(Drop)]
+pub struct BoxedSource(pub Box<dyn SegmentSource + Drop>);
+
+impl Fits for BoxedSource {
+    ghost fits = { λ id bytes. Unit {0} };
+}
+
+impl SegmentSource for BoxedSource {
+    ghost state = { λ s. (SegmentSource-box s.0).SegmentSource.state s.0.value };
+
+    fn request(&mut self, alloc: Global, id: SegmentId) -> Result<(), NoMemory> {
+        self.0.request(alloc, id)
+    }
+
+    fn poll_segment(&mut self, alloc: Global, id: SegmentId) -> Polled {
+        self.0.poll_segment(alloc, id)
+    }
+
+    fn drop_request(&mut self, id: SegmentId) {
+        self.0.drop_request(id)
+    }
+
+    fn fault_count(&self) -> u64 {
+        self.0.fault_count()
+    }
+}
