@@ -1,0 +1,190 @@
+//! Children that are made at first use. After the Rust's `children`.
+ghost use Rattle.std.specs.Prelude.{◌≡◌, ◌↔◌, ◌≤◌, ◌<◌, length, IfOk, OnOk, OnErr, IsErrOf, replicate, false, true, slice_index_or, slice_set};
+ghost use Rattle.scan_layout.specs.Contexts.{made_of};
+ghost use Rattle.scan_layout.specs.Lazy.{HaveTypes};
+
+use crate::node::LayoutRef;
+use crate::reader_context::LayoutReaderContext;
+use scan_values::{DType, NoMemory, Text};
+use std::alloc::Global;
+use std::marker::Model;
+use thiserror::Error;
+
+/// Makes a child of a node.
+pub trait ChildOpener<V> {
+    type Made: Drop;
+
+    /// The child of a node, of a dtype and a name.
+    fn make(
+        &self,
+        alloc: Global,
+        node: &LayoutRef,
+        dtype: &DType,
+        name: &Text,
+        ctx: &LayoutReaderContext<V>,
+    ) -> Result<Self::Made, NoMemory>;
+}
+
+/// Why there is no child.
+#[derive(Clone, Copy, Debug, PartialEq, Eq, Error)]
+pub enum ChildFault {
+    #[error("no child has the index")]
+    ChildIndex,
+    #[error("out of memory")]
+    NoMemory,
+}
+
+// The dtypes and names of the children: one for each, or one for all.
+#[derive(Drop)]
+enum ChildTypes {
+    Each(Vec<DType>, Vec<Text>),
+    Uniform(DType, Text),
+}
+
+/// Children that are made at first use, and kept. Contracts see which are made.
+pub struct LazyReaderChildren<V, K: ChildOpener<V>> {
+    nodes: Vec<LayoutRef>,
+    types: ChildTypes,
+    made: Vec<Option<K::Made>>,
+    opener: K,
+    ctx: LayoutReaderContext<V>,
+}
+
+impl<V, K: ChildOpener<V>> Model for LazyReaderChildren<V, K> {
+    ghost use Rattle.std.specs.Prelude.{◌≡◌, List, Bool, length};
+    ghost use Rattle.scan_layout.specs.Contexts.{made_of};
+
+    ghost Value = { List Bool };
+
+    ghost view = { λ a. made_of a.made.items };
+
+    ghost use Rattle.scan_layout.specs.Lazy.{HaveTypes};
+
+    ghost invariant = { λ a. record { one : length a.nodes.items ≡ length a.made.items; types : HaveTypes a.types (length a.made.items) } };
+}
+
+// The dtype and the name of a child.
+fn types_at(types: &ChildTypes, idx: usize, count: usize) -> (&DType, &Text)
+    requires have { HaveTypes types.now count }
+    requires within { idx < count }
+{
+    match types {
+        ChildTypes::Each(dtypes, names) => (&dtypes[idx], &names[idx]),
+        ChildTypes::Uniform(dtype, name) => (dtype, name),
+    }
+}
+
+// Places for so many children, of which none is made.
+#[tactic(auto, using(crate::proofs::Lazy::made_pushed, crate::proofs::Lazy::none_more))]
+fn unmade<M: Drop>(alloc: Global, count: usize) -> Result<Vec<Option<M>>, NoMemory>
+    ensures { IfOk result (λ v. made_of v.items ≡ replicate count false) }
+{
+    let mut made = Vec::new(alloc);
+    for _place in 0..count {
+        made.push(None)?;
+    }
+    Ok(made)
+}
+
+impl<V, K: ChildOpener<V>> LazyReaderChildren<V, K> {
+    /// Whether the child of an index is made.
+    pub fn is_made(&self, idx: usize) -> bool
+        ensures { result ≡ slice_index_or self.now idx false }
+    {
+        match self.made.get(idx) {
+            Some(made) => made.is_some(),
+            None => false,
+        }
+    }
+}
+
+impl<V: Drop, K: ChildOpener<V> + Drop> LazyReaderChildren<V, K> {
+    /// Children of nodes, each with its dtype and name. None is made.
+    pub fn new(
+        alloc: Global,
+        nodes: Vec<LayoutRef>,
+        dtypes: Vec<DType>,
+        names: Vec<Text>,
+        opener: K,
+        ctx: LayoutReaderContext<V>,
+    ) -> Result<Self, NoMemory>
+        requires dtypes { length dtypes.items ≡ length nodes.items }
+        requires names { length names.items ≡ length nodes.items }
+        ensures { IfOk result (λ c. c ≡ replicate (length nodes.items) false) }
+    {
+        let made = unmade(alloc, nodes.len())?;
+        Ok(LazyReaderChildren {
+            nodes,
+            types: ChildTypes::Each(dtypes, names),
+            made,
+            opener,
+            ctx,
+        })
+    }
+
+    /// Children of nodes that have one dtype and one name. None is made.
+    pub fn new_uniform(
+        alloc: Global,
+        nodes: Vec<LayoutRef>,
+        dtype: DType,
+        name: Text,
+        opener: K,
+        ctx: LayoutReaderContext<V>,
+    ) -> Result<Self, NoMemory>
+        ensures { IfOk result (λ c. c ≡ replicate (length nodes.items) false) }
+    {
+        let made = unmade(alloc, nodes.len())?;
+        Ok(LazyReaderChildren {
+            nodes,
+            types: ChildTypes::Uniform(dtype, name),
+            made,
+            opener,
+            ctx,
+        })
+    }
+}
+
+impl<V, K: ChildOpener<V>> LazyReaderChildren<V, K> {
+    /// Makes the child of an index, unless it is made. An own call.
+    ///
+    /// # Errors
+    /// `ChildIndex` exactly where no child has the index, and `NoMemory`. Then nothing is made.
+    #[tactic(auto, using(crate::proofs::Lazy::made_set, crate::proofs::Lazy::made_same))]
+    pub fn make_child(&mut self, alloc: Global, idx: usize) -> Result<(), ChildFault>
+        ensures made { OnOk result (self.new ≡ slice_set self.old idx true) }
+        ensures kept { OnErr result (self.new ≡ self.old) }
+        ensures index { IsErrOf result ChildFault.ChildIndex ↔ (length self.old ≤ idx) }
+    {
+        if idx >= self.made.len() {
+            return Err(ChildFault::ChildIndex);
+        }
+        if self.made[idx].is_some() {
+            return Ok(());
+        }
+        let (dtype, name) = types_at(&self.types, idx, self.made.len());
+        match self
+            .opener
+            .make(alloc, &self.nodes[idx], dtype, name, &self.ctx)
+        {
+            Ok(made) => {
+                self.made[idx] = Some(made);
+                Ok(())
+            }
+            Err(_) => Err(ChildFault::NoMemory),
+        }
+    }
+
+    /// The child of an index, which is made at its first use and kept.
+    ///
+    /// # Errors
+    /// `ChildIndex` exactly where no child has the index, and `NoMemory`. A failed making is not kept.
+    pub fn get(&mut self, alloc: Global, idx: usize) -> Result<&mut K::Made, ChildFault>
+        ensures { IsErrOf result ChildFault.ChildIndex ↔ (length self.old ≤ idx) }
+    {
+        self.make_child(alloc, idx)?;
+        match &mut self.made[idx] {
+            Some(made) => Ok(made),
+            None => unreachable!(),
+        }
+    }
+}

@@ -1,0 +1,88 @@
+//! How the values of a leaf are spelled as the bytes of a segment. An own spelling, in place of the Rust's arrays.
+//!
+//! A segment of n rows has, where its leaf is nullable, n bytes that are 0 (null) or 1, and then n slots in order. The
+//! slot of a Bool is one byte 0 or 1, that of an integer its bytes, the lowest first, in two's complement where it is
+//! signed, and that of a text its length in four bytes, the lowest first, and so many bytes of UTF-8. Nothing follows.
+//! The slot of a null stands there too, and what it holds is ignored.
+use scan_values::NoMemory;
+use std::alloc::{AllocError, AllocFailed};
+use thiserror::Error;
+
+mod read;
+mod write;
+
+pub use read::decode_segment;
+pub use write::encode_segment;
+
+/// Why a segment is not read.
+#[derive(Clone, Copy, Debug, PartialEq, Eq, Error)]
+pub enum DecodeFault {
+    #[error("the bytes are not the spelling of the rows")]
+    Spelling,
+    #[error("out of memory")]
+    NoMemory,
+}
+
+/// Why an array is not written.
+#[derive(Clone, Copy, Debug, PartialEq, Eq, Error)]
+pub enum EncodeFault {
+    #[error("a text has more than 4294967295 bytes")]
+    TooLong,
+    #[error("out of memory")]
+    NoMemory,
+}
+
+impl From<NoMemory> for DecodeFault {
+    ghost use Rattle.std.specs.Prelude.{◌≡◌};
+    ghost use Rattle.scan_layout.specs.declared.spelling.DecodeFault.TheVariants as fault;
+
+    ghost from_gives = { λ _ e. e ≡ fault.NoMemory };
+
+    fn from(_: NoMemory) -> DecodeFault {
+        DecodeFault::NoMemory
+    }
+}
+
+impl From<AllocError> for DecodeFault {
+    ghost use Rattle.std.specs.Prelude.{◌≡◌};
+    ghost use Rattle.scan_layout.specs.declared.spelling.DecodeFault.TheVariants as fault;
+
+    ghost from_gives = { λ _ e. e ≡ fault.NoMemory };
+
+    fn from(_: AllocError) -> DecodeFault {
+        DecodeFault::NoMemory
+    }
+}
+
+impl<T: Drop> From<AllocFailed<T>> for DecodeFault {
+    ghost use Rattle.std.specs.Prelude.{◌≡◌};
+    ghost use Rattle.scan_layout.specs.declared.spelling.DecodeFault.TheVariants as fault;
+
+    ghost from_gives = { λ _ e. e ≡ fault.NoMemory };
+
+    fn from(_: AllocFailed<T>) -> DecodeFault {
+        DecodeFault::NoMemory
+    }
+}
+
+impl From<AllocError> for EncodeFault {
+    ghost use Rattle.std.specs.Prelude.{◌≡◌};
+    ghost use Rattle.scan_layout.specs.declared.spelling.EncodeFault.TheVariants as fault;
+
+    ghost from_gives = { λ _ e. e ≡ fault.NoMemory };
+
+    fn from(_: AllocError) -> EncodeFault {
+        EncodeFault::NoMemory
+    }
+}
+
+impl<T: Drop> From<AllocFailed<T>> for EncodeFault {
+    ghost use Rattle.std.specs.Prelude.{◌≡◌};
+    ghost use Rattle.scan_layout.specs.declared.spelling.EncodeFault.TheVariants as fault;
+
+    ghost from_gives = { λ _ e. e ≡ fault.NoMemory };
+
+    fn from(_: AllocFailed<T>) -> EncodeFault {
+        EncodeFault::NoMemory
+    }
+}
