@@ -229,6 +229,17 @@ fn a_copy_of_names(rt: HostRuntime) -> Result<(), Fail> {
 }
 
 #[test]
+fn a_copy_of_a_nested_value(rt: HostRuntime) -> Result<(), Fail> {
+    let alloc = rt.alloc();
+    let mut items = integers(alloc, &[3])?;
+    items.push(Value::Text(Text::new(String::from_str(alloc, "x")?)))?;
+    let value = Value::Struct(Values::new(items));
+    let copy = value.try_clone(alloc)?;
+    assert!(rt; copy == value);
+    Ok(())
+}
+
+#[test]
 fn arrays_and_values_pass_through_a_thread(rt: HostRuntime) -> Result<(), Fail> {
     let alloc = rt.alloc();
     let array = array(alloc, &[1, 2])?;
@@ -236,5 +247,15 @@ fn arrays_and_values_pass_through_a_thread(rt: HostRuntime) -> Result<(), Fail> 
     let (array, values) = join(&rt, move || array, move || values);
     assert!(rt; are_numbers(array.as_slice(), &[1, 2]));
     assert!(rt; are_numbers(values.as_slice(), &[3]));
+    Ok(())
+}
+
+#[test]
+fn dtypes_pass_through_a_thread(rt: HostRuntime) -> Result<(), Fail> {
+    let text = DType::utf8(Nullability::NonNullable);
+    let truth = DType::bool(Nullability::Nullable);
+    let (text, truth) = join(&rt, move || text, move || truth);
+    assert!(rt; text == DType::utf8(Nullability::NonNullable));
+    assert!(rt; truth == DType::bool(Nullability::Nullable));
     Ok(())
 }
