@@ -1,12 +1,12 @@
 -- Lists of parts that are bound, up to a fault.
-use Rattle.std.proofs.Common.{◌≡◌, ℕ, ◌+◌, ◌<◌, ◌≤◌, suc, max, min, List, [], ◌∷◌, ◌++◌, length, get_or, take, drop, map, zip, Option, Some, None, Result, Ok, Err, refl, sym, ap, ◌∙◌, add-one, arith}
+use Rattle.std.proofs.Common.{◌≡◌, ℕ, ◌+◌, ◌<◌, ◌≤◌, suc, max, List, [], ◌∷◌, ◌++◌, length, get_or, take, drop, map, zip, Option, Some, None, Result, Ok, Err, refl, sym, ap, ◌∙◌, add-one, arith}
 use Rattle.std.proofs.lemmas.List.{take_more, map-append}
 use Rattle.std.proofs.Math.ListN.{drop_of_length-le}
 use Rattle.std.proofs.Math.Seq.{drop-cons}
 use Rattle.std.proofs.lemmas.Grind.{common_steps}
 use Rattle.std.specs.List.{All, AllByRecursion}
 use Rattle.std.proofs.lemmas.List.Elements.{recursion_from_All, All-from_recursion}
-use Rattle.scan_values.specs.DataType.{DataType, struct_type, Name, Fields, fields_of, field}
+use Rattle.scan_values.specs.DataType.{DataType, struct_type, Name, Fields, fields_of}
 use Rattle.scan_values.specs.NameFaults.{field_names, names_fault}
 use Rattle.scan_values.specs.declared.ptype.Nullability.{Nullability}
 use Rattle.scan_values.specs.declared.text.NameFault.{NameFault}
@@ -14,9 +14,10 @@ use Rattle.scan_expr.specs.declared.op.BindFault.{BindFault}
 use Rattle.scan_expr.specs.declared.op.Unary.{Unary}
 use Rattle.scan_expr.specs.declared.op.Binary.{Binary}
 use Rattle.scan_expr.specs.Expr.{Expr, unary, binary, pack, parts_of, expr_depth, parts_depth}
-use Rattle.scan_expr.specs.Infer.{infer, infer_all}
+use Rattle.scan_expr.specs.Infer.{infer, infer_all, binary_type}
 use Rattle.scan_expr.specs.Typing.{Fault, or_fault, typed, nodes_fault, parts_fault, unary_fault, binary_fault, pack_fault, of_names, depth_fault}
 use Rattle.scan_expr.specs.Bound.{Bound, bound_of, bound_unless, exprs_of}
+use Rattle.scan_expr.proofs.Faultless.{neither}
 
 -- ---- what is bound is the expression over the scope, and nothing is wrong with it
 abbrev scope_in : Result Bound BindFault → DataType → DataType
@@ -164,3 +165,15 @@ deep_pack fs gs n f s e same h = rw (← same) (as_fault (depth_fault (struct_ty
 
 pub shallow_pack : (fs gs : Fields) (n : Nullability) (d : DataType) → fs ≡ gs → Ok d ≡ typed (depth_fault (struct_type fs n)) (struct_type fs n) → depth_fault (struct_type gs n) ≡ None
 shallow_pack fs gs n d same h = rw (← same) (no_fault_of (depth_fault (struct_type fs n)) (struct_type fs n) d h)
+
+typed_is : {A : Type 0} (g : Fault) (x y : A) → Ok y ≡ typed g x → (g ≡ None) × (y ≡ x)
+typed_is None x y h = (refl, (cc))
+typed_is (Some e) x y h = cc
+
+pub binary_done : (s : DataType) (o : Binary) (x y : Expr) (t u : DataType) (b : Bound) → Ok t ≡ typed (binary_fault o (infer s x) (infer s y)) (binary_type o (infer s x) (infer s y)) → Ok u ≡ typed (depth_fault t) t → b ≡ bound_of s (binary o x y)
+    → Ok b ≡ bound_unless (or_fault (binary_fault o (infer s x) (infer s y)) (depth_fault (infer s (binary o x y)))) s (binary o x y)
+binary_done s o x y t u b p q r =
+    let k = typed_is (binary_fault o (infer s x) (infer s y)) (binary_type o (infer s x) (infer s y)) t p in
+    let depth : depth_fault (infer s (binary o x y)) ≡ None = ap depth_fault (sym k.1) ∙ no_fault_of (depth_fault t) t u q in
+    let none = neither (binary_fault o (infer s x) (infer s y)) (depth_fault (infer s (binary o x y))) k.0 depth in
+    ap Ok r ∙ sym (ap (λ f. typed f (bound_of s (binary o x y))) none)

@@ -1,6 +1,5 @@
 -- Fields that are chosen by their names, and those that are left.
-use Rattle.std.proofs.Common.{◌≡◌, ℕ, ◌+◌, ◌<◌, ◌≤◌, zero, suc, Bool, true, false, cond, not, ◌&&◌, max, List, [], ◌∷◌, ◌++◌, length, get_or, drop, map, zip, Some, None, slice_get, bytes_eq, refl, ap, sym, ◌∙◌, add-one, arith}
-use Rattle.std.specs.Prelude.{is_some}
+use Rattle.std.proofs.Common.{◌≡◌, ℕ, ◌+◌, ◌<◌, ◌≤◌, zero, suc, Bool, true, false, cond, not, max, List, [], ◌∷◌, ◌++◌, length, get_or, drop, map, zip, Some, None, slice_get, bytes_eq, refl, ap, sym, ◌∙◌, add-one, arith}
 use Rattle.std.specs.List.{filter}
 use Rattle.std.proofs.Common.{append_assoc, length-append, length-drop}
 use Rattle.std.proofs.lemmas.List.{append-nil}
@@ -9,9 +8,8 @@ use Rattle.scan_values.specs.DataType.{DataType, Name, Fields, no_fields, field,
 use Rattle.scan_values.specs.FieldLists.{names_of, dtypes_of, dtype_named}
 use Rattle.scan_values.specs.NameFaults.{has_name}
 use Rattle.scan_values.specs.Val.{Val, null_val, vals_of, marked, marked_all}
-use Rattle.scan_values.specs.Marked.{Markeds, more}
+use Rattle.scan_values.specs.Marked.{more}
 use Rattle.scan_expr.specs.Infer.{struct_fields, field_type, type_or_bool, chosen, without}
-use Rattle.scan_expr.specs.Typing.{has_field, have_fields}
 use Rattle.scan_expr.specs.Eval.{leave}
 
 -- ---- chosen fields

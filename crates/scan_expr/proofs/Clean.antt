@@ -1,5 +1,5 @@
 -- Evaluation on clean values, row numbers and conjuncts.
-use Rattle.std.proofs.Common.{◌≡◌, ℕ, Bool, true, false, cond, not, ◌&&◌, ◌||◌, List, [], ◌∷◌, ◌++◌, bytes_eq, refl, ap, sym, ◌∙◌}
+use Rattle.std.proofs.Common.{◌≡◌, ℕ, Bool, true, false, cond, not, ◌&&◌, ◌||◌, List, [], ◌∷◌, ◌++◌, bytes_eq, refl, ap}
 use Rattle.std.specs.Prelude.{◌↔◌}
 use Rattle.std.specs.List.{All, AllByRecursion}
 use Rattle.std.proofs.lemmas.List.Elements.{recursion_from_All, All-from_recursion}
@@ -7,14 +7,14 @@ use Rattle.scan_values.specs.DataType.{DataType, Fields, no_fields, field, Name,
 use Rattle.scan_values.specs.NameFaults.{has_name}
 use Rattle.scan_values.specs.Damage.{damaged}
 use Rattle.scan_values.specs.Marked.{Marked, lost, null, gone, boolean, integer, text, list, struct, Markeds, none, more}
-use Rattle.scan_values.specs.Val.{marked, is_clean, are_clean, is_clean-marked}
+use Rattle.scan_values.specs.Val.{is_clean, are_clean, is_clean-marked}
 use Rattle.scan_values.specs.declared.ptype.Nullability.{Nullability}
 use Rattle.scan_values.specs.declared.ptype.Nullability.TheVariants.{NonNullable, Nullable}
 use Rattle.scan_expr.specs.declared.op.Unary.{Unary}
 use Rattle.scan_expr.specs.declared.op.Unary.TheVariants.{GetItem, Select, Exclude, Not, IsNull, IsNotNull, ListLength}
 use Rattle.scan_expr.specs.declared.op.Binary.{Binary}
 use Rattle.scan_expr.specs.declared.op.Binary.TheVariants.{Mask, And, Or, Equal, NotEqual, Less, LessOrEqual, Greater, GreaterOrEqual}
-use Rattle.scan_expr.specs.Expr.{Expr, root, row_index, literal, unary, binary, pack, Parts, no_parts, part, uses_row_index, any_uses_row_index, is_and, conjuncts_of}
+use Rattle.scan_expr.specs.Expr.{Expr, root, row_index, literal, unary, binary, pack, Parts, no_parts, part, uses_row_index, any_uses_row_index, conjuncts_of}
 use Rattle.scan_expr.specs.Infer.{infer, struct_fields, binary_type}
 use Rattle.scan_expr.specs.Eval.{not_value, null_test, length_value, of_struct, pick, pick_all, leave, is_nothing, is_damaged, is_truth, holds, order, unary_value, binary_value, mask_value, logic_value, comparison_value, eval, eval_all}
 use Rattle.scan_expr.proofs.Fitting.{and_left, and_right}

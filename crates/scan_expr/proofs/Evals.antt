@@ -1,11 +1,11 @@
 -- Lists of values, one for each part or row.
-use Rattle.std.proofs.Common.{◌≡◌, ℕ, List, [], ◌∷◌, map, refl, ap, sym, ◌∙◌}
+use Rattle.std.proofs.Common.{◌≡◌, ℕ, List, [], ◌∷◌, map, refl, ap, ◌∙◌}
 use Rattle.std.specs.List.{All, AllByRecursion}
 use Rattle.std.proofs.lemmas.List.Elements.{recursion_from_All}
 use Rattle.scan_values.specs.DataType.{DataType, Name, Fields}
 use Rattle.scan_values.specs.declared.ptype.Nullability.{Nullability}
-use Rattle.scan_values.specs.Marked.{Marked, struct, Markeds, none, more, chained}
-use Rattle.scan_values.specs.Val.{Val, vals_of, marked, marked_all}
+use Rattle.scan_values.specs.Marked.{Marked, struct, Markeds, more, chained}
+use Rattle.scan_values.specs.Val.{vals_of, marked, marked_all}
 use Rattle.scan_values.specs.Values.{val_of}
 use Rattle.scan_values.specs.declared.value.Value.{Value}
 use Rattle.scan_expr.specs.Bound.{Bound, exprs_of}

@@ -6,7 +6,7 @@ use Rattle.scan_values.specs.declared.ptype.Nullability.{Nullability}
 use Rattle.scan_values.specs.declared.ptype.Nullability.TheVariants.{NonNullable, Nullable}
 use Rattle.scan_values.specs.Fits.{fits, fits_fields}
 use Rattle.scan_values.specs.Marked.{Marked, lost, null, gone, boolean, integer, text, list, struct, Markeds, none, more}
-use Rattle.scan_expr.specs.Infer.{either, raised, field_type}
+use Rattle.scan_expr.specs.Infer.{either}
 use Rattle.scan_expr.specs.Eval.{pick}
 
 pub and_left : (a b : Bool) → (a && b) ≡ true → a ≡ true

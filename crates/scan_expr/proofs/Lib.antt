@@ -1,3 +1,5 @@
+pub mod Falling
+pub mod Faultless
 pub mod Picks
 pub mod Evals
 pub mod Fitting

@@ -5,7 +5,7 @@ use Rattle.std.proofs.lemmas.List.Quantifiers.{position-Some}
 use Rattle.std.proofs.lemmas.Bool.Decides.{nat_tests}
 use Rattle.scan_values.specs.DataType.{DataType, Name, fields_of}
 use Rattle.scan_values.specs.FieldLists.{names_of}
-use Rattle.scan_values.specs.Marked.{Marked, null, Markeds, none, more, listed}
+use Rattle.scan_values.specs.Marked.{null, Markeds, none, more, listed}
 use Rattle.scan_values.specs.Val.{Val, null_val, vals_of, marked, marked_all}
 use Rattle.scan_values.specs.Values.{val_of}
 use Rattle.scan_values.specs.declared.value.Value.{Value}

@@ -1,8 +1,8 @@
 -- The value of an expression is one of its dtype.
-use Rattle.std.proofs.Common.{◌≡◌, ℕ, ◌<◌, ◌^◌, Bool, true, false, cond, not, ◌&&◌, ◌||◌, leb, Option, Some, None, List, [], ◌∷◌, map, refl, ap, ◌∙◌, arith}
+use Rattle.std.proofs.Common.{◌≡◌, ℕ, ◌<◌, ◌^◌, Bool, true, false, cond, not, ◌&&◌, ◌||◌, Option, Some, None, List, [], ◌∷◌, map, refl, arith}
 use Rattle.std.specs.Prelude.{is_some}
 use Rattle.std.proofs.lemmas.Bool.Decides.{nat_tests}
-use Rattle.scan_values.specs.DataType.{DataType, bool_type, int_type, utf8_type, list_type, struct_type, Fields, no_fields, field, Name, nullability_of, is_nullable, is_null_kind, with_nullability, depth_of}
+use Rattle.scan_values.specs.DataType.{DataType, bool_type, int_type, utf8_type, list_type, struct_type, Fields, no_fields, field, Name, nullability_of, is_nullable, is_null_kind, with_nullability}
 use Rattle.scan_values.specs.FieldLists.{dtype_named}
 use Rattle.scan_values.specs.Kinds.{is_scalar_type}
 use Rattle.scan_values.specs.Damage.{damaged}
@@ -19,8 +19,8 @@ use Rattle.scan_expr.specs.declared.op.Binary.{Binary}
 use Rattle.scan_expr.specs.declared.op.Binary.TheVariants.{Mask, And, Or, Equal, NotEqual, Less, LessOrEqual, Greater, GreaterOrEqual}
 use Rattle.scan_expr.specs.declared.op.BindFault.{BindFault}
 use Rattle.scan_expr.specs.declared.op.BindFault.TheVariants.{NoField, NotBool, RepeatedName, Literal}
-use Rattle.scan_expr.specs.Infer.{either, raised, chosen, without, field_type, type_or_bool, unary_type, binary_type, infer, infer_all}
-use Rattle.scan_expr.specs.Typing.{Fault, or_fault, unless, has_field, have_fields, repeats, depth_fault, unary_fault, binary_fault, pack_fault, nodes_fault, parts_fault}
+use Rattle.scan_expr.specs.Infer.{either, raised, chosen, without, type_or_bool, unary_type, binary_type, infer, infer_all}
+use Rattle.scan_expr.specs.Typing.{Fault, or_fault, unless, has_field, have_fields, repeats, unary_fault, binary_fault, typing_fault, parts_typing_fault}
 use Rattle.scan_expr.specs.Eval.{not_value, null_test, length_value, of_struct, pick, pick_all, leave, is_nothing, is_damaged, is_truth, holds, order, unary_value, binary_value, mask_value, logic_value, comparison_value, eval, eval_all}
 use Rattle.scan_expr.specs.Expr.{Expr, root, row_index, literal, unary, binary, pack, Parts, no_parts, part}
 use Rattle.scan_expr.proofs.Fitting.{fits-nullable, fits-either, pick_fits, and_left, and_right, is_nullable-with}
@@ -288,30 +288,27 @@ binary_sound GreaterOrEqual x y d e g h t = comparison_sound GreaterOrEqual x y 
 
 -- ---- the whole
 mutual
-  pub eval_fits : (s : DataType) (x : Expr) (v : Marked) (i : ℕ) → fits v s ≡ true → i < 2 ^ 64 → nodes_fault s x ≡ None → fits (eval s x v i) (infer s x) ≡ true
+  pub eval_fits : (s : DataType) (x : Expr) (v : Marked) (i : ℕ) → fits v s ≡ true → i < 2 ^ 64 → typing_fault s x ≡ None → fits (eval s x v i) (infer s x) ≡ true
   eval_fits s root v i h l t = h
   eval_fits s row_index v i h l t = grind (arith, nat_tests)
   eval_fits s (literal d w) v i h l t = and_right (is_scalar_type d) (fits (marked w) d) (held (is_scalar_type d && fits (marked w) d) Literal t)
   eval_fits s (unary u e) v i h l t =
-      let a = no_fault (nodes_fault s e) (or_fault (unary_fault u (infer s e)) (depth_fault (infer s (unary u e)))) t in
-      let b = no_fault (unary_fault u (infer s e)) (depth_fault (infer s (unary u e))) a.1 in
-      unary_sound u (eval s e v i) (infer s e) (eval_fits s e v i h l a.0) b.0
+      let a = no_fault (typing_fault s e) (unary_fault u (infer s e)) t in
+      unary_sound u (eval s e v i) (infer s e) (eval_fits s e v i h l a.0) a.1
   eval_fits s (binary o x y) v i h l t =
-      let a = no_fault (nodes_fault s x) (or_fault (nodes_fault s y) (or_fault (binary_fault o (infer s x) (infer s y)) (depth_fault (infer s (binary o x y))))) t in
-      let b = no_fault (nodes_fault s y) (or_fault (binary_fault o (infer s x) (infer s y)) (depth_fault (infer s (binary o x y)))) a.1 in
-      let c = no_fault (binary_fault o (infer s x) (infer s y)) (depth_fault (infer s (binary o x y))) b.1 in
-      binary_sound o (eval s x v i) (eval s y v i) (infer s x) (infer s y) (eval_fits s x v i h l a.0) (eval_fits s y v i h l b.0) c.0
-  eval_fits s (pack ps n) v i h l t =
-      parts_fit s ps v i h l (no_fault (parts_fault s ps) (or_fault (pack_fault (infer_all s ps)) (depth_fault (infer s (pack ps n)))) t).0
+      let a = no_fault (typing_fault s x) (or_fault (typing_fault s y) (binary_fault o (infer s x) (infer s y))) t in
+      let b = no_fault (typing_fault s y) (binary_fault o (infer s x) (infer s y)) a.1 in
+      binary_sound o (eval s x v i) (eval s y v i) (infer s x) (infer s y) (eval_fits s x v i h l a.0) (eval_fits s y v i h l b.0) b.1
+  eval_fits s (pack ps n) v i h l t = parts_fit s ps v i h l t
 
-  pub parts_fit : (s : DataType) (ps : Parts) (v : Marked) (i : ℕ) → fits v s ≡ true → i < 2 ^ 64 → parts_fault s ps ≡ None → fits_fields (eval_all s ps v i) (infer_all s ps) ≡ true
+  pub parts_fit : (s : DataType) (ps : Parts) (v : Marked) (i : ℕ) → fits v s ≡ true → i < 2 ^ 64 → parts_typing_fault s ps ≡ None → fits_fields (eval_all s ps v i) (infer_all s ps) ≡ true
   parts_fit s no_parts v i h l t = refl
   parts_fit s (part n e ps) v i h l t =
-      let a = no_fault (nodes_fault s e) (parts_fault s ps) t in
+      let a = no_fault (typing_fault s e) (parts_typing_fault s ps) t in
       rw (eval_fits s e v i h l a.0) (parts_fit s ps v i h l a.1)
 
 -- each item of an array
-pub all_fit : (s : DataType) (x : Expr) (vs : List Val) → fits_all (marked_all (vals_of vs)) s ≡ true → nodes_fault s x ≡ None → fits_all (chained (map (λ v. eval s x (marked v) 0) vs)) (infer s x) ≡ true
+pub all_fit : (s : DataType) (x : Expr) (vs : List Val) → fits_all (marked_all (vals_of vs)) s ≡ true → typing_fault s x ≡ None → fits_all (chained (map (λ v. eval s x (marked v) 0) vs)) (infer s x) ≡ true
 all_fit s x [] h t = refl
 all_fit s x (v ∷ vs) h t =
     rw (eval_fits s x (marked v) 0 (and_left (fits (marked v) s) (fits_all (marked_all (vals_of vs)) s) h) (omega arith) t) (all_fit s x vs (and_right (fits (marked v) s) (fits_all (marked_all (vals_of vs)) s) h) t)

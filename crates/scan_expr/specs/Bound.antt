@@ -1,5 +1,5 @@
 -- What a contract sees of a bound expression: the scope, and the expression over it.
-use Rattle.std.specs.Prelude.{refl, Result, Ok, Err, Option, Some, None, List, [], ◌∷◌, map, ◌≡◌, length, All}
+use Rattle.std.specs.Prelude.{refl, Result, List, map}
 use Rattle.scan_expr.specs.declared.op.BindFault.{BindFault}
 use Rattle.std.specs.Coded.{Coded, code_by, coded×}
 use Rattle.scan_values.specs.DataType.{DataType, data_type_code}

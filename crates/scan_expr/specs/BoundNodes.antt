@@ -3,7 +3,7 @@ use Rattle.std.specs.Prelude.{◌≡◌, length, All}
 use Rattle.scan_values.specs.Values.{val_of}
 use Rattle.scan_values.specs.DataType.{DataType}
 use Rattle.scan_expr.specs.Expr.{Expr, root, row_index, literal, unary, binary, pack, parts_of}
-use Rattle.scan_expr.specs.Bound.{Bound, exprs_of}
+use Rattle.scan_expr.specs.Bound.{exprs_of}
 use Rattle.scan_expr.specs.declared.bound.BoundNode.{BoundNode}
 use Rattle.scan_expr.specs.declared.bound.BoundNode.TheVariants.{Root, RowIdx, Literal, Unary, Binary, Pack}
 

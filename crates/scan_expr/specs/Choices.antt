@@ -1,5 +1,5 @@
 -- Expressions that only choose fields of the scope.
-use Rattle.std.specs.Prelude.{Bool, true, false, cond, List, Option, None, Some}
+use Rattle.std.specs.Prelude.{cond, List, Option, None, Some}
 use Rattle.scan_values.specs.DataType.{Name}
 use Rattle.scan_expr.specs.declared.op.Unary.{Unary}
 use Rattle.scan_expr.specs.declared.op.Unary.TheVariants.{GetItem, Select, Exclude, Not, IsNull, IsNotNull, ListLength}

@@ -1,5 +1,5 @@
 -- The dtype of an expression over a scope, by the typing table without its conditions: true where these hold.
-use Rattle.std.specs.Prelude.{Bool, true, false, cond, List, [], ◌∷◌, Option, Some, None}
+use Rattle.std.specs.Prelude.{cond, List, [], ◌∷◌, Option, Some, None}
 use Rattle.scan_values.specs.DataType.{DataType, bool_type, int_type, struct_type, Fields, no_fields, field, Name, nullability_of, with_nullability}
 use Rattle.scan_values.specs.FieldLists.{dtype_named}
 use Rattle.scan_values.specs.Kinds.{struct_fields_of}

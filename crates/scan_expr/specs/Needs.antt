@@ -1,9 +1,9 @@
 -- What an expression reads of its scope.
-use Rattle.std.specs.Prelude.{Bool, true, false, cond, not, ◌&&◌, ◌||◌, List, [], ◌∷◌, ◌++◌, bytes_eq}
+use Rattle.std.specs.Prelude.{Bool, true, false, cond, ◌&&◌, ◌||◌, List, [], ◌∷◌, ◌++◌, bytes_eq}
 use Rattle.std.specs.List.{list_any}
 use Rattle.scan_values.specs.DataType.{DataType, bool_type, int_type, utf8_type, list_type, struct_type, Fields, no_fields, field, Name, is_null_kind}
 use Rattle.scan_values.specs.NameFaults.{has_name, field_names}
-use Rattle.scan_values.specs.Paths.{Step, to_field, to_validity, to_offsets, to_elements, Path}
+use Rattle.scan_values.specs.Paths.{to_field, to_validity, to_offsets, to_elements, Path}
 use Rattle.scan_values.specs.declared.ptype.Nullability.{Nullability}
 use Rattle.scan_values.specs.declared.ptype.Nullability.TheVariants.{NonNullable, Nullable}
 use Rattle.scan_expr.specs.declared.op.Unary.{Unary}

@@ -1,9 +1,10 @@
 -- The expression that an operator makes of bound parts, and what holds of a bound expression.
-use Rattle.std.specs.Prelude.{◌≡◌, ℕ, List, [], ◌∷◌, length, All}
+use Rattle.std.specs.Prelude.{◌≡◌, ℕ, List, [], ◌∷◌, length, None, All}
 use Rattle.scan_values.specs.Values.{val_of}
 use Rattle.scan_values.specs.DataType.{DataType}
 use Rattle.scan_expr.specs.Expr.{Expr, root, row_index, literal, unary, binary, pack, parts_of}
 use Rattle.scan_expr.specs.Infer.{infer}
+use Rattle.scan_expr.specs.Typing.{typing_fault}
 use Rattle.scan_expr.specs.Bound.{Bound, exprs_of}
 use Rattle.scan_expr.specs.declared.bound.Op.{Op}
 use Rattle.scan_expr.specs.declared.bound.Op.TheVariants.{Root, RowIdx, Literal, Unary, Binary, Pack}
@@ -32,3 +33,4 @@ pub record IsBound (op : Op) (parts : List Bound) (scope dtype : DataType) : Typ
   pub arity : HasArity op (length parts)
   pub scopes : All (λ b. b.scope ≡ scope) parts
   pub typed : infer scope (apply_op op (exprs_of parts)) ≡ dtype
+  pub faultless : typing_fault scope (apply_op op (exprs_of parts)) ≡ None

@@ -3,7 +3,7 @@ use Rattle.std.specs.Prelude.{◌≡◌, ℕ, Bool, true, false, ◌&&◌, Decid
 use Rattle.std.specs.Cmp.{IsEquivalence, IsPartialEquivalence, decided, partial_equiv_from_equiv}
 use Rattle.std.proofs.Common.{ap, subst}
 use Rattle.std.proofs.lemmas.Slice.Eq.{bytes_eq-Decides}
-use Rattle.scan_values.specs.DataType.{DataType, Name}
+use Rattle.scan_values.specs.DataType.{Name}
 use Rattle.scan_values.specs.Same.{same_names, same_nullability, same_type, same_type-Decides}
 use Rattle.scan_values.specs.SameVal.{same_val, same_val-Decides}
 use Rattle.scan_values.specs.declared.ptype.Nullability.{Nullability}

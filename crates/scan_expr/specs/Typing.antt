@@ -17,7 +17,7 @@ use Rattle.scan_expr.specs.declared.op.Binary.TheVariants.{Mask, And, Or, Equal,
 use Rattle.scan_expr.specs.declared.op.BindFault.{BindFault}
 use Rattle.scan_expr.specs.declared.op.BindFault.TheVariants.{NoField, NotStruct, NotList, NotBool, Operands, RepeatedName, ReservedName, Literal, Deep}
 use Rattle.scan_expr.specs.Expr.{Expr, root, row_index, literal, unary, binary, pack, Parts, no_parts, part, expr_depth}
-use Rattle.scan_expr.specs.Infer.{unary_type, binary_type, infer, infer_all}
+use Rattle.scan_expr.specs.Infer.{infer, infer_all}
 
 abbrev pub Fault : Type 0
 Fault = Option BindFault
@@ -128,6 +128,20 @@ abbrev mutual
   pub parts_fault : DataType → Parts → Fault
   parts_fault s no_parts = None
   parts_fault s (part n e ps) = or_fault (nodes_fault s e) (parts_fault s ps)
+
+-- the conditions of the nodes without those of depth and of a pack's names: where they hold, each value has its dtype
+abbrev mutual
+  pub typing_fault : DataType → Expr → Fault
+  typing_fault s root = None
+  typing_fault s row_index = None
+  typing_fault s (literal d v) = literal_fault d v
+  typing_fault s (unary u e) = or_fault (typing_fault s e) (unary_fault u (infer s e))
+  typing_fault s (binary b x y) = or_fault (typing_fault s x) (or_fault (typing_fault s y) (binary_fault b (infer s x) (infer s y)))
+  typing_fault s (pack ps n) = parts_typing_fault s ps
+
+  pub parts_typing_fault : DataType → Parts → Fault
+  parts_typing_fault s no_parts = None
+  parts_typing_fault s (part n e ps) = or_fault (typing_fault s e) (parts_typing_fault s ps)
 
 -- the whole walk: the scope's depth and names, the expression's depth, the nodes
 abbrev pub bind_fault : DataType → Expr → Fault

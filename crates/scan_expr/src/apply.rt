@@ -57,17 +57,15 @@ impl BoundExpression {
 }
 
 impl BoundExpression {
-    ghost use Rattle.std.specs.Prelude.{IfOk, map, ◌≡◌, None, false};
+    ghost use Rattle.std.specs.Prelude.{IfOk, map, ◌≡◌, false};
     ghost use Rattle.scan_values.specs.Val.{marked};
     ghost use Rattle.scan_expr.specs.Expr.{uses_row_index};
     ghost use Rattle.scan_expr.specs.Infer.{infer};
-    ghost use Rattle.scan_expr.specs.Typing.{nodes_fault};
     ghost use Rattle.scan_expr.specs.Eval.{eval};
 
-    /// The values on the items of an array, of an expression whose nodes' conditions hold, as `bind` gives.
+    /// The values on the items of an array.
     pub fn apply(&self, alloc: Global, scope: &Array) -> Result<Array, NoMemory>
         requires scope { scope.now.dtype ≡ self.now.scope }
-        requires typed { nodes_fault self.now.scope self.now.expr ≡ None }
         requires rows { uses_row_index self.now.expr ≡ false }
         ensures dtype { IfOk result (λ a. a.dtype ≡ infer self.now.scope self.now.expr) }
         ensures items { IfOk result (λ a. map marked a.items ≡ map (λ v. eval self.now.scope self.now.expr (marked v) 0) scope.now.items) }

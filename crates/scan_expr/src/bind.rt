@@ -1,10 +1,10 @@
 // Binding one node, whose parts are bound.
-ghost use Rattle.std.specs.Prelude.{◌≡◌, ◌≢◌, Err, IfOk, length, All};
+ghost use Rattle.std.specs.Prelude.{◌≡◌, ◌≢◌, Err, None, IfOk, length, All};
 ghost use Rattle.scan_values.specs.Values.{val_of};
 ghost use Rattle.scan_values.specs.DataType.{DataType, struct_type, fields_of};
 ghost use Rattle.scan_expr.specs.Expr.{root, row_index, literal, unary, binary, pack, parts_of};
 ghost use Rattle.scan_expr.specs.Infer.{infer, infer_all};
-ghost use Rattle.scan_expr.specs.Typing.{typed, or_fault, depth_fault, literal_fault, unary_fault, binary_fault, pack_fault, nodes_fault};
+ghost use Rattle.scan_expr.specs.Typing.{typed, or_fault, depth_fault, literal_fault, unary_fault, binary_fault, pack_fault, nodes_fault, typing_fault};
 ghost use Rattle.scan_expr.specs.Bound.{bound_of, bound_unless, exprs_of};
 
 use crate::bound::{BoundExpression, Op};
@@ -95,7 +95,8 @@ pub(crate) fn pack_fields(
     children: &[BoundExpression],
 ) -> Result<StructFields, NoMemory>
     requires even { length children.now ≡ length names.now }
-    ensures { (s : DataType) → All (λ b. b.scope ≡ s) children.now → IfOk result (λ fs. fields_of fs ≡ infer_all s (parts_of names.now (exprs_of children.now))) }
+    ensures fields { (s : DataType) → All (λ b. b.scope ≡ s) children.now → IfOk result (λ fs. fields_of fs ≡ infer_all s (parts_of names.now (exprs_of children.now))) }
+    ensures faultless { IfOk result (λ _. All (λ b. typing_fault b.scope b.expr ≡ None) children.now) }
 {
     let mut dtypes = Vec::with_capacity(alloc, children.len())?;
     for child in children {

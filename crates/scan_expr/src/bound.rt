@@ -76,10 +76,11 @@ impl Model for BoundExpression {
 }
 
 impl BoundExpression {
-    ghost use Rattle.std.specs.Prelude.{IfOk, ◌≡◌, length, All, []};
+    ghost use Rattle.std.specs.Prelude.{IfOk, ◌≡◌, length, All, [], None};
     ghost use Rattle.scan_values.specs.Values.{val_of};
     ghost use Rattle.scan_expr.specs.Expr.{unary, binary, pack, parts_of};
     ghost use Rattle.scan_expr.specs.Infer.{infer};
+    ghost use Rattle.scan_expr.specs.Typing.{typing_fault, unary_fault, binary_fault};
     ghost use Rattle.scan_expr.specs.Bound.{bound_of, exprs_of};
     ghost use Rattle.scan_expr.specs.Ops.{apply_op, HasArity};
 
@@ -91,6 +92,7 @@ impl BoundExpression {
     ) -> BoundExpression
         requires no_parts { HasArity op 0 }
         requires typed { infer scope.value (apply_op op []) ≡ dtype.value }
+        requires faultless { typing_fault scope.value (apply_op op []) ≡ None }
         ensures { result ≡ bound_of scope.value (apply_op op []) }
     {
         BoundExpression {
@@ -107,7 +109,8 @@ impl BoundExpression {
         child: BoundExpression,
         dtype: DType,
     ) -> Result<BoundExpression, NoMemory>
-        requires { infer child.scope (unary op child.expr) ≡ dtype }
+        requires typed { infer child.scope (unary op child.expr) ≡ dtype }
+        requires faultless { unary_fault op (infer child.scope child.expr) ≡ None }
         ensures { IfOk result (λ b. b ≡ bound_of child.scope (unary op child.expr)) }
     {
         let scope = child.scope.clone()?;
@@ -131,6 +134,7 @@ impl BoundExpression {
     ) -> Result<BoundExpression, NoMemory>
         requires scopes { second.scope ≡ first.scope }
         requires typed { infer first.scope (binary op first.expr second.expr) ≡ dtype }
+        requires faultless { binary_fault op (infer first.scope first.expr) (infer first.scope second.expr) ≡ None }
         ensures { IfOk result (λ b. b ≡ bound_of first.scope (binary op first.expr second.expr)) }
     {
         let scope = first.scope.clone()?;
@@ -156,6 +160,7 @@ impl BoundExpression {
         requires even { length children.items ≡ length names }
         requires scopes { All (λ b. b.scope ≡ scope.value) children.items }
         requires typed { infer scope.value (pack (parts_of names (exprs_of children.items)) nullability) ≡ dtype.value }
+        requires faultless { All (λ b. typing_fault b.scope b.expr ≡ None) children.items }
         ensures { result ≡ bound_of scope.value (pack (parts_of names (exprs_of children.items)) nullability) }
     {
         BoundExpression {
@@ -168,8 +173,9 @@ impl BoundExpression {
 }
 
 impl BoundExpression {
-    ghost use Rattle.std.specs.Prelude.{◌≡◌};
+    ghost use Rattle.std.specs.Prelude.{◌≡◌, None};
     ghost use Rattle.scan_expr.specs.Infer.{infer};
+    ghost use Rattle.scan_expr.specs.Typing.{typing_fault};
     ghost use Rattle.scan_expr.specs.Expr.{is_root, uses_row_index};
     ghost use Rattle.scan_expr.specs.Children.{bound_children};
     ghost use Rattle.scan_expr.specs.BoundNodes.{node_expr, IsOver};
@@ -190,7 +196,8 @@ impl BoundExpression {
 
     /// The dtype of its values.
     pub fn dtype(&self) -> &DType
-        ensures { result.now ≡ infer self.now.scope self.now.expr }
+        ensures dtype { result.now ≡ infer self.now.scope self.now.expr }
+        ensures faultless { typing_fault self.now.scope self.now.expr ≡ None }
     {
         &self.dtype
     }
@@ -199,6 +206,7 @@ impl BoundExpression {
     pub fn node(&self) -> BoundNode<'_>
         ensures expr { node_expr result ≡ self.now.expr }
         ensures scope { IsOver self.now.scope result }
+        ensures faultless { typing_fault self.now.scope self.now.expr ≡ None }
     {
         match &self.op {
             Op::Root => BoundNode::Root,
@@ -283,9 +291,10 @@ impl BoundExpression {
 }
 
 impl BoundExpression {
-    ghost use Rattle.std.specs.Prelude.{IfOk, ◌≡◌, ◌≤◌, length, All};
+    ghost use Rattle.std.specs.Prelude.{IfOk, ◌≡◌, ◌≤◌, length, All, None};
     ghost use Rattle.scan_values.specs.Values.{val_of};
     ghost use Rattle.scan_values.specs.DataType.{depth_of};
+    ghost use Rattle.scan_expr.specs.Typing.{literal_fault, unary_fault, binary_fault};
     ghost use Rattle.scan_expr.specs.Expr.{root, row_index, literal, unary, binary, pack, parts_of};
     ghost use Rattle.scan_expr.specs.Infer.{infer};
     ghost use Rattle.scan_expr.specs.Bound.{bound_of, exprs_of};
@@ -324,6 +333,7 @@ impl BoundExpression {
         dtype: DType,
         value: Value,
     ) -> Result<BoundExpression, NoMemory>
+        requires { literal_fault dtype (val_of value) ≡ None }
         ensures { IfOk result (λ b. b ≡ bound_of scope.now.value (literal dtype (val_of value))) }
     {
         let known = Arc::new(alloc, dtype.try_clone(alloc)?)?;
@@ -337,6 +347,7 @@ impl BoundExpression {
         op: Unary,
         child: BoundExpression,
     ) -> Result<BoundExpression, NoMemory>
+        requires { unary_fault op (infer child.scope child.expr) ≡ None }
         ensures { IfOk result (λ b. b ≡ bound_of child.scope (unary op child.expr)) }
     {
         let dtype = unary_type(alloc, &op, child.dtype())?;
@@ -350,7 +361,8 @@ impl BoundExpression {
         first: BoundExpression,
         second: BoundExpression,
     ) -> Result<BoundExpression, NoMemory>
-        requires { second.scope ≡ first.scope }
+        requires scopes { second.scope ≡ first.scope }
+        requires faultless { binary_fault op (infer first.scope first.expr) (infer second.scope second.expr) ≡ None }
         ensures { IfOk result (λ b. b ≡ bound_of first.scope (binary op first.expr second.expr)) }
     {
         let dtype = binary_type(alloc, op, first.dtype(), second.dtype())?;

@@ -21,7 +21,6 @@ pub struct Expression {
 }
 
 #[cycle(expression)]
-#[derive(Drop)]
 enum Node {
     Root,
     RowIdx,
@@ -29,6 +28,20 @@ enum Node {
     Unary(Unary, Box<Expression>),
     Binary(Binary, Box<Expression>, Box<Expression>),
     Pack(Names, Vec<Expression>, Nullability),
+}
+
+impl Drop for Node {
+    #[cycle(expression)]
+    fn drop(self) {
+        match self {
+            Node::Root => {}
+            Node::RowIdx => {}
+            Node::Literal(_, _) => {}
+            Node::Unary(_, _) => {}
+            Node::Binary(_, _, _) => {}
+            Node::Pack(_, _, _) => {}
+        }
+    }
 }
 
 impl Model for Expression {

@@ -8,18 +8,18 @@ ghost use Rattle.scan_values.specs.Fits.{fits};
 ghost use Rattle.scan_values.specs.Paths.{Path};
 ghost use Rattle.scan_expr.specs.Expr.{Expr, uses_row_index, conjuncts_of};
 ghost use Rattle.scan_expr.specs.Infer.{infer};
-ghost use Rattle.scan_expr.specs.Typing.{bind_type, nodes_fault};
+ghost use Rattle.scan_expr.specs.Typing.{bind_type, nodes_fault, typing_fault};
 ghost use Rattle.scan_expr.specs.Eval.{eval};
 ghost use Rattle.scan_expr.specs.Needs.{Demand, uses, needs, use_needs};
 
 /// An expression that binds has the inferred dtype, and the conditions of its nodes hold.
 pub fn what_binds_has_the_inferred_dtype()
-    ensures { (s : DataType) (e : Expr) (d : DataType) → bind_type s e ≡ Ok d → (infer s e ≡ d) × (nodes_fault s e ≡ None) }
+    ensures { (s : DataType) (e : Expr) (d : DataType) → bind_type s e ≡ Ok d → (infer s e ≡ d) × (nodes_fault s e ≡ None) × (typing_fault s e ≡ None) }
 {}
 
 /// A typed expression gives a value of its dtype, also where parts of the scope's value are damaged.
 pub fn values_fit_the_dtype()
-    ensures { (s : DataType) (e : Expr) (v : Marked) (i : ℕ) → fits v s ≡ true → i < 2 ^ 64 → nodes_fault s e ≡ None → fits (eval s e v i) (infer s e) ≡ true }
+    ensures { (s : DataType) (e : Expr) (v : Marked) (i : ℕ) → fits v s ≡ true → i < 2 ^ 64 → typing_fault s e ≡ None → fits (eval s e v i) (infer s e) ≡ true }
 {}
 
 /// On a value without damage an expression gives one without damage.

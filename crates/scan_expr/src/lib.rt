@@ -13,6 +13,7 @@ mod op;
 mod request;
 #[cfg(test)]
 mod tests;
+mod threads;
 mod typing;
 
 pub use bound::{BoundExpression, BoundNode};
@@ -24,3 +25,4 @@ pub use laws::{
 };
 pub use op::{Binary, BindFault, Unary};
 pub use request::ScanRequest;
+pub use threads::expressions_cross_threads;

@@ -1,10 +1,12 @@
+// Worked examples, and what no contract says.
 ghost use Rattle.std.specs.Prelude.{◌≡◌, false};
 ghost use Rattle.scan_expr.specs.Expr.{uses_row_index};
 
-use crate::{BindFault, BoundExpression, Expression};
+use crate::{Binary, BindFault, BoundExpression, Expression, ScanRequest};
 use scan_values::{Array, DType, FieldName, Nullability, PType, StructFields, Value, Values};
 use std::alloc::Global;
 use std::test::Fail;
+use std::thread::join;
 
 fn i32_of(n: Nullability) -> DType {
     DType::primitive(PType::I32, n)
@@ -37,12 +39,29 @@ fn item(alloc: Global, text: &str, e: Expression) -> Result<Expression, Fail> {
     Ok(Expression::get_item(alloc, name, e)?)
 }
 
+/// The access `$.text`.
+fn field(alloc: Global, text: &str) -> Result<Expression, Fail> {
+    item(alloc, text, Expression::root())
+}
+
 fn select(alloc: Global, texts: &[&str]) -> Result<Expression, Fail> {
     Ok(Expression::select(alloc, names(alloc, texts)?, Expression::root())?)
 }
 
 fn exclude(alloc: Global, texts: &[&str]) -> Result<Expression, Fail> {
     Ok(Expression::select_exclude(alloc, names(alloc, texts)?, Expression::root())?)
+}
+
+/// The struct of one expression under a name, and of the field b under the name y.
+fn packed(alloc: Global, text: &str, e: Expression) -> Result<Expression, Fail> {
+    let names = names(alloc, &[text, "y"])?;
+    let mut parts = Vec::with_capacity(alloc, 2)?;
+    parts.push(e)?;
+    parts.push(field(alloc, "b")?)?;
+    if parts.len() != names.len() {
+        return Err(Fail::from("uneven"));
+    }
+    Ok(Expression::pack(names, parts, Nullability::NonNullable))
 }
 
 fn number(p: PType, value: i128) -> Expression {
@@ -52,42 +71,97 @@ fn number(p: PType, value: i128) -> Expression {
     )
 }
 
-fn fault(alloc: Global, e: Expression) -> Result<Option<BindFault>, Fail> {
-    let scope = table(alloc, Nullability::NonNullable)?;
-    Ok(e.bind(alloc, &scope).err())
+fn is_null(alloc: Global) -> Result<Expression, Fail> {
+    Ok(Expression::is_null(alloc, Expression::root())?)
+}
+
+fn is_here(alloc: Global) -> Result<Expression, Fail> {
+    Ok(Expression::is_not_null(alloc, Expression::root())?)
+}
+
+// ---- Binding.
+
+/// A dtype of lists within lists, of this depth.
+fn nested(alloc: Global, depth: u32) -> Result<DType, Fail> {
+    let mut dtype = i32_of(Nullability::NonNullable);
+    for _ in 1..depth {
+        dtype = DType::list(alloc, dtype, Nullability::NonNullable)?;
+    }
+    Ok(dtype)
+}
+
+#[test]
+fn a_scope_binds_up_to_a_depth_of_64(rt: HostRuntime) -> Result<(), Fail> {
+    let alloc = rt.alloc();
+    for (depth, wanted) in [(64, None), (65, Some(BindFault::Deep))] {
+        let scope = nested(alloc, depth)?;
+        let fault = Expression::root().bind(alloc, &scope).err();
+        assert_eq!(rt; fault, wanted);
+    }
+    Ok(())
+}
+
+/// Expressions over the table.
+#[derive(Clone, Copy)]
+enum Case {
+    Field,
+    NoField,
+    FieldOfNumber,
+    SelectedTwice,
+    ExcludedNothing,
+    LengthOfNumber,
+    OtherTypes,
+    LargeLiteral,
+    ReservedName,
+}
+
+fn over_the_table(alloc: Global, case: Case) -> Result<Expression, Fail> {
+    match case {
+        Case::Field => field(alloc, "a"),
+        Case::NoField => field(alloc, "z"),
+        Case::FieldOfNumber => item(alloc, "b", field(alloc, "a")?),
+        Case::SelectedTwice => select(alloc, &["a", "a"]),
+        Case::ExcludedNothing => exclude(alloc, &["z"]),
+        Case::LengthOfNumber => Ok(Expression::list_length(alloc, field(alloc, "a")?)?),
+        Case::OtherTypes => Ok(Expression::eq(alloc, field(alloc, "a")?, number(PType::I64, 1))?),
+        Case::LargeLiteral => Ok(number(PType::U8, 300)),
+        Case::ReservedName => packed(alloc, "#validity", field(alloc, "a")?),
+    }
 }
 
 #[test]
 fn binding_answers_the_first_fault(rt: HostRuntime) -> Result<(), Fail> {
     let alloc = rt.alloc();
-    assert_eq!(rt; fault(alloc, item(alloc, "a", Expression::root())?)?, None);
-    assert_eq!(rt;
-        fault(alloc, item(alloc, "z", Expression::root())?)?,
-        Some(BindFault::NoField)
-    );
-    assert_eq!(rt;
-        fault(alloc, select(alloc, &["a", "a"])?)?,
-        Some(BindFault::RepeatedName)
-    );
-    assert_eq!(rt;
-        fault(alloc, number(PType::U8, 300))?,
-        Some(BindFault::Literal)
-    );
-    let inner = item(alloc, "b", item(alloc, "a", Expression::root())?)?;
-    assert_eq!(rt; fault(alloc, inner)?, Some(BindFault::NotStruct));
+    let scope = table(alloc, Nullability::NonNullable)?;
+    for (written, wanted) in [
+        (Case::Field, None),
+        (Case::NoField, Some(BindFault::NoField)),
+        (Case::FieldOfNumber, Some(BindFault::NotStruct)),
+        (Case::SelectedTwice, Some(BindFault::RepeatedName)),
+        (Case::ExcludedNothing, Some(BindFault::NoField)),
+        (Case::LengthOfNumber, Some(BindFault::NotList)),
+        (Case::OtherTypes, Some(BindFault::Operands)),
+        (Case::LargeLiteral, Some(BindFault::Literal)),
+        (Case::ReservedName, Some(BindFault::ReservedName)),
+    ] {
+        let fault = over_the_table(alloc, written)?.bind(alloc, &scope).err();
+        assert_eq!(rt; fault, wanted);
+    }
     Ok(())
 }
 
 #[test]
-fn binding_looks_at_the_operands(rt: HostRuntime) -> Result<(), Fail> {
+fn a_field_is_nullable_by_its_struct(rt: HostRuntime) -> Result<(), Fail> {
     let alloc = rt.alloc();
-    let length = Expression::list_length(alloc, item(alloc, "a", Expression::root())?)?;
-    assert_eq!(rt; fault(alloc, length)?, Some(BindFault::NotList));
-    let a = item(alloc, "a", Expression::root())?;
-    let equal = Expression::eq(alloc, a, number(PType::I64, 1))?;
-    assert_eq!(rt; fault(alloc, equal)?, Some(BindFault::Operands));
+    for n in [Nullability::NonNullable, Nullability::Nullable] {
+        let scope = table(alloc, n)?;
+        let bound = field(alloc, "a")?.bind(alloc, &scope)?;
+        assert!(rt; *bound.dtype() == i32_of(n));
+    }
     Ok(())
 }
+
+// ---- Values.
 
 #[derive(Clone, Copy)]
 enum Want {
@@ -105,7 +179,7 @@ fn is(value: &Value, want: Want) -> bool {
     }
 }
 
-/// Whether an expression over nullable i32 gives these values of Null and of 1, in row 7.
+/// Whether an expression over nullable i32 gives these values of Null and of 1, in the row of number 7.
 fn gives(alloc: Global, e: Expression, of_null: Want, of_one: Want) -> Result<bool, Fail> {
     let bound = e.bind(alloc, &i32_of(Nullability::Nullable))?;
     let first = bound.value_at(alloc, &Value::Null, 7)?;
@@ -113,63 +187,87 @@ fn gives(alloc: Global, e: Expression, of_null: Want, of_one: Want) -> Result<bo
     Ok(is(&first, of_null) && is(&second, of_one))
 }
 
-fn is_null(alloc: Global) -> Result<Expression, Fail> {
-    Ok(Expression::is_null(alloc, Expression::root())?)
+/// Expressions over a nullable number.
+#[derive(Clone, Copy)]
+enum Single {
+    Root,
+    RowIdx,
+    One,
+    IsNull,
+    IsNotNull,
+    Masked,
 }
 
-fn is_here(alloc: Global) -> Result<Expression, Fail> {
-    Ok(Expression::is_not_null(alloc, Expression::root())?)
+fn over_a_number(alloc: Global, kind: Single) -> Result<Expression, Fail> {
+    match kind {
+        Single::Root => Ok(Expression::root()),
+        Single::RowIdx => Ok(Expression::row_idx()),
+        Single::One => Ok(number(PType::I32, 1)),
+        Single::IsNull => is_null(alloc),
+        Single::IsNotNull => is_here(alloc),
+        Single::Masked => Ok(Expression::mask(alloc, number(PType::I32, 2), is_here(alloc)?)?),
+    }
 }
 
 #[test]
 fn operators_are_evaluated_on_null_and_on_a_value(rt: HostRuntime) -> Result<(), Fail> {
     let alloc = rt.alloc();
-    assert!(rt; gives(alloc, Expression::root(), Want::Null, Want::Number(1))?);
-    assert!(rt;
-        gives(
-            alloc,
-            Expression::row_idx(),
-            Want::Number(7),
-            Want::Number(7)
-        )?
-    );
-    assert!(rt;
-        gives(
-            alloc,
-            is_null(alloc)?,
-            Want::Truth(true),
-            Want::Truth(false)
-        )?
-    );
-    assert!(rt;
-        gives(
-            alloc,
-            is_here(alloc)?,
-            Want::Truth(false),
-            Want::Truth(true)
-        )?
-    );
-    let masked = Expression::mask(alloc, number(PType::I32, 1), is_here(alloc)?)?;
-    assert!(rt; gives(alloc, masked, Want::Null, Want::Number(1))?);
+    for (kind, of_null, of_one) in [
+        (Single::Root, Want::Null, Want::Number(1)),
+        (Single::RowIdx, Want::Number(7), Want::Number(7)),
+        (Single::One, Want::Number(1), Want::Number(1)),
+        (Single::IsNull, Want::Truth(true), Want::Truth(false)),
+        (Single::IsNotNull, Want::Truth(false), Want::Truth(true)),
+        (Single::Masked, Want::Null, Want::Number(2)),
+    ] {
+        let e = over_a_number(alloc, kind)?;
+        assert!(rt; gives(alloc, e, of_null, of_one)?);
+    }
     Ok(())
 }
 
-fn equals_one(alloc: Global) -> Result<Expression, Fail> {
-    Ok(Expression::eq(alloc, Expression::root(), number(PType::I32, 1))?)
-}
-
-fn below_one(alloc: Global) -> Result<Expression, Fail> {
-    Ok(Expression::lt(alloc, Expression::root(), number(PType::I32, 1))?)
+/// A comparison of the value with 1.
+fn comparison(alloc: Global, op: Binary) -> Result<Expression, Fail> {
+    let root = Expression::root();
+    let one = number(PType::I32, 1);
+    match op {
+        Binary::Equal => Ok(Expression::eq(alloc, root, one)?),
+        Binary::NotEqual => Ok(Expression::not_eq(alloc, root, one)?),
+        Binary::Less => Ok(Expression::lt(alloc, root, one)?),
+        Binary::LessOrEqual => Ok(Expression::lt_eq(alloc, root, one)?),
+        Binary::Greater => Ok(Expression::gt(alloc, root, one)?),
+        Binary::GreaterOrEqual => Ok(Expression::gt_eq(alloc, root, one)?),
+        _ => Err(Fail::from("not a comparison")),
+    }
 }
 
 #[test]
 fn comparisons_are_evaluated_on_null_and_on_a_value(rt: HostRuntime) -> Result<(), Fail> {
     let alloc = rt.alloc();
-    assert!(rt; gives(alloc, equals_one(alloc)?, Want::Null, Want::Truth(true))?);
-    assert!(rt; gives(alloc, below_one(alloc)?, Want::Null, Want::Truth(false))?);
-    let both = Expression::and(alloc, equals_one(alloc)?, below_one(alloc)?)?;
+    for (op, of_one) in [
+        (Binary::Equal, true),
+        (Binary::NotEqual, false),
+        (Binary::Less, false),
+        (Binary::LessOrEqual, true),
+        (Binary::Greater, false),
+        (Binary::GreaterOrEqual, true),
+    ] {
+        let e = comparison(alloc, op)?;
+        assert!(rt; gives(alloc, e, Want::Null, Want::Truth(of_one))?);
+    }
+    Ok(())
+}
+
+#[test]
+fn logic_is_evaluated_on_null_and_on_a_value(rt: HostRuntime) -> Result<(), Fail> {
+    let alloc = rt.alloc();
+    let equal = comparison(alloc, Binary::Equal)?;
+    let below = comparison(alloc, Binary::Less)?;
+    let both = Expression::and(alloc, equal, below)?;
     assert!(rt; gives(alloc, both, Want::Null, Want::Truth(false))?);
-    let either = Expression::or(alloc, equals_one(alloc)?, below_one(alloc)?)?;
+    let equal = comparison(alloc, Binary::Equal)?;
+    let below = comparison(alloc, Binary::Less)?;
+    let either = Expression::or(alloc, equal, below)?;
     assert!(rt; gives(alloc, either, Want::Null, Want::Truth(true))?);
     Ok(())
 }
@@ -209,6 +307,30 @@ fn fields_are_chosen_in_the_order_written(rt: HostRuntime) -> Result<(), Fail> {
     Ok(())
 }
 
+#[test]
+fn a_pack_is_a_struct_of_its_parts(rt: HostRuntime) -> Result<(), Fail> {
+    let alloc = rt.alloc();
+    let e = packed(alloc, "x", number(PType::I32, 5))?;
+    assert!(rt; gives_fields(alloc, e, &[5, 2])?);
+    Ok(())
+}
+
+#[test]
+fn a_list_has_a_length_and_null_has_none(rt: HostRuntime) -> Result<(), Fail> {
+    let alloc = rt.alloc();
+    let scope = DType::list(alloc, i32_of(Nullability::Nullable), Nullability::Nullable)?;
+    let bound = Expression::list_length(alloc, Expression::root())?.bind(alloc, &scope)?;
+    let mut items = Vec::new(alloc);
+    items.push(Value::Int(5))?;
+    items.push(Value::Null)?;
+    let list = Value::List(Values::new(items));
+    let of_list = bound.value_at(alloc, &list, 0)?;
+    let of_null = bound.value_at(alloc, &Value::Null, 0)?;
+    assert!(rt; is(&of_list, Want::Number(2)));
+    assert!(rt; is(&of_null, Want::Null));
+    Ok(())
+}
+
 /// The values of an expression in which no row number stands, on the items of an array.
 fn applied(alloc: Global, e: &Expression, array: &Array) -> Result<Array, Fail>
     requires { uses_row_index e.now ≡ false }
@@ -232,6 +354,8 @@ fn an_expression_is_applied_to_an_array(rt: HostRuntime) -> Result<(), Fail> {
     Ok(())
 }
 
+// ---- Bound expressions.
+
 fn bound(alloc: Global, e: Expression) -> Result<BoundExpression, Fail> {
     Ok(e.bind(alloc, &i32_of(Nullability::Nullable))?)
 }
@@ -240,14 +364,74 @@ fn bound(alloc: Global, e: Expression) -> Result<BoundExpression, Fail> {
 fn conjuncts_stand_from_left_to_right(rt: HostRuntime) -> Result<(), Fail> {
     let alloc = rt.alloc();
     let two = Expression::and(alloc, is_null(alloc)?, is_here(alloc)?)?;
-    let three = bound(alloc, Expression::and(alloc, two, equals_one(alloc)?)?)?;
+    let equal = comparison(alloc, Binary::Equal)?;
+    let three = bound(alloc, Expression::and(alloc, two, equal)?)?;
     let first = bound(alloc, is_null(alloc)?)?;
     let second = bound(alloc, is_here(alloc)?)?;
-    let third = bound(alloc, equals_one(alloc)?)?;
+    let third = bound(alloc, comparison(alloc, Binary::Equal)?)?;
     let found = three.conjuncts(alloc)?;
     assert_eq!(rt; found.len(), 3);
     assert!(rt; found[0] == first);
     assert!(rt; found[1] == second);
     assert!(rt; found[2] == third);
+    Ok(())
+}
+
+// ---- Copies, and threads.
+
+#[test]
+fn a_copy_of_an_expression_binds_alike(rt: HostRuntime) -> Result<(), Fail> {
+    let alloc = rt.alloc();
+    let scope = table(alloc, Nullability::NonNullable)?;
+    let e = packed(alloc, "x", number(PType::I32, 5))?;
+    let copy = e.try_clone(alloc)?;
+    let bound = e.bind(alloc, &scope)?;
+    let other = copy.bind(alloc, &scope)?;
+    assert!(rt; bound == other);
+    Ok(())
+}
+
+#[test]
+fn a_copy_of_a_bound_expression(rt: HostRuntime) -> Result<(), Fail> {
+    let alloc = rt.alloc();
+    let bound = bound(alloc, comparison(alloc, Binary::Less)?)?;
+    let copy = bound.try_clone(alloc)?;
+    assert!(rt; copy == bound);
+    assert_eq!(rt; copy.children().len(), 2);
+    Ok(())
+}
+
+#[test]
+fn a_copy_of_a_request(rt: HostRuntime) -> Result<(), Fail> {
+    let alloc = rt.alloc();
+    let mut request = ScanRequest::new(field(alloc, "a")?);
+    request.filter = Some(is_null(alloc)?);
+    request.row_range = Some(1..2);
+    request.limit = Some(3);
+    let copy = request.try_clone(alloc)?;
+    assert!(rt; copy.filter.is_some());
+    assert_eq!(rt; copy.row_range, Some(1..2));
+    assert_eq!(rt; copy.limit, Some(3));
+    assert!(rt; copy.ordered);
+    Ok(())
+}
+
+#[test]
+fn expressions_pass_through_a_thread(rt: HostRuntime) -> Result<(), Fail> {
+    let alloc = rt.alloc();
+    let e = is_null(alloc)?;
+    let bound = BoundExpression::new_root(alloc, DType::bool(Nullability::Nullable))?;
+    let (e, bound) = join(&rt, move || e, move || bound);
+    assert!(rt; !e.is_root());
+    assert!(rt; bound.is_root());
+    Ok(())
+}
+
+#[test]
+fn a_request_passes_through_a_thread(rt: HostRuntime) -> Result<(), Fail> {
+    let request = ScanRequest::new(Expression::root());
+    let (request, seven) = join(&rt, move || request, move || 7);
+    assert!(rt; request.projection.is_root());
+    assert_eq!(rt; seven, 7);
     Ok(())
 }

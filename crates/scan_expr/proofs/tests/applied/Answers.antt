@@ -1,8 +1,6 @@
-use Rattle.std.proofs.Common.{◌≡◌, Ok, sym, ap, ◌∙◌}
-use Rattle.scan_expr.specs.Expr.{uses_row_index}
-use Rattle.scan_expr.specs.Typing.{bind_fault, nodes_fault}
+use Rattle.std.proofs.Common.{sym, ◌∙◌}
+use Rattle.scan_expr.specs.Typing.{bind_fault}
 use Rattle.scan_expr.proofs.Binds.{is_bound}
-use Rattle.scan_expr.proofs.Binding.{bound_nodes}
 use Rattle.scan_expr.proofs.tests.applied.Goals as goal
 
 pub apply-requires-clause-scope : goal.apply-requires-clause-scope
@@ -10,12 +8,6 @@ apply-requires-clause-scope c =
     let s = c.dtype.result.now in
     let k = is_bound (bind_fault s c.args.e.now) s c.args.e.now c.in_ok-bound.bound (c.in_ok-bound.ensures (λ x. cc)) in
     sym c.dtype.ensures ∙ sym k.scope
-
-pub apply-requires-clause-typed : goal.apply-requires-clause-typed
-apply-requires-clause-typed c =
-    let s = c.dtype.result.now in
-    let k = is_bound (bind_fault s c.args.e.now) s c.args.e.now c.in_ok-bound.bound (c.in_ok-bound.ensures (λ x. cc)) in
-    rw (k.scope, k.expr) (bound_nodes s c.args.e.now k.faultless)
 
 pub apply-requires-clause-rows : goal.apply-requires-clause-rows
 apply-requires-clause-rows c =

@@ -1,7 +1,7 @@
-use Rattle.std.proofs.Common.{◌≡◌, ◌<◌, ◌≤◌, Bool, true, false, Some, None, List, length, get_or, slice_get, map, ap, sym, ◌∙◌, arith}
+use Rattle.std.proofs.Common.{◌≡◌, ◌<◌, ◌≤◌, true, false, List, length, get_or, ap, sym, ◌∙◌, arith}
 use Rattle.scan_values.specs.DataType.{Name}
 use Rattle.scan_values.specs.NameFaults.{has_name}
-use Rattle.scan_values.specs.FieldLists.{names_of, dtypes_of}
+use Rattle.scan_values.specs.FieldLists.{names_of}
 use Rattle.scan_expr.proofs.Choices.{filter_step_kept, filter_step_out, no_dtype, filter_end}
 use Rattle.scan_expr.proofs.typing.others.Goals as goal
 use Rattle.scan_expr.proofs.typing.others.Goals.{then-not-has_name+in-Some+in_ok-try_clone+in_ok-push+in_ok-try_clone-2+in_ok-push-2, then-not-has_name+in_default, else-not-has_name}

@@ -1,9 +1,8 @@
-use Rattle.std.proofs.Common.{◌≡◌, ◌<◌, ◌≤◌, ◌&&◌, refl, Bool, true, false, List, [], length, drop, get_or, sym, ap, ◌∙◌, add-one, arith}
+use Rattle.std.proofs.Common.{◌≡◌, ◌&&◌, refl, Bool, true, false, [], drop, get_or, sym, ap, ◌∙◌, arith}
 use Rattle.std.proofs.Math.ListN.{drop_of_length-le}
-use Rattle.scan_expr.specs.Bound.{Bound}
 use Rattle.scan_expr.specs.Same.{same_expr}
 use Rattle.scan_expr.specs.Heads.{op_head, same_head}
-use Rattle.scan_expr.proofs.Sames.{same_bounds, same-apply, bounds_turn, uneven_bounds}
+use Rattle.scan_expr.proofs.Sames.{same_bounds, same-apply, bounds_turn}
 use Rattle.scan_expr.proofs.bound.BoundExpression.+same_expr.Goals as goal
 
 and_false : (a : Bool) → (a && false) ≡ false

@@ -1,18 +1,18 @@
-use Rattle.std.proofs.Common.{◌≡◌, length, ap, ◌∙◌, subst, List, arith}
+use Rattle.std.proofs.Common.{◌≡◌, length, ap, ◌∙◌, List, arith}
 use Rattle.std.proofs.lemmas.Grind.{common_steps}
-use Rattle.std.specs.List.{All}
 use Rattle.scan_values.specs.DataType.{DataType}
 use Rattle.scan_expr.specs.Bound.{Bound, exprs_of}
-use Rattle.scan_expr.specs.Ops.{IsBound, HasArity}
+use Rattle.scan_expr.specs.Ops.{IsBound}
 use Rattle.scan_expr.specs.Children.{IsLike}
 use Rattle.scan_expr.specs.Infer.{infer}
+use Rattle.scan_expr.specs.Typing.{typing_fault}
 use Rattle.scan_expr.specs.declared.bound.Op.{Op}
 use Rattle.scan_expr.proofs.bound.BoundExpression.+try_clone.Goals as goal
 
 like : (p q : Op) (bs cs : List Bound) (s t d e : DataType) → IsBound q bs s d → IsLike p q → cs ≡ bs → t ≡ s → e ≡ d → IsBound p cs t e
 like p q bs cs s t d e b l same scope dtype =
     let P : List Bound → DataType → DataType → Type 0 = λ xs x y. IsBound p xs x y in
-    let here : IsBound p bs s d = record { arity = l.arity (length bs) b.arity; scopes = b.scopes; typed = ap (infer s) (l.same (exprs_of bs)) ∙ b.typed } in
+    let here : IsBound p bs s d = record { arity = l.arity (length bs) b.arity; scopes = b.scopes; typed = ap (infer s) (l.same (exprs_of bs)) ∙ b.typed; faultless = ap (typing_fault s) (l.same (exprs_of bs)) ∙ b.faultless } in
     rw (same, scope, dtype) here
 
 pub invariant_of-result : goal.invariant_of-result

@@ -1,7 +1,6 @@
-use Rattle.std.proofs.Common.{◌≡◌, ◌<◌, ◌≤◌, ◌||◌, refl, Bool, true, false, List, [], length, drop, sym, ap, ◌∙◌, add-one, arith}
+use Rattle.std.proofs.Common.{◌≡◌, ◌<◌, refl, true, false, length, sym, ap, ◌∙◌}
 use Rattle.std.proofs.Math.Seq.{drop-cons}
 use Rattle.std.proofs.Math.ListN.{drop_of_length-le}
-use Rattle.scan_expr.specs.Bound.{Bound}
 use Rattle.scan_expr.specs.Expr.{uses_row_index}
 use Rattle.scan_expr.specs.Children.{is_row_op}
 use Rattle.scan_expr.proofs.Sames.{rows_in, rows-apply}

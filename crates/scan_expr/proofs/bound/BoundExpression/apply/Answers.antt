@@ -1,7 +1,7 @@
 use Rattle.std.proofs.Common.{◌≡◌, ap, ◌∙◌, subst, map, take, arith, List, ℕ, true}
 use Rattle.std.proofs.lemmas.Grind.{common_steps}
 use Rattle.scan_values.specs.DataType.{DataType}
-use Rattle.scan_values.specs.Marked.{Marked, chained}
+use Rattle.scan_values.specs.Marked.{Marked}
 use Rattle.scan_values.specs.Val.{Val, vals_of, marked, marked_all}
 use Rattle.scan_values.specs.Fits.{fits_all}
 use Rattle.scan_values.specs.Values.{val_of}
@@ -23,7 +23,7 @@ of_fitting-requires c =
     let e = c.args.self.now.expr in
     let done = all_rows s e c.as_slice-rows.result.now (map mark c.loop-row.items.items) c.args.scope.now.items c.loop-row.row-index c.loop-row.invariant (grind (arith, common_steps)) c.as_slice-rows.ensures.items in
     let fit = subst (λ d. fits_all (marked_all (vals_of c.args.scope.now.items)) d ≡ true) c.requires.scope c.as_slice-rows.ensures.fit in
-    rw (marks c.loop-row.items.items) (rw done (rw (c.in_ok-dtype.ensures, c.dtype.ensures) (all_fit s e c.args.scope.now.items fit c.requires.typed)))
+    rw (marks c.loop-row.items.items) (rw done (rw (c.in_ok-dtype.ensures, c.dtype.ensures.dtype) (all_fit s e c.args.scope.now.items fit c.dtype.ensures.faultless)))
 
 pub returns-clause-items : goal.returns-clause-items
 returns-clause-items c =

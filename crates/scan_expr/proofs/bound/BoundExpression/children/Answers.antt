@@ -1,6 +1,4 @@
-use Rattle.std.proofs.Common.{◌≡◌, map, ◌∙◌, ap}
-use Rattle.scan_expr.specs.Bound.{bound_of}
-use Rattle.scan_expr.specs.Children.{children_of, bound_children}
+use Rattle.std.proofs.Common.{◌∙◌}
 use Rattle.scan_expr.proofs.Sames.{children-bound}
 use Rattle.scan_expr.proofs.bound.BoundExpression.children.Goals as goal
 

@@ -1,6 +1,6 @@
-use Rattle.std.proofs.Common.{◌≡◌, Ok, Err, List, length, sym, ap, ◌∙◌, rules, arith}
-use Rattle.scan_expr.specs.Bound.{Bound, bound_unless}
-use Rattle.scan_expr.specs.Expr.{Expr, unary, binary, pack, parts_of}
+use Rattle.std.proofs.Common.{◌≡◌, Ok, Err, List, sym, ap, ◌∙◌, rules, arith}
+use Rattle.scan_expr.specs.Bound.{bound_unless}
+use Rattle.scan_expr.specs.Expr.{Expr, pack, parts_of}
 use Rattle.scan_expr.specs.Typing.{nodes_fault}
 use Rattle.scan_expr.specs.Nodes.{expr_of}
 use Rattle.scan_expr.proofs.Binds.{is_bound, unary_bound, binary_bound, bind_stop, bind_done, pack_bound, pack_stopped}
