@@ -1,7 +1,7 @@
 -- The entries of a shared table as the clauses see them, where ids are compared by their order.
 use Rattle.std.proofs.Common.{◌≡◌, ℕ, ◌+◌, ◌<◌, ◌≤◌, List, [], ◌∷◌, ◌++◌, length, get_or, set, Bool, true, false, not, cond, eqb, nat_eq, nat_lt, filter, Option, Some, None, is_some, refl, sym, ap, ◌∙◌, subst, arith}
+use Rattle.std.specs.Prelude.{IfSome}
 use Rattle.std.specs.List.{list_any, position}
-use Rattle.std.specs.Map.{lookup}
 use Rattle.std.specs.Ordering.{nat_cmp, is_eq}
 use Rattle.std.specs.declared.cmp.Ordering.TheVariants.{Less, Equal, Greater}
 use Rattle.std.specs.BTreeMap.{is_at}
@@ -44,6 +44,10 @@ found id k es h = ap is_some (lookup_is (entries_of es) id) ∙ eq.found id k es
 
 pub unused : (n : ℕ) (es : List Entry) (i : ℕ) → list_any (λ (e : Entry). has n e.holders.items) es ≡ false → is_held n (table es i) ≡ false
 unused n es i h = ap (is_held n) (lookup_is (entries_of es) i) ∙ eq.unused n es i h
+
+pub unused_if : (o : Option ℕ) (es : List Entry) → IfSome o (λ n. list_any (λ (e : Entry). has n e.holders.items) es ≡ false) → IfSome o (λ n. (i : ℕ) → is_held n (table es i) ≡ false)
+unused_if None es h = tt
+unused_if (Some n) es h = λ i. unused n es i h
 
 pub written : (id k : ℕ) (es : List Entry) (e e' : Entry) → eq.IsPlaced id k es e → e'.id ≡ e.id → table (set es k e') id ≡ Some (held_of e').1
 written id k es e e' p same = lookup_is (entries_of (set es k e')) id ∙ eq.written id k es e e' p same

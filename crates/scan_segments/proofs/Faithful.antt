@@ -1,21 +1,16 @@
 -- What the calls of an adapter keep, and what they tell of the source's content.
-use Rattle.std.proofs.Common.{◌≡◌, ◌⊎◌, ℕ, ◌+◌, ◌<◌, ◌≤◌, List, [], ◌∷◌, ◌++◌, Bool, true, false, cond, nat_eq, Option, Some, None, Result, Ok, Err, OnOk, OnErr, refl, sym, ap, ◌∙◌, subst, inl, inr, arith}
+use Rattle.std.proofs.Common.{◌≡◌, ◌⊎◌, ℕ, List, Bool, true, false, nat_eq, Option, Some, None, refl, sym, ap, ◌∙◌, subst, inl, inr, arith}
 use Rattle.std.specs.Prelude.{IfSome}
 use Rattle.std.proofs.lemmas.Bool.Decides.{nat_tests}
-use Rattle.std.proofs.Math.Nat.{le_refl}
-use Rattle.scan_segments.specs.Source.{Store, SourceState, without, Begins, Stays, Ends, TellsBytes, TellsNone}
-use Rattle.scan_segments.specs.Polled.{IsPolled}
+use Rattle.scan_segments.specs.Source.{Store, SourceState, Stays, Ends, TellsBytes, TellsNone}
 use Rattle.scan_segments.specs.Cache.{Entries, CacheState, Loses, Stores, Both}
-use Rattle.scan_segments.specs.Cached.{IsGot, Moves}
-use Rattle.scan_segments.specs.declared.cache.CacheGet.{CacheGet}
-use Rattle.scan_segments.specs.declared.cache.CacheGet.TheVariants as get
 use Rattle.scan_segments.specs.declared.source.Polled.{Polled}
 use Rattle.scan_segments.specs.declared.source.Polled.TheVariants.{Pending, Bytes, Missing, Failed, NoMemory}
 use Rattle.scan_segments.specs.declared.adapter.Stage.{Stage}
 use Rattle.scan_segments.specs.declared.adapter.Stage.TheVariants as stage
 use Rattle.scan_segments.specs.declared.adapter.Looked.{Looked}
 use Rattle.scan_segments.specs.declared.adapter.Looked.TheVariants as looked
-use Rattle.scan_segments.specs.Adapter.{Looks, IsMissed, Offers, PollsSource, PollsBoth, GoesOn, LooksAgain, LooksFirst, GivesFound, KeepsStages, IsFaithful, GivesContent, adapter_state, stage_at, stage_of, asked_after, live_after}
+use Rattle.scan_segments.specs.Adapter.{Looks, IsMissed, PollsSource, PollsBoth, GoesOn, LooksFirst, KeepsStages, IsFaithful, GivesContent, stage_at, stage_of, asked_after}
 
 -- the source and the cache keep what a store has
 abbrev Keeps : Store → CacheState ℕ → SourceState → Type 0

@@ -7,6 +7,7 @@ pub mod Keeps
 pub mod Links
 pub mod Lookups
 pub mod Moves
+pub mod Numbers
 pub mod Pasts
 pub mod Tables
 pub mod Weights

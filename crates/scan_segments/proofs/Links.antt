@@ -1,12 +1,11 @@
 -- The stages of an adapter's live ids, and the live ids of its inner source.
-use Rattle.std.proofs.Common.{◌≡◌, ℕ, List, [], ◌∷◌, ◌++◌, Bool, true, false, ◌||◌, cond, eqb, nat_eq, Option, Some, None, is_some, Result, Ok, Err, OnErr, inl, inr, refl, sym, ap, ◌∙◌, arith}
+use Rattle.std.proofs.Common.{◌≡◌, ℕ, List, [], ◌∷◌, ◌++◌, Bool, true, false, cond, eqb, nat_eq, Option, Some, None, is_some, Result, Ok, Err, OnErr, inl, inr, refl, sym, ap, ◌∙◌, arith}
 use Rattle.std.proofs.lemmas.Bool.Decides.{nat_tests}
 use Rattle.scan_segments.specs.Source.{SourceState, without}
 use Rattle.scan_segments.specs.Cache.{CacheState}
 use Rattle.scan_segments.specs.declared.adapter.Looked.TheVariants as looked
 use Rattle.scan_segments.specs.Sharing.{has}
 use Rattle.scan_segments.specs.declared.adapter.Stage.{Stage}
-use Rattle.scan_segments.specs.declared.adapter.Stage.TheVariants as stage
 use Rattle.scan_segments.specs.Adapter.{Looks, stage_at, is_asked, IsLinked, KeepsStages}
 use Rattle.scan_segments.proofs.Agrees.{has_snoc, has_without}
 

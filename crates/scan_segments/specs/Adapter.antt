@@ -1,5 +1,5 @@
 -- A source over a cache and an inner source: what it is, and what its calls do to both.
-use Rattle.std.specs.Prelude.{◌≡◌, ◌⊎◌, ℕ, ◌+◌, ◌≤◌, List, [], ◌∷◌, ◌++◌, Bool, true, false, nat_eq, Option, None, Some, is_some, option_map}
+use Rattle.std.specs.Prelude.{◌≡◌, ◌⊎◌, ℕ, ◌+◌, ◌≤◌, List, Bool, true, false, nat_eq, Option, None, Some, is_some}
 use Rattle.std.specs.Map.{lookup}
 use Rattle.scan_segments.specs.declared.adapter.Stage.{Stage}
 use Rattle.scan_segments.specs.declared.adapter.Stage.TheVariants as stage
@@ -10,7 +10,7 @@ use Rattle.scan_segments.specs.declared.cache.CacheGet.TheVariants as get
 use Rattle.scan_segments.specs.declared.source.Polled.{Polled}
 use Rattle.scan_segments.specs.declared.source.Polled.TheVariants.{Pending, Bytes, Missing, Failed, NoMemory}
 use Rattle.scan_segments.specs.Faults.{RaisedByOne}
-use Rattle.scan_segments.specs.Source.{Store, SourceState, without, Begins, Stays, Ends}
+use Rattle.scan_segments.specs.Source.{Store, SourceState, without, Begins, Stays}
 use Rattle.scan_segments.specs.Polled.{IsPolled}
 use Rattle.scan_segments.specs.Cache.{Entries, CacheState, Stores, Both, happened}
 use Rattle.scan_segments.specs.Cached.{IsGot}

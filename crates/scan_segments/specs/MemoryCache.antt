@@ -1,5 +1,5 @@
 -- A cache in memory, as contracts see it.
-use Rattle.std.specs.Prelude.{◌≡◌, ℕ, List, [], ◌∷◌, ◌++◌, Option, None, Some, cond}
+use Rattle.std.specs.Prelude.{◌≡◌, ℕ, List, [], ◌∷◌, ◌++◌, None, Some, cond}
 use Rattle.scan_segments.specs.Faults.{one_more}
 use Rattle.scan_segments.specs.Script.{ScriptState, turns_left}
 use Rattle.scan_segments.specs.MemorySource.{stepped}

@@ -8,13 +8,17 @@ use Rattle.scan_segments.specs.declared.holder.SharedPolled.TheVariants.{Pending
 use Rattle.scan_segments.specs.declared.shared.Entry.{Entry}
 use Rattle.scan_segments.specs.Faults.{Rose}
 use Rattle.scan_segments.specs.Source.{SourceState, Begins, Stays, Ends, TellsBytes, TellsNone}
-use Rattle.scan_segments.specs.Sharing.{Held, is_live, answer_of, after, entry_at, owed, Same}
+use Rattle.scan_segments.specs.Sharing.{Held, is_held, is_live, answer_of, after, entry_at, owed, Same}
 
 abbrev pub held_of : Entry → ℕ × Held SharedAnswer
 held_of e = (e.id, record { holders = e.holders.items; answer = e.answer })
 
 abbrev pub entries_of : List Entry → List (ℕ × Held SharedAnswer)
 entries_of es = map held_of es
+
+-- each holder has a number below this one
+abbrev pub AreBelow : ℕ → List (ℕ × Held SharedAnswer) → Type 0
+AreBelow next es = (id n : ℕ) → is_held n (entry_at es id) ≡ true → n < next
 
 -- an id that has an entry is not asked anew; one that has none is
 abbrev pub Asks : Option (Held SharedAnswer) → ℕ → SourceState → SourceState → Type 0

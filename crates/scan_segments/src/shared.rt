@@ -3,7 +3,7 @@ ghost use Rattle.std.specs.Prelude.{◌≡◌, ◌⊎◌, ◌+◌, ◌<◌, ◌�
 ghost use Rattle.std.specs.List.{list_any};
 ghost use Rattle.scan_segments.specs.Source.{SourceState, without, Begins, Stays, Ends};
 ghost use Rattle.scan_segments.specs.Sharing.{Held, has, owed, entry_at, is_held, is_live, after, Same, Agree};
-ghost use Rattle.scan_segments.specs.SharedTables.{entries_of, Asks, Gives, IsFound, IsOpen, Polls};
+ghost use Rattle.scan_segments.specs.SharedTables.{entries_of, AreBelow, Asks, Gives, IsFound, IsOpen, Polls};
 ghost use Rattle.scan_segments.specs.declared.holder.SharedEvent.TheVariants as event;
 ghost use Rattle.scan_segments.specs.declared.holder.SharedPolled.TheVariants as polled;
 
@@ -26,6 +26,7 @@ pub struct Entry {
 #[derive(Drop)]
 pub struct SharedTable {
     entries: Vec<Entry>,
+    next: u64,
 }
 
 impl Model for SharedTable {
@@ -35,9 +36,11 @@ impl Model for SharedTable {
 
     ghost Value = { List (ℕ × Held SharedAnswer) };
 
-    ghost use Rattle.scan_segments.specs.SharedTables.{entries_of};
+    ghost use Rattle.scan_segments.specs.SharedTables.{entries_of, AreBelow};
 
     ghost view = { λ t. entries_of t.entries.items };
+
+    ghost invariant = { λ t. AreBelow t.next (entries_of t.entries.items) };
 }
 
 impl SharedTable {
@@ -47,6 +50,7 @@ impl SharedTable {
     {
         SharedTable {
             entries: Vec::new(alloc),
+            next: 0,
         }
     }
 
@@ -65,10 +69,11 @@ impl SharedTable {
         ensures owed { OnOk result (owed self.new ≤ owed self.old + 2) }
         ensures err { OnErr result ((self.new ≡ self.old) × Stays (S.state source.old) (S.state source.new)) }
     {
-        let Some(number) = free_number(&self.entries) else {
+        let Some(number) = new_number(&self.entries, self.next) else {
             return Err(NoMemory);
         };
         enter(&mut self.entries, alloc, id, number, source)?;
+        self.next = self.next.max(number + 1);
         Ok(Holder::new(id, number))
     }
 
@@ -139,7 +144,8 @@ fn is_used(entries: &Vec<Entry>, number: u64) -> bool
 }
 
 fn free_number(entries: &Vec<Entry>) -> Option<u64>
-    ensures { IfSome result (λ n. list_any (λ e. has n e.holders.items) entries.now.items ≡ false) }
+    ensures free { IfSome result (λ n. list_any (λ e. has n e.holders.items) entries.now.items ≡ false) }
+    ensures small { IfSome result (λ n. n < u64.MAX) }
 {
     for number in 0..u64::MAX {
         if !is_used(entries, number) {
@@ -147,6 +153,18 @@ fn free_number(entries: &Vec<Entry>) -> Option<u64>
         }
     }
     None
+}
+
+// A number that no holder has: the next one, and once numbers are used up one that was given back.
+fn new_number(entries: &Vec<Entry>, next: u64) -> Option<u64>
+    requires { AreBelow next (entries_of entries.now.items) }
+    ensures free { IfSome result (λ n. (i : ℕ) → is_held n (entry_at (entries_of entries.now.items) i) ≡ false) }
+    ensures small { IfSome result (λ n. n < u64.MAX) }
+{
+    if next < u64::MAX {
+        return Some(next);
+    }
+    free_number(entries)
 }
 
 fn place(entries: &Vec<Entry>, id: SegmentId) -> Option<usize>

@@ -136,6 +136,37 @@ fn an_adapter_asks_once(rt: HostRuntime) -> Result<(), Fail> {
     Ok(())
 }
 
+fn faults<S: SegmentSource>(source: &S) -> u64 {
+    source.fault_count()
+}
+
+// The same through a box.
+fn fetch_boxed(
+    alloc: Global,
+    inner: Box<dyn SegmentSource + Drop>,
+    id: u32,
+) -> Result<(Polled, u64), NoMemory>
+    requires { (state inner).live ≡ [] }
+{
+    let mut boxed = BoxedSource(inner);
+    let polled = fetch(alloc, &mut boxed, id)?;
+    Ok((polled, faults(&boxed)))
+}
+
+#[test]
+fn a_boxed_source_is_a_source(rt: HostRuntime) -> Result<(), Fail> {
+    let alloc = rt.alloc();
+    let good = source(alloc, &[], &[])?;
+    let (polled, faults) = fetch_boxed(alloc, Box::new(alloc, good)?, 0)?;
+    assert!(rt; gives(&polled, &[1, 2]));
+    assert_eq!(rt; faults, 0);
+    let failing = source(alloc, &[0], &[])?;
+    let (polled, faults) = fetch_boxed(alloc, Box::new(alloc, failing)?, 0)?;
+    assert!(rt; matches!(polled, Polled::Failed));
+    assert_eq!(rt; faults, 1);
+    Ok(())
+}
+
 #[test]
 fn a_cache_in_memory_fails_and_waits_by_number(rt: HostRuntime) -> Result<(), Fail> {
     let alloc = rt.alloc();

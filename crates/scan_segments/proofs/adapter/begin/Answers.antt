@@ -1,11 +1,11 @@
-use Rattle.std.proofs.Common.{◌≡◌, ℕ, List, [], ◌∷◌, ◌++◌, true, false, Some, None, refl, sym, ap, ◌∙◌, inl, inr}
+use Rattle.std.proofs.Common.{[], ◌∷◌, ◌++◌, false, Some, None, refl, ap, ◌∙◌, inl, inr}
 use Rattle.scan_segments.specs.Source.{SourceState}
 use Rattle.scan_segments.specs.Sharing.{has}
 use Rattle.scan_segments.specs.declared.adapter.Stage.TheVariants as stage
 use Rattle.scan_segments.specs.declared.adapter.Looked.TheVariants as looked
 use Rattle.scan_segments.specs.Adapter.{stage_at}
 use Rattle.scan_segments.proofs.Agrees.{has_not, lacks}
-use Rattle.scan_segments.proofs.Links.{relinked, has_new, has_ended, has_same, set_twice, set_here, idle, always_err, no_memory_live}
+use Rattle.scan_segments.proofs.Links.{relinked, has_new, has_same, set_twice, set_here, idle, always_err, no_memory_live}
 use Rattle.scan_segments.proofs.adapter.begin.Goals as goal
 
 pub returns-in_err-reserve-clause-looks : goal.returns-in_err-reserve-clause-looks

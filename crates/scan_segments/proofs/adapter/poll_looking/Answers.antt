@@ -1,11 +1,9 @@
-use Rattle.std.proofs.Common.{◌≡◌, ℕ, true, false, None, Some, is_some, ap, ◌∙◌, refl}
+use Rattle.std.proofs.Common.{false, None, ap, ◌∙◌}
 use Rattle.scan_segments.specs.Source.{SourceState}
 use Rattle.scan_segments.specs.Sharing.{has}
-use Rattle.scan_segments.specs.declared.adapter.Stage.TheVariants as stage
-use Rattle.scan_segments.specs.declared.adapter.Looked.TheVariants as looked
 use Rattle.scan_segments.specs.Adapter.{is_asked}
 use Rattle.scan_segments.proofs.Agrees.{lacks}
-use Rattle.scan_segments.proofs.Links.{relinked, has_new, has_ended, has_same, stage_same, set_here, others_keep, no_memory_live}
+use Rattle.scan_segments.proofs.Links.{relinked, has_ended, has_same}
 use Rattle.scan_segments.proofs.adapter.poll_looking.Goals as goal
 
 pub look-requires : goal.look-requires

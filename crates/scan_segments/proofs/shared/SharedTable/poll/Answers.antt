@@ -2,6 +2,7 @@ use Rattle.std.proofs.Common.{◌≡◌, None, ap, sym, subst}
 use Rattle.scan_segments.specs.Sharing.{entry_at, is_held}
 use Rattle.scan_segments.specs.SharedTables.{entries_of}
 use Rattle.scan_segments.proofs.Entries.{absent}
+use Rattle.scan_segments.proofs.Numbers.{below_polled}
 use Rattle.scan_segments.proofs.shared.SharedTable.poll.Goals as goal
 
 pub unreachable-requires : goal.unreachable-requires
@@ -12,3 +13,8 @@ unreachable-requires g c =
 
 pub returns-clause-step : goal.returns-clause-step
 returns-clause-step g c = rw (← c.self.view_is, ← c.id-id.ensures) c.poll_entry.ensures.step
+
+pub invariant_of-self : goal.invariant_of-self
+invariant_of-self g c =
+    below_polled g.S.Fits.fits (g.S.SegmentSource.state c.args.source.now) (g.S.SegmentSource.state c.poll_entry.new.source) c.self.inside.next c.id-id.result
+    (entries_of c.self.inside.entries.items) (entries_of c.poll_entry.new.entries.items) c.self.invariant c.poll_entry.ensures.step
