@@ -16,7 +16,7 @@ use Rattle.scan_layout.specs.declared.node.LayoutKind.TheVariants.{Leaf, Struct,
 use Rattle.scan_layout.specs.Layout.{Layout, Nodes, node, no_nodes, child, rows_of}
 use Rattle.scan_layout.specs.Check.{serves, total_rows}
 use Rattle.scan_layout.specs.Form.{HasForm, HaveForms, AllHaveRows}
-use Rattle.scan_layout.specs.Laws.{Each, Decodes, InOrder, OffsetsAreGood, AllOffsetsAreGood}
+use Rattle.scan_layout.specs.Laws.{Each, Decodes, InOrder, OffsetsAreGood, AllOffsetsAreGood, is_there}
 use Rattle.scan_values.specs.Paths.{Step, to_validity, to_offsets, to_elements}
 use Rattle.scan_layout.specs.RowValue.{row_value, row_values, leaf_value, segment_value, under, elements_between, offset_of, values_from}
 use Rattle.scan_layout.specs.Touched.{touched, all_touched, leaf_touched, nth_touched, under_step, struct_steps, element_from, element_to, least_offset, greatest_offset}
@@ -38,8 +38,8 @@ leaf_clean t s base (g ∷ segments) i a b low high within h =
     (λ p. let inside : i < g.1 = ltb-true i g.1 p in segment_clean t g.1 i s g.0 (leaf_here (Decodes s) t base g segments a b (omega arith) h))
     (λ p. let past : g.1 ≤ i = ltb-false i g.1 p in leaf_clean t s (base + g.1) segments (i - g.1) a b (omega arith) (omega arith) (omega arith) (leaf_later (Decodes s) t base g segments a b h))
 
-under_clean : (v m : Marked) → fits v (bool_type NonNullable) ≡ true → is_clean v ≡ true → is_clean m ≡ true → is_clean (under v m) ≡ true
-under_clean (boolean true) m f c h = h
+under_clean : (v m : Marked) → fits v (bool_type NonNullable) ≡ true → is_clean v ≡ true → (is_there Nullable v ≡ true → is_clean m ≡ true) → is_clean (under v m) ≡ true
+under_clean (boolean true) m f c h = h refl
 under_clean (boolean false) m f c h = refl
 under_clean lost m f c h = absurd cc
 under_clean null m f c h = absurd cc
@@ -128,22 +128,22 @@ mutual
   row_clean (node u rows (Leaf segments) kids) t s i form within h good = leaf_clean u s 0 segments i i (i + 1) (omega arith) (omega arith) (omega (arith, form.2.0)) h
   row_clean (node (struct_type fs NonNullable) rows Struct kids) t s i form within h good =
       all_clean kids (field_types (field_list fs)) (struct_steps (struct_type fs NonNullable)) s rows i form.3 form.2 within
-      (agreed_if (Decodes s) (nat_lt i (i + 1)) (all_touched kids (struct_steps (struct_type fs NonNullable)) s i (i + 1)) (lt-ltb i (i + 1) (omega arith)) h) good
+      (agreed_if (Decodes s) (nat_lt i (i + 1)) (all_touched kids (struct_steps (struct_type fs NonNullable)) s i (i + 1)) (lt-ltb i (i + 1) (omega arith)) h) (good refl)
   row_clean (node (struct_type fs Nullable) rows Struct no_nodes) t s i form within h good = absurd form.3
   row_clean (node (struct_type fs Nullable) rows Struct (child v kids)) t s i form within h good =
       let all = agreed_if (Decodes s) (nat_lt i (i + 1)) (all_touched (child v kids) (struct_steps (struct_type fs Nullable)) s i (i + 1)) (lt-ltb i (i + 1) (omega arith)) h in
       let inner = agree_inside (Decodes s) to_validity (touched v s i (i + 1)) (agree_left (Decodes s) (under_step to_validity (touched v s i (i + 1))) (all_touched kids (struct_steps (struct_type fs NonNullable)) s i (i + 1)) all) in
       let others = agree_right (Decodes s) (under_step to_validity (touched v s i (i + 1))) (all_touched kids (struct_steps (struct_type fs NonNullable)) s i (i + 1)) all in
       under_clean (row_value v s i) (struct (row_values kids s i)) (row_fits v (bool_type NonNullable) s i form.3.0)
-      (row_clean v (bool_type NonNullable) s i form.3.0 (omega (arith, form.2.0)) inner good.0)
-      (all_clean kids (field_types (field_list fs)) (struct_steps (struct_type fs NonNullable)) s rows i form.3.1 form.2.1 within others good.1)
+      (row_clean v (bool_type NonNullable) s i form.3.0 (omega (arith, form.2.0)) inner (scalar_good v (bool_type NonNullable) s i refl form.3.0))
+      (λ there. all_clean kids (field_types (field_list fs)) (struct_steps (struct_type fs NonNullable)) s rows i form.3.1 form.2.1 within others (good there).1)
   row_clean (node (list_type e n) rows (List' p) no_nodes) t s i form within h good = absurd form.3
   row_clean (node (list_type e n) rows (List' p) (child a no_nodes)) t s i form within h good = absurd form.3.1
   row_clean (node (list_type e NonNullable) rows (List' p) (child a (child o rest))) t s i form within h good =
       let kids : Nodes = child a (child o rest) in
       let all = agreed_if (Decodes s) (nat_lt i (i + 1)) (list_places kids rows s i (i + 1)) (lt-ltb i (i + 1) (omega arith)) h in
       content_clean a o rest e p s i rows (λ j. row_clean a e s j form.3.0) (λ j. row_clean o (int_type p NonNullable) s j form.3.1.0) form.3.0 form.3.1.0 form.2.0 within
-      (agree_right (Decodes s) (under_step to_validity (nth_touched kids 2 s i (i + 1))) (inner_places kids rows s i (i + 1)) all) good.0 good.1
+      (agree_right (Decodes s) (under_step to_validity (nth_touched kids 2 s i (i + 1))) (inner_places kids rows s i (i + 1)) all) (good refl).0 (good refl).1
   row_clean (node (list_type e Nullable) rows (List' p) (child a (child o no_nodes))) t s i form within h good = absurd form.3.1.1
   row_clean (node (list_type e Nullable) rows (List' p) (child a (child o (child v rest)))) t s i form within h good =
       let kids : Nodes = child a (child o (child v rest)) in
@@ -151,8 +151,8 @@ mutual
       let inner = agree_inside (Decodes s) to_validity (touched v s i (i + 1)) (agree_left (Decodes s) (under_step to_validity (touched v s i (i + 1))) (inner_places kids rows s i (i + 1)) all) in
       under_clean (row_value v s i) (elements_between (rows_of a) (offset_of (row_value o s i)) (offset_of (row_value o s (i + 1))) (λ j. row_value a s j)) (row_fits v (bool_type NonNullable) s i form.3.1.1.0)
       (row_clean v (bool_type NonNullable) s i form.3.1.1.0 (omega (arith, form.2.1.0)) inner (scalar_good v (bool_type NonNullable) s i refl form.3.1.1.0))
-      (content_clean a o (child v rest) e p s i rows (λ j. row_clean a e s j form.3.0) (λ j. row_clean o (int_type p NonNullable) s j form.3.1.0) form.3.0 form.3.1.0 form.2.0 within
-      (agree_right (Decodes s) (under_step to_validity (nth_touched kids 2 s i (i + 1))) (inner_places kids rows s i (i + 1)) all) good.0 good.1)
+      (λ there. content_clean a o (child v rest) e p s i rows (λ j. row_clean a e s j form.3.0) (λ j. row_clean o (int_type p NonNullable) s j form.3.1.0) form.3.0 form.3.1.0 form.2.0 within
+      (agree_right (Decodes s) (under_step to_validity (nth_touched kids 2 s i (i + 1))) (inner_places kids rows s i (i + 1)) all) (good there).0 (good there).1)
   row_clean (node u rows kind kids) t s i form within h good = absurd cc
 
   all_clean : (ls : Nodes) (ts : List DataType) (steps : List Step) (s : Store) (rows i : ℕ) → HaveForms ls ts → AllHaveRows rows ls → i < rows → Each (Decodes s) (all_touched ls steps s i (i + 1)) → AllOffsetsAreGood ls s i → are_clean (row_values ls s i) ≡ true

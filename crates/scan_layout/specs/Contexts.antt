@@ -1,5 +1,5 @@
--- Contexts, as finite maps, and which lazy children are made.
-use Rattle.std.specs.Prelude.{ℕ, ◌==◌, not, filter, map, List, [], ◌∷◌, if◌then◌else◌, Option, Some, None, Bool, is_some}
+-- Contexts, as finite maps.
+use Rattle.std.specs.Prelude.{ℕ, ◌==◌, not, filter, map, List, [], ◌∷◌, if◌then◌else◌, Option, Some, None}
 use Rattle.std.specs.Arc.{arc_value}
 use Rattle.std.specs.declared.alloc.Global.{Global}
 use Rattle.std.specs.declared.sync.Arc.{Arc}
@@ -20,7 +20,3 @@ others id es = filter (λ e. not (e.0 == id)) es
 -- the map with one id set
 abbrev pub put : {V : Type 0} → ℕ → V → List (ℕ × V) → List (ℕ × V)
 put id v es = (id, v) ∷ others id es
-
--- which children are made
-abbrev pub made_of : {M : Type 0} → List (Option M) → List Bool
-made_of ms = map is_some ms

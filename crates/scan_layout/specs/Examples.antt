@@ -1,10 +1,9 @@
 -- Worked rows.
-use Rattle.std.specs.Prelude.{◌≡◌, ℕ, ◌==◌, List, [], ◌∷◌, map, if◌then◌else◌, Option, Some, None, pos}
-use Rattle.scan_values.specs.declared.ptype.Nullability.{Nullability}
+use Rattle.std.specs.Prelude.{◌≡◌, ℕ, ◌==◌, List, [], ◌∷◌, map, if◌then◌else◌, Some, None, pos}
 use Rattle.scan_values.specs.declared.ptype.Nullability.TheVariants.{NonNullable, Nullable}
 use Rattle.scan_values.specs.declared.ptype.PType.TheVariants.{U32, I32}
 use Rattle.scan_values.specs.DataType.{DataType, bool_type, int_type, list_type, struct_type, no_fields, field}
-use Rattle.scan_values.specs.Marked.{Marked, null, gone, integer, list, struct, none, more}
+use Rattle.scan_values.specs.Marked.{null, gone, integer, list, struct, none, more}
 use Rattle.scan_segments.specs.Source.{Store}
 use Rattle.scan_layout.specs.declared.node.LayoutKind.TheVariants.{Leaf, Struct, List as List'}
 use Rattle.scan_layout.specs.declared.fault.LayoutFault.TheVariants.{Offsets}

@@ -1,7 +1,10 @@
 -- What holds of every layout.
-use Rattle.std.specs.Prelude.{◌≡◌, ℕ, ◌+◌, ◌<◌, ◌≤◌, List, [], ◌∷◌, Option, Some, None, ℤ, pos, negsuc, true}
-use Rattle.scan_values.specs.DataType.{DataType}
+use Rattle.std.specs.Prelude.{◌≡◌, ℕ, ◌+◌, ◌<◌, ◌≤◌, List, [], ◌∷◌, Option, Some, None, ℤ, pos, negsuc, Bool, true, false}
+use Rattle.scan_values.specs.declared.ptype.Nullability.{Nullability}
+use Rattle.scan_values.specs.declared.ptype.Nullability.TheVariants.{NonNullable, Nullable}
+use Rattle.scan_values.specs.DataType.{DataType, nullability_of}
 use Rattle.scan_values.specs.Fits.{fits}
+use Rattle.scan_values.specs.Marked.{Marked, boolean}
 use Rattle.scan_values.specs.Val.{Val, is_clean}
 use Rattle.scan_segments.specs.Source.{Store}
 use Rattle.scan_layout.specs.declared.node.LayoutKind.TheVariants.{Leaf, Struct, List as List'}
@@ -44,14 +47,20 @@ InOrder most (Some (negsuc a)) p = ⊥
 InOrder most (Some (pos a)) None = Unit {0}
 InOrder most None p = Unit {0}
 
--- the offsets of the lists in a row are good: of the row itself, and of the elements between them
+-- a value is not null by its validity
+abbrev pub is_there : Nullability → Marked → Bool
+is_there NonNullable validity = true
+is_there Nullable (boolean false) = false
+is_there Nullable validity = true
+
+-- the offsets of the lists in a row are good, but for those in what is null: of the row itself, and of the elements between them
 abbrev mutual
   pub OffsetsAreGood : Layout → Store → ℕ → Type 0
   OffsetsAreGood (node t rows (Leaf segments) kids) s i = Unit {0}
-  OffsetsAreGood (node t rows Struct kids) s i = AllOffsetsAreGood kids s i
-  OffsetsAreGood (node t rows (List' p) kids) s i =
-      InOrder (nth_rows kids 0) (offset_of (nth_value kids 1 s i)) (offset_of (nth_value kids 1 s (i + 1)))
-      × ((x y j : ℕ) → offset_of (nth_value kids 1 s i) ≡ Some (pos x) → offset_of (nth_value kids 1 s (i + 1)) ≡ Some (pos y) → x ≤ j → j < y → FirstOffsetsAreGood kids s j)
+  OffsetsAreGood (node t rows Struct kids) s i = is_there (nullability_of t) (nth_value kids 0 s i) ≡ true → AllOffsetsAreGood kids s i
+  OffsetsAreGood (node t rows (List' p) kids) s i = is_there (nullability_of t) (nth_value kids 2 s i) ≡ true →
+      (InOrder (nth_rows kids 0) (offset_of (nth_value kids 1 s i)) (offset_of (nth_value kids 1 s (i + 1)))
+      × ((x y j : ℕ) → offset_of (nth_value kids 1 s i) ≡ Some (pos x) → offset_of (nth_value kids 1 s (i + 1)) ≡ Some (pos y) → x ≤ j → j < y → FirstOffsetsAreGood kids s j))
 
   pub FirstOffsetsAreGood : Nodes → Store → ℕ → Type 0
   FirstOffsetsAreGood no_nodes s i = Unit {0}
@@ -61,6 +70,6 @@ abbrev mutual
   AllOffsetsAreGood no_nodes s i = Unit {0}
   AllOffsetsAreGood (child l ls) s i = OffsetsAreGood l s i × AllOffsetsAreGood ls s i
 
--- A row is damaged only where a segment that it touches is missing, does not decode or holds a bad offset.
+-- A row is damaged only where a segment that it touches is missing, does not decode or holds a bad offset of a list that is not null.
 abbrev pub CleanWhereDecoded : Type 0
 CleanWhereDecoded = (l : Layout) (t : DataType) (s : Store) (i : ℕ) → HasForm l t → i < rows_of l → Each (Decodes s) (touched l s i (i + 1)) → OffsetsAreGood l s i → is_clean (row_value l s i) ≡ true

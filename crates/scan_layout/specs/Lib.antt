@@ -16,4 +16,5 @@ pub mod Laws
 pub mod Slots
 pub mod Contexts
 pub mod Lazy
+pub mod LazyLends
 pub mod Examples

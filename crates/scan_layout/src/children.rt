@@ -1,7 +1,8 @@
 //! Children that are made at first use. After the Rust's `children`.
-ghost use Rattle.std.specs.Prelude.{◌≡◌, ◌↔◌, ◌≤◌, ◌<◌, length, IfOk, OnOk, OnErr, IsErrOf, replicate, false, true, slice_index_or, slice_set};
-ghost use Rattle.scan_layout.specs.Contexts.{made_of};
-ghost use Rattle.scan_layout.specs.Lazy.{HaveTypes};
+ghost use Rattle.std.specs.Prelude.{◌≡◌, ◌↔◌, ◌≤◌, ◌<◌, length, IfOk, OnOk, OnErr, IsErrOf, replicate, None, Some, is_some, true};
+ghost use Rattle.std.specs.Borrow.{sem};
+ghost use Rattle.scan_layout.specs.Lazy.{HaveTypes, child_at, Makes};
+ghost use Rattle.scan_layout.specs.LazyLends.{lends_value, lends_child, lends_made};
 
 use crate::node::LayoutRef;
 use crate::reader_context::LayoutReaderContext;
@@ -41,7 +42,8 @@ enum ChildTypes {
     Uniform(DType, Text),
 }
 
-/// Children that are made at first use, and kept. Contracts see which are made.
+/// Children that are made at first use, and kept. Contracts see those that are made.
+#[derive(Drop)]
 pub struct LazyReaderChildren<V, K: ChildOpener<V>> {
     nodes: Vec<LayoutRef>,
     types: ChildTypes,
@@ -51,12 +53,11 @@ pub struct LazyReaderChildren<V, K: ChildOpener<V>> {
 }
 
 impl<V, K: ChildOpener<V>> Model for LazyReaderChildren<V, K> {
-    ghost use Rattle.std.specs.Prelude.{◌≡◌, List, Bool, length};
-    ghost use Rattle.scan_layout.specs.Contexts.{made_of};
+    ghost use Rattle.std.specs.Prelude.{◌≡◌, List, Option, length};
 
-    ghost Value = { List Bool };
+    ghost Value = { List (Option K.Made) };
 
-    ghost view = { λ a. made_of a.made.items };
+    ghost view = { λ a. a.made.items };
 
     ghost use Rattle.scan_layout.specs.Lazy.{HaveTypes};
 
@@ -75,9 +76,9 @@ fn types_at(types: &ChildTypes, idx: usize, count: usize) -> (&DType, &Text)
 }
 
 // Places for so many children, of which none is made.
-#[tactic(auto, using(crate::proofs::Lazy::made_pushed, crate::proofs::Lazy::none_more))]
+#[tactic(auto, using(crate::proofs::Lazy::none_more))]
 fn unmade<M: Drop>(alloc: Global, count: usize) -> Result<Vec<Option<M>>, NoMemory>
-    ensures { IfOk result (λ v. made_of v.items ≡ replicate count false) }
+    ensures { IfOk result (λ v. v.items ≡ replicate count None) }
 {
     let mut made = Vec::new(alloc);
     for _place in 0..count {
@@ -89,7 +90,7 @@ fn unmade<M: Drop>(alloc: Global, count: usize) -> Result<Vec<Option<M>>, NoMemo
 impl<V, K: ChildOpener<V>> LazyReaderChildren<V, K> {
     /// Whether the child of an index is made.
     pub fn is_made(&self, idx: usize) -> bool
-        ensures { result ≡ slice_index_or self.now idx false }
+        ensures { result ≡ is_some (child_at self.now idx) }
     {
         match self.made.get(idx) {
             Some(made) => made.is_some(),
@@ -110,7 +111,7 @@ impl<V: Drop, K: ChildOpener<V> + Drop> LazyReaderChildren<V, K> {
     ) -> Result<Self, NoMemory>
         requires dtypes { length dtypes.items ≡ length nodes.items }
         requires names { length names.items ≡ length nodes.items }
-        ensures { IfOk result (λ c. c ≡ replicate (length nodes.items) false) }
+        ensures { IfOk result (λ c. c ≡ replicate (length nodes.items) None) }
     {
         let made = unmade(alloc, nodes.len())?;
         Ok(LazyReaderChildren {
@@ -131,7 +132,7 @@ impl<V: Drop, K: ChildOpener<V> + Drop> LazyReaderChildren<V, K> {
         opener: K,
         ctx: LayoutReaderContext<V>,
     ) -> Result<Self, NoMemory>
-        ensures { IfOk result (λ c. c ≡ replicate (length nodes.items) false) }
+        ensures { IfOk result (λ c. c ≡ replicate (length nodes.items) None) }
     {
         let made = unmade(alloc, nodes.len())?;
         Ok(LazyReaderChildren {
@@ -149,9 +150,8 @@ impl<V, K: ChildOpener<V>> LazyReaderChildren<V, K> {
     ///
     /// # Errors
     /// `ChildIndex` exactly where no child has the index, and `NoMemory`. Then nothing is made.
-    #[tactic(auto, using(crate::proofs::Lazy::made_set, crate::proofs::Lazy::made_same))]
     pub fn make_child(&mut self, alloc: Global, idx: usize) -> Result<(), ChildFault>
-        ensures made { OnOk result (self.new ≡ slice_set self.old idx true) }
+        ensures made { OnOk result (Makes idx self.old self.new) }
         ensures kept { OnErr result (self.new ≡ self.old) }
         ensures index { IsErrOf result ChildFault.ChildIndex ↔ (length self.old ≤ idx) }
     {
@@ -179,12 +179,32 @@ impl<V, K: ChildOpener<V>> LazyReaderChildren<V, K> {
     /// # Errors
     /// `ChildIndex` exactly where no child has the index, and `NoMemory`. A failed making is not kept.
     pub fn get(&mut self, alloc: Global, idx: usize) -> Result<&mut K::Made, ChildFault>
-        ensures { IsErrOf result ChildFault.ChildIndex ↔ (length self.old ≤ idx) }
+        ensures* lends { sem 𝓛 (lends_child V.row K.row K.Made.row self.entry idx result) }
+        ensures kept { IfOk result (λ r. is_some (child_at self.old idx) ≡ true → child_at self.old idx ≡ Some r.now) }
+        ensures index { IsErrOf result ChildFault.ChildIndex ↔ (length self.old ≤ idx) }
     {
         self.make_child(alloc, idx)?;
-        match &mut self.made[idx] {
-            Some(made) => Ok(made),
-            None => unreachable!(),
-        }
+        Ok(self.made_child(idx))
+    }
+
+    // A child that is made.
+    fn made_child(&mut self, idx: usize) -> &mut K::Made
+        requires { is_some (child_at self.old idx) ≡ true }
+        ensures* lends { sem 𝓛 (lends_made V.row K.row K.Made.row self.entry idx result) }
+        ensures child { child_at self.old idx ≡ Some result.now }
+    {
+        some_mut(&mut self.made[idx])
+    }
+}
+
+// What is there.
+fn some_mut<M>(child: &mut Option<M>) -> &mut M
+    requires { is_some child.old ≡ true }
+    ensures* lends { sem 𝓛 (lends_value M.row child.entry result) }
+    ensures child { child.old ≡ Some result.now }
+{
+    match child {
+        Some(child) => child,
+        None => unreachable!(),
     }
 }

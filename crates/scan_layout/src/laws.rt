@@ -12,7 +12,8 @@ pub fn rows_fit_the_dtype()
     ensures { RowsFitTheDType }
 {}
 
-/// A row is damaged only where a segment that it touches is missing, does not decode or holds a bad offset.
+/// A row is damaged only where a segment that it touches is missing, does not decode or holds a bad offset of a list
+/// that is not null.
 pub fn a_row_is_clean_where_its_segments_decode()
     ensures { CleanWhereDecoded }
 {}

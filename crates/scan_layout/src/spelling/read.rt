@@ -167,13 +167,13 @@ fn plain_cells(
     ensures { Gives (λ v. map val_of v.items) result (cells kind (replicate rows 1) bytes.now) }
 {
     let mut values = Vec::new(alloc);
-    let mut rest = bytes;
+    let mut left = bytes;
     for _row in 0..rows {
-        let (value, after) = cell(alloc, kind, 1, rest)?;
+        let (value, after) = cell(alloc, kind, 1, left)?;
         values.push(value)?;
-        rest = after;
+        left = after;
     }
-    if !rest.is_empty() {
+    if !left.is_empty() {
         return Err(DecodeFault::Spelling);
     }
     Ok(values)

@@ -1,8 +1,17 @@
-use Rattle.std.proofs.Common.{◌∙◌}
-use Rattle.scan_layout.proofs.Lazy.{lent_made, no_fault}
+use Rattle.std.proofs.Common.{◌<◌, length, sym, ap, ◌∙◌, inl}
+use Rattle.scan_layout.specs.Lazy.{child_at, with_child}
+use Rattle.scan_layout.proofs.Lazy.{child_written, written_again, no_fault, within_if}
 use Rattle.scan_layout.proofs.children.LazyReaderChildren.get.Goals as goal
 
-pub unreachable-requires : goal.unreachable-requires
-unreachable-requires g c =
-    lent_made c.self.inside.made.items c.args.self.now c.args.idx c.index_mut.result.now (c.self.view_is ∙ c.in_ok-make_child.ensures.made)
-    (λ h. no_fault _ _ (c.in_ok-make_child.ensures.index.1 h)) c.index_mut.ensures.value c.in-None.is
+pub returns : goal.returns
+returns g c =
+    let made = c.in_ok-make_child.ensures.made in
+    let within : c.args.idx < length c.args.self.now = within_if _ _ (λ h. no_fault _ _ (c.in_ok-make_child.ensures.index.1 h)) in
+    let there = ap (λ cs. child_at cs c.args.idx) made.made ∙ child_written c.args.self.now c.args.idx made.child within in (
+      λ i. inl (c.made_child.result.ghost_name, λ w. (ap (λ cs. with_child cs c.args.idx w) made.made ∙ written_again c.args.self.now c.args.idx made.child w) i),
+      record {
+        lends = tt;
+        kept = λ h. made.kept h ∙ sym there ∙ c.made_child.ensures.child;
+        index = (λ e. absurd (no_fault _ _ e), λ h. absurd (no_fault _ _ (c.in_ok-make_child.ensures.index.1 h)));
+      },
+    )

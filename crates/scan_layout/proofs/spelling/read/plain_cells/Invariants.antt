@@ -5,4 +5,4 @@ use Rattle.scan_layout.proofs.Cells.{with_front}
 use Rattle.scan_layout.proofs.spelling.read.plain_cells.Given as goal
 
 abbrev pub invariant-loop-row : goal.invariant-loop-row
-invariant-loop-row l = with_front (map val_of l.values.items) (cells l.kind (replicate (l.rows - l._row) 1) l.rest) ≡ cells l.kind (replicate l.rows 1) l.bytes
+invariant-loop-row l = with_front (map val_of l.values.items) (cells l.kind (replicate (l.rows - l._row) 1) l.left) ≡ cells l.kind (replicate l.rows 1) l.bytes
