@@ -1,0 +1,42 @@
+-- A plan's dtype and request are those of the scan.
+use Rattle.std.proofs.Common.{◌≡◌, ◌≢◌, ℕ, List, Bool, true, sym, ap, ◌∙◌, subst, inl, inr}
+use Rattle.std.specs.Prelude.{Option, None, Some, IfSome, Result, Err}
+use Rattle.scan_values.specs.DataType.{DataType}
+use Rattle.scan_expr.specs.Bound.{Bound}
+use Rattle.scan_expr.specs.Infer.{infer}
+use Rattle.scan_expr.specs.declared.request.ScanRequest.{ScanRequest}
+use Rattle.scan_multi.specs.Served.{is_built, early_fault}
+use Rattle.scan_multi.specs.Plan.{IsPlan, IsPlanFault}
+use Rattle.scan_multi.specs.declared.scan.files.ScanFault.{ScanFault}
+use Rattle.scan_multi.specs.declared.scan.files.ScanFault.TheVariants as fault
+use Rattle.scan_multi.proofs.Built.{built-early}
+
+-- whether a scan is built, by the number of its files
+pub built-as : (workers counted files : ℕ) (d : DataType) (q : ScanRequest) (x t : Bool) → counted ≡ files → x ≡ is_built workers counted d q → x ≡ t → is_built workers files d q ≡ t
+built-as workers counted files d q x t n is h = ap (λ k. is_built workers k d q) (sym n) ∙ sym is ∙ h
+
+module _ (d : DataType) (q r : ScanRequest) (b : Bound) (places : List ℕ) (chosen : List Bool) (p : IsPlan d q b places chosen) (e : r ≡ q) where
+  pub plan-scope : b.scope ≡ d
+  plan-scope = ap (λ (x : Bound). x.scope) p.bound
+
+  pub plan-infer : infer b.scope b.expr ≡ infer d q.projection
+  plan-infer = ap (λ (x : Bound). infer x.scope x.expr) p.bound
+
+  pub carried : (P : DataType → ScanRequest → Type 0) → P b.scope r → P d q
+  carried P h = subst (λ z. P z q) plan-scope (subst (λ z. P b.scope z) e h)
+
+  pub carried-plan : IsPlan b.scope r b places chosen
+  carried-plan = subst (λ z. IsPlan z r b places chosen) (sym plan-scope) (subst (λ z. IsPlan d z b places chosen) (sym e) p)
+
+-- the answer where no plan is made
+pub plan-answer : {T : Type 0} (r : Result T ScanFault) (workers files : ℕ) (d : DataType) (q : ScanRequest) (e : ScanFault) → r ≡ Err e → is_built workers files d q ≡ true → IsPlanFault d q e → r ≢ Err fault.NoMemory → IfSome (early_fault workers files d q) (λ x. r ≡ Err x)
+plan-answer r workers files d q e is h (inl want) other = absurd (other (is ∙ ap Err want))
+plan-answer r workers files d q e is h (inr bind) other = subst (λ o. IfSome o (λ x. r ≡ Err x)) (sym (built-early workers files d q h ∙ bind)) is
+
+-- no fault comes before that of a file
+pub late-answer : {T : Type 0} (r : Result T ScanFault) (workers files : ℕ) (d : DataType) (q : ScanRequest) → early_fault workers files d q ≡ None → IfSome (early_fault workers files d q) (λ x. r ≡ Err x)
+late-answer r workers files d q none = subst (λ o. IfSome o (λ x. r ≡ Err x)) (sym none) tt
+
+pub always : (A : Type 0) (o : Option ScanFault) → A → IfSome o (λ e. A)
+always A None a = tt
+always A (Some e) a = a

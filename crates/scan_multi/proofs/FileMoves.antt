@@ -1,0 +1,160 @@
+-- A file after calls of its opener and its source.
+use Rattle.std.proofs.Common.{◌≡◌, ℕ, List, [], ◌∷◌, ◌++◌, Bool, refl, sym, ap, ◌∙◌, arith, subst, map, append-nil}
+use Rattle.std.specs.Prelude.{Option, None, Some, IfSome, IsSome, Contains, cond, unwrap_or}
+use Rattle.std.specs.List.{flat_map, list_any, range_with_len}
+use Rattle.std.proofs.lemmas.List.Elements.{All-weaker, All-nil}
+use Rattle.scan_values.specs.DataType.{DataType, struct_type}
+use Rattle.scan_values.specs.declared.ptype.Nullability.TheVariants.{NonNullable}
+use Rattle.scan_values.specs.Selections.{picked_rows}
+use Rattle.scan_expr.specs.Bound.{Bound}
+use Rattle.scan_expr.specs.Eval.{eval}
+use Rattle.scan_expr.specs.Expr.{filter_conjuncts}
+use Rattle.scan_expr.specs.Typing.{bind_fault}
+use Rattle.scan_expr.specs.declared.request.ScanRequest.{ScanRequest}
+use Rattle.scan_segments.specs.Source.{SourceState, Store}
+use Rattle.scan_layout.specs.Layout.{Layout, rows_of, kids_of}
+use Rattle.scan_layout.specs.Check.{first_fault}
+use Rattle.scan_layout.specs.RowValue.{row_value}
+use Rattle.scan_layout.specs.Touched.{Place}
+use Rattle.scan_multi.specs.Opener.{OpenerState, Given, skip, layout_of}
+use Rattle.scan_multi.specs.Fetch.{Opens}
+use Rattle.scan_multi.specs.Read.{Reads, IsReadFault}
+use Rattle.scan_multi.specs.Places.{IsIdOf, HasBad}
+use Rattle.scan_multi.specs.Columns.{nodes_in, chosen_places}
+use Rattle.scan_multi.specs.Choice.{field_count, places_of, flags_of}
+use Rattle.scan_multi.specs.Answer.{Item, finding, drops, row_items, part_of}
+use Rattle.scan_multi.specs.Output.{ChunkData}
+use Rattle.scan_multi.specs.Named.{named, named_places}
+use Rattle.scan_multi.specs.Plan.{IsPlan, IsScanned, IsPlacedFault, items_in, row_item, placed, IsChecked, NamesFile}
+use Rattle.scan_multi.specs.Causes.{IfTold, IsRead, IsOfOtherType, IsIllFormed, told_file, Tells, FileMoves, IsFileCause}
+use Rattle.scan_multi.specs.declared.scan.files.ScanFile.{ScanFile}
+use Rattle.scan_multi.specs.declared.scan.files.ScanFault.{ScanFault}
+use Rattle.scan_multi.specs.declared.scan.files.ScanFault.TheVariants as fault
+use Rattle.scan_multi.specs.declared.scan.read.ReadFault.{ReadFault}
+use Rattle.scan_multi.specs.declared.scan.read.ReadFault.TheVariants as read
+use Rattle.scan_multi.proofs.Members.{In}
+use Rattle.scan_multi.proofs.Checked.{well_typed, told-layout}
+use Rattle.scan_multi.proofs.PlainForms.{plain_form}
+use Rattle.scan_multi.proofs.Cells.{chooses}
+use Rattle.scan_multi.proofs.Naming.{AllRows, all-rows, picked-all, good, Named', chosen-named, id-named, bad-named}
+
+-- ---- what a plan names
+module _ (d : DataType) (request : ScanRequest) (b : Bound) (places : List ℕ) (chosen : List Bool) (l : Layout) (plan : IsPlan d request b places chosen) (form : first_fault l d ≡ None) where
+  all : AllRows request
+  all = all-rows request plan.all_rows
+
+  pub each-named : (store : Store) (q : Place) → In q (chosen_places (nodes_in (kids_of l)) chosen) → Named' (named_places d request (layout_of l) store) q
+  each-named store q m =
+      let f : first_fault l (struct_type plan.fields NonNullable) ≡ None = subst (λ z. first_fault l z ≡ None) plan.is_struct form in
+      let m' : In q (chosen_places (nodes_in (kids_of l)) (flags_of (field_count plan.fields) (places_of plan.fields request.projection))) =
+      subst (λ fl. In q (chosen_places (nodes_in (kids_of l)) fl)) (plan.chosen_are ∙ ap (flags_of (field_count plan.fields)) plan.places_are) m in
+      subst (λ z. Named' (named_places z request (layout_of l) store) q) (sym plan.is_struct)
+      (chosen-named plan.fields request l store plan.plain (chooses request.projection plan.choice) (subst (λ z. bind_fault z request.projection ≡ None) plan.is_struct plan.typed) all f (plain_form l plan.fields plan.plain f) q m')
+
+  -- ---- what it gives
+  single : (file i : ℕ) (store : Store) → row_items d request file l store i ≡ row_item (record { scope = d; expr = request.projection }) file l store i ∷ []
+  single file i store =
+      ap (λ o. map {B = Item} (λ v. record { file = file; row = i; value = v })
+      (let tests = map (λ e. eval d e (row_value l store i) i) (filter_conjuncts o) in cond (list_any drops tests) [] (finding tests (eval d request.projection (row_value l store i) i) ∷ []))) all.filter
+
+  flat-one : {A B : Type 0} (f : A → List B) (g : A → B) (xs : List A) → ((x : A) → f x ≡ g x ∷ []) → flat_map f xs ≡ map g xs
+  flat-one f g [] h = refl
+  flat-one f g (x ∷ xs) h = ap (λ ys. ys ++ flat_map f xs) (h x) ∙ ap (λ ys. g x ∷ ys) (flat-one f g xs h)
+
+  pub part-is : (file : ℕ) (store : Store) → part_of d request file store (layout_of l) ≡ map (row_item b file l store) (range_with_len 0 (rows_of l))
+  part-is file store =
+      ap (λ t. cond t (flat_map (row_items d request file l store) (picked_rows request.row_range request.selection (rows_of l))) (record { file = file; row = 0; value = None } ∷ [])) (good d request l form all)
+      ∙ ap (λ r. flat_map (row_items d request file l store) (picked_rows r request.selection (rows_of l))) all.range
+      ∙ ap (λ s. flat_map (row_items d request file l store) (picked_rows None s (rows_of l))) all.selection
+      ∙ ap (flat_map (row_items d request file l store)) (picked-all (rows_of l))
+      ∙ flat-one (row_items d request file l store) (row_item (record { scope = d; expr = request.projection }) file l store) (range_with_len 0 (rows_of l)) (λ i. single file i store)
+      ∙ ap (λ (z : Bound). map (row_item z file l store) (range_with_len 0 (rows_of l))) (sym plan.bound)
+
+-- ---- files
+module _ {O S : Type 0} (opener : O → OpenerState) (source : S → SourceState) (d : DataType) (request : ScanRequest) (b : Bound) (places : List ℕ) (chosen : List Bool) (plan : IsPlan d request b places chosen) where
+  -- the opener alone was called
+  pub opened_moves : (old : ScanFile O S) (o : O) → Opens (opener old.opener) (opener o) → FileMoves opener source d request old (record old { opener = o })
+  opened_moves old o p = record {
+    source_id = refl;
+    gives = p.gives;
+    opener_faults = p.faults;
+    polled = p.polled;
+    holds = refl;
+    source_faults = omega arith;
+    live = refl;
+    ids = [];
+    asked = sym (append-nil _);
+    among = All-nil (λ id. IfTold (opener old.opener).gives (source old.source).holds (λ g store. Contains (named d request g store) id));
+  }
+
+  may : (gives : Option Given) (holds : Option Store) (l : Layout) (ps : List Place) (id : ℕ) → IfSome gives (λ g. g ≡ layout_of l) → ((store : Store) (q : Place) → In q ps → Named' (named_places d request (layout_of l) store) q) → IsIdOf ps id → IfTold gives holds (λ g store. Contains (named d request g store) id)
+  may None holds l ps id e h w = tt
+  may (Some g) None l ps id e h w = tt
+  may (Some g) (Some store) l ps id e h w = subst (λ z. Contains (named d request z store) id) (sym e) (id-named d request (layout_of l) store ps id (h store) w)
+
+  may-bad : (gives : Option Given) (holds : Option Store) (l : Layout) (ps : List Place) (id : ℕ) → IfSome gives (λ g. g ≡ layout_of l) → ((store : Store) (q : Place) → In q ps → Named' (named_places d request (layout_of l) store) q) → IfSome holds (λ store. HasBad store ps id) → IfTold gives holds (λ g store. HasBad store (named_places d request g store) id)
+  may-bad None holds l ps id e h w = tt
+  may-bad (Some g) None l ps id e h w = tt
+  may-bad (Some g) (Some store) l ps id e h w = subst (λ z. HasBad store (named_places d request z store) id) (sym e) (bad-named d request (layout_of l) store ps id (h store) w)
+
+  is-read : (gives : Option Given) (l : Layout) → IfSome gives (λ g. g ≡ layout_of l) → first_fault l d ≡ None → IfSome gives (IsRead d)
+  is-read None l e f = tt
+  is-read (Some g) l e f = subst (IsRead d) (sym e) (well_typed l d f, f)
+
+  pub layout_moves : (old : ScanFile O S) (o : O) (s : S) (l : Layout) → Opens (opener old.opener) (opener o) → IfSome (opener old.opener).gives (λ g. g ≡ layout_of l) → first_fault l d ≡ None → (source old.source).live ≡ [] → Reads (chosen_places (nodes_in (kids_of l)) chosen) (source old.source) (source s) → FileMoves opener source d request old (record old { opener = o; source = s })
+  layout_moves old o s l p e f idle r = record {
+    source_id = refl;
+    gives = p.gives;
+    opener_faults = p.faults;
+    polled = p.polled;
+    holds = r.asks.holds;
+    source_faults = r.asks.faults;
+    live = r.asks.live ∙ sym idle;
+    ids = r.ids;
+    asked = r.asks.asked;
+    among = All-weaker (IsIdOf (chosen_places (nodes_in (kids_of l)) chosen)) (λ id. IfTold (opener old.opener).gives (source old.source).holds (λ g store. Contains (named d request g store) id))
+        (λ id w. may (opener old.opener).gives (source old.source).holds l (chosen_places (nodes_in (kids_of l)) chosen) id e (each-named d request b places chosen l plan f) w) r.ids r.among;
+  }
+
+  -- a layout of another dtype, or not well-formed, is a fault of its file
+  pub fault-cause : (old : ScanFile O S) (o : O) (l : Layout) (file : ℕ) (x : ScanFault) → IfSome (opener old.opener).gives (λ g. g ≡ layout_of l) → IsChecked file d l (Some x) → IsFileCause opener source d request old (record old { opener = o }) x
+  fault-cause old o l file (fault.DTypeMismatch place) e h = (told-layout (opener old.opener).gives l (IsOfOtherType d) e h.1, refl)
+  fault-cause old o l file (fault.Layout place f) e h = (told-layout (opener old.opener).gives l (IsIllFormed d f) e (h.1, h.2), refl)
+  fault-cause old o l file fault.NoMemory e h = absurd h
+  fault-cause old o l file (fault.Opener place) e h = absurd h
+  fault-cause old o l file (fault.Source place id) e h = absurd h
+  fault-cause old o l file (fault.Bind f) e h = absurd h
+  fault-cause old o l file fault.Partitions e h = absurd h
+  fault-cause old o l file (fault.RowRange f) e h = absurd h
+  fault-cause old o l file (fault.Corrupt place id) e h = absurd h
+  fault-cause old o l file (fault.TooManyRows place) e h = absurd h
+  fault-cause old o l file fault.Concurrency e h = absurd h
+  fault-cause old o l file fault.NotBuilt e h = absurd h
+
+  -- a skipped file has no rows
+  pub skip_given : (old : ScanFile O S) (file : ℕ) → IfSome (opener old.opener).gives (λ g. g ≡ skip) → Tells opener source old → items_in None ≡ part_of d request file (told_file opener source old).store (told_file opener source old).given
+  skip_given old file e t = go (opener old.opener).gives e t.gives where
+    go : (gives : Option Given) → IfSome gives (λ g. g ≡ skip) → IsSome gives → items_in None ≡ part_of d request file (told_file opener source old).store (unwrap_or gives skip)
+    go None e p = cc
+    go (Some g) e p = ap (part_of d request file (told_file opener source old).store) (sym e)
+
+  pub layout_given : (old : ScanFile O S) (l : Layout) (file : ℕ) (c : Option ChunkData) → IfSome (opener old.opener).gives (λ g. g ≡ layout_of l) → first_fault l d ≡ None → IsScanned (source old.source).holds l b file c → Tells opener source old → items_in c ≡ part_of d request file (told_file opener source old).store (told_file opener source old).given
+  layout_given old l file c e f w t = go (opener old.opener).gives (source old.source).holds e w.items t.gives t.holds where
+    go : (gives : Option Given) (holds : Option Store) → IfSome gives (λ g. g ≡ layout_of l) → IfSome holds (λ store. items_in c ≡ map (row_item b file l store) (range_with_len 0 (rows_of l))) → IsSome gives → IsSome holds → items_in c ≡ part_of d request file (unwrap_or holds (λ id. None)) (unwrap_or gives skip)
+    go None holds e h p q = cc
+    go (Some g) None e h p q = cc
+    go (Some g) (Some store) e h p q = h ∙ sym (part-is d request b places chosen l plan f file store) ∙ ap (part_of d request file store) (sym e)
+
+  pub layout_cause : (old : ScanFile O S) (o : O) (s : S) (l : Layout) (file : ℕ) (x : ScanFault) → IfSome (opener old.opener).gives (λ g. g ≡ layout_of l) → first_fault l d ≡ None → IsPlacedFault file (chosen_places (nodes_in (kids_of l)) chosen) (source old.source) (source s) x → IsFileCause opener source d request old (record old { opener = o; source = s }) x
+  layout_cause old o s l file x e f w = subst (IsFileCause opener source d request old (record old { opener = o; source = s })) (sym w.is) (go w.fault w.why) where
+    go : (r : ReadFault) → IsReadFault (chosen_places (nodes_in (kids_of l)) chosen) (source old.source) (source s) r → IsFileCause opener source d request old (record old { opener = o; source = s }) (placed file r)
+    go (read.Corrupt id) h = (may-bad (opener old.opener).gives (source old.source).holds l (chosen_places (nodes_in (kids_of l)) chosen) id e (each-named d request b places chosen l plan f) h.0, record { read = is-read (opener old.opener).gives l e f; asked = h.1 })
+    go (read.Source id) h = (h.0, record { read = is-read (opener old.opener).gives l e f; asked = h.1 })
+    go read.NoMemory h = tt
+
+pub layout_names : (file : ℕ) (ps : List Place) (a b : SourceState) (x : ScanFault) → IsPlacedFault file ps a b x → NamesFile file x
+layout_names file ps a b x w = subst (NamesFile file) (sym w.is) (go w.fault) where
+  go : (r : ReadFault) → NamesFile file (placed file r)
+  go (read.Corrupt id) = refl
+  go (read.Source id) = refl
+  go read.NoMemory = tt

@@ -1,0 +1,14 @@
+pub mod Opener
+pub mod OpenerMemory
+pub mod Fetch
+pub mod Places
+pub mod Columns
+pub mod Read
+pub mod Choice
+pub mod Answer
+pub mod Output
+pub mod Named
+pub mod Served
+pub mod Plan
+pub mod Causes
+pub mod Valid
