@@ -1,0 +1,169 @@
+-- What a run has done at each of its ends: other words, the lines written, a write that failed, no memory, and an end before anything is written.
+use Rattle.std.proofs.Common.{Err, refl, sym, ap, ◌∙◌, inl, inr, arith}
+use Rattle.scan_run.proofs.Running.{end_done, end_words, end_refused, end_unbound, end_unreadable, end_io, end_below, ready_done, ready_front}
+use Rattle.scan_run.proofs.run.run.Goals as goal
+
+pub returns-then-not-is_scan-clause-done : goal.returns-then-not-is_scan-clause-done
+returns-then-not-is_scan-clause-done g c = λ e. absurd (omega arith)
+
+pub returns-then-not-is_scan-clause-words : goal.returns-then-not-is_scan-clause-words
+returns-then-not-is_scan-clause-words g c = (λ e. sym c.is_scan.ensures ∙ c.if-not-is_scan.true, λ h. refl)
+
+pub returns-then-not-is_scan-clause-unread : goal.returns-then-not-is_scan-clause-unread
+returns-then-not-is_scan-clause-unread g c = λ e. refl
+
+pub returns-then-not-is_scan-clause-refused : goal.returns-then-not-is_scan-clause-refused
+returns-then-not-is_scan-clause-refused g c = λ e. absurd (omega arith)
+
+pub returns-then-not-is_scan-clause-unbound : goal.returns-then-not-is_scan-clause-unbound
+returns-then-not-is_scan-clause-unbound g c = λ e. absurd (omega arith)
+
+pub returns-then-not-is_scan-clause-unreadable : goal.returns-then-not-is_scan-clause-unreadable
+returns-then-not-is_scan-clause-unreadable g c = λ e. absurd (omega arith)
+
+pub returns-then-not-is_scan-clause-io : goal.returns-then-not-is_scan-clause-io
+returns-then-not-is_scan-clause-io g c = λ e. absurd (omega arith)
+
+pub returns-then-not-is_scan-clause-nothing : goal.returns-then-not-is_scan-clause-nothing
+returns-then-not-is_scan-clause-nothing g c = λ h k. refl
+
+pub returns-then-not-is_scan-clause-unwritten : goal.returns-then-not-is_scan-clause-unwritten
+returns-then-not-is_scan-clause-unwritten g c = λ e. absurd (omega arith)
+
+pub returns-then-not-is_scan-clause-front : goal.returns-then-not-is_scan-clause-front
+returns-then-not-is_scan-clause-front g c = inl refl
+
+pub returns-then-not-is_scan-clause-statuses : goal.returns-then-not-is_scan-clause-statuses
+returns-then-not-is_scan-clause-statuses g c = omega arith
+
+pub returns-in-Ok-write_all-clause-done : goal.returns-in-Ok-write_all-clause-done
+returns-in-Ok-write_all-clause-done g c = λ e. ready_done c.in-Ok.text.items c.as_slice.result.now (g.I.Input.input c.args.input.now) (g.I.Input.input c.take_text.new.input) (g.O.Output.output c.args.output.now) (g.O.Output.output c.write_all.new.output) c.as_slice.ensures.value c.in-Ok.ensures.ok c.in-Ok-write_all.ensures.ok
+
+pub returns-in-Ok-write_all-clause-words : goal.returns-in-Ok-write_all-clause-words
+returns-in-Ok-write_all-clause-words g c = (λ e. absurd (omega arith), λ h. cc (c.is_scan.ensures, c.if-not-is_scan.false))
+
+pub returns-in-Ok-write_all-clause-unread : goal.returns-in-Ok-write_all-clause-unread
+returns-in-Ok-write_all-clause-unread g c = λ e. absurd (omega arith)
+
+pub returns-in-Ok-write_all-clause-refused : goal.returns-in-Ok-write_all-clause-refused
+returns-in-Ok-write_all-clause-refused g c = λ e. absurd (omega arith)
+
+pub returns-in-Ok-write_all-clause-unbound : goal.returns-in-Ok-write_all-clause-unbound
+returns-in-Ok-write_all-clause-unbound g c = λ e. absurd (omega arith)
+
+pub returns-in-Ok-write_all-clause-unreadable : goal.returns-in-Ok-write_all-clause-unreadable
+returns-in-Ok-write_all-clause-unreadable g c = λ e. absurd (omega arith)
+
+pub returns-in-Ok-write_all-clause-io : goal.returns-in-Ok-write_all-clause-io
+returns-in-Ok-write_all-clause-io g c = λ e. absurd (omega arith)
+
+pub returns-in-Ok-write_all-clause-nothing : goal.returns-in-Ok-write_all-clause-nothing
+returns-in-Ok-write_all-clause-nothing g c = λ h k. absurd (omega arith)
+
+pub returns-in-Ok-write_all-clause-unwritten : goal.returns-in-Ok-write_all-clause-unwritten
+returns-in-Ok-write_all-clause-unwritten g c = λ e. absurd (omega arith)
+
+pub returns-in-Ok-write_all-clause-front : goal.returns-in-Ok-write_all-clause-front
+returns-in-Ok-write_all-clause-front g c = ready_front c.in-Ok.text.items c.as_slice.result.now (g.I.Input.input c.args.input.now) (g.I.Input.input c.take_text.new.input) (g.O.Output.output c.args.output.now) (g.O.Output.output c.write_all.new.output) c.as_slice.ensures.value c.in-Ok.ensures.ok c.write_all.ensures.front
+
+pub returns-in-Ok-write_all-clause-statuses : goal.returns-in-Ok-write_all-clause-statuses
+returns-in-Ok-write_all-clause-statuses g c = omega arith
+
+pub returns-in-Err-Failed-clause-done : goal.returns-in-Err-Failed-clause-done
+returns-in-Err-Failed-clause-done g c = λ e. absurd (omega arith)
+
+pub returns-in-Err-Failed-clause-words : goal.returns-in-Err-Failed-clause-words
+returns-in-Err-Failed-clause-words g c = (λ e. absurd (omega arith), λ h. cc (c.is_scan.ensures, c.if-not-is_scan.false))
+
+pub returns-in-Err-Failed-clause-unread : goal.returns-in-Err-Failed-clause-unread
+returns-in-Err-Failed-clause-unread g c = λ e. absurd (omega arith)
+
+pub returns-in-Err-Failed-clause-refused : goal.returns-in-Err-Failed-clause-refused
+returns-in-Err-Failed-clause-refused g c = λ e. absurd (omega arith)
+
+pub returns-in-Err-Failed-clause-unbound : goal.returns-in-Err-Failed-clause-unbound
+returns-in-Err-Failed-clause-unbound g c = λ e. absurd (omega arith)
+
+pub returns-in-Err-Failed-clause-unreadable : goal.returns-in-Err-Failed-clause-unreadable
+returns-in-Err-Failed-clause-unreadable g c = λ e. absurd (omega arith)
+
+pub returns-in-Err-Failed-clause-io : goal.returns-in-Err-Failed-clause-io
+returns-in-Err-Failed-clause-io g c = λ e. inl (inr (c.in-Err-Failed.ensures.failed (ap Err c.in-Err-Failed.field-0-is)))
+
+pub returns-in-Err-Failed-clause-nothing : goal.returns-in-Err-Failed-clause-nothing
+returns-in-Err-Failed-clause-nothing g c = λ h k. absurd (omega arith)
+
+pub returns-in-Err-Failed-clause-unwritten : goal.returns-in-Err-Failed-clause-unwritten
+returns-in-Err-Failed-clause-unwritten g c = λ e. inl (c.in-Err-Failed.ensures.failed (ap Err c.in-Err-Failed.field-0-is))
+
+pub returns-in-Err-Failed-clause-front : goal.returns-in-Err-Failed-clause-front
+returns-in-Err-Failed-clause-front g c = ready_front c.in-Ok.text.items c.as_slice.result.now (g.I.Input.input c.args.input.now) (g.I.Input.input c.take_text.new.input) (g.O.Output.output c.args.output.now) (g.O.Output.output c.write_all.new.output) c.as_slice.ensures.value c.in-Ok.ensures.ok c.write_all.ensures.front
+
+pub returns-in-Err-Failed-clause-statuses : goal.returns-in-Err-Failed-clause-statuses
+returns-in-Err-Failed-clause-statuses g c = omega arith
+
+pub returns-in-Ok-clause-done : goal.returns-in-Ok-clause-done
+returns-in-Ok-clause-done g c = λ e. absurd (omega arith)
+
+pub returns-in-Ok-clause-words : goal.returns-in-Ok-clause-words
+returns-in-Ok-clause-words g c = (λ e. absurd (omega arith), λ h. cc (c.is_scan.ensures, c.if-not-is_scan.false))
+
+pub returns-in-Ok-clause-unread : goal.returns-in-Ok-clause-unread
+returns-in-Ok-clause-unread g c = λ e. absurd (omega arith)
+
+pub returns-in-Ok-clause-refused : goal.returns-in-Ok-clause-refused
+returns-in-Ok-clause-refused g c = λ e. absurd (omega arith)
+
+pub returns-in-Ok-clause-unbound : goal.returns-in-Ok-clause-unbound
+returns-in-Ok-clause-unbound g c = λ e. absurd (omega arith)
+
+pub returns-in-Ok-clause-unreadable : goal.returns-in-Ok-clause-unreadable
+returns-in-Ok-clause-unreadable g c = λ e. absurd (omega arith)
+
+pub returns-in-Ok-clause-io : goal.returns-in-Ok-clause-io
+returns-in-Ok-clause-io g c = λ e. absurd (omega arith)
+
+pub returns-in-Ok-clause-nothing : goal.returns-in-Ok-clause-nothing
+returns-in-Ok-clause-nothing g c = λ h k. absurd (omega arith)
+
+pub returns-in-Ok-clause-unwritten : goal.returns-in-Ok-clause-unwritten
+returns-in-Ok-clause-unwritten g c = λ e. absurd (omega arith)
+
+pub returns-in-Ok-clause-front : goal.returns-in-Ok-clause-front
+returns-in-Ok-clause-front g c = ready_front c.in-Ok.text.items c.as_slice.result.now (g.I.Input.input c.args.input.now) (g.I.Input.input c.take_text.new.input) (g.O.Output.output c.args.output.now) (g.O.Output.output c.write_all.new.output) c.as_slice.ensures.value c.in-Ok.ensures.ok c.write_all.ensures.front
+
+pub returns-in-Ok-clause-statuses : goal.returns-in-Ok-clause-statuses
+returns-in-Ok-clause-statuses g c = omega arith
+
+pub returns-clause-done : goal.returns-clause-done
+returns-clause-done g c = λ e. absurd (end_done c.in-Err.status (g.I.Input.input c.args.input.now) (g.I.Input.input c.take_text.new.input) c.in-Err.ensures.end e)
+
+pub returns-clause-words : goal.returns-clause-words
+returns-clause-words g c = (λ e. absurd (end_words c.in-Err.status (g.I.Input.input c.args.input.now) (g.I.Input.input c.take_text.new.input) c.in-Err.ensures.end e), λ h. cc (c.is_scan.ensures, c.if-not-is_scan.false))
+
+pub returns-clause-unread : goal.returns-clause-unread
+returns-clause-unread g c = λ e. absurd (end_words c.in-Err.status (g.I.Input.input c.args.input.now) (g.I.Input.input c.take_text.new.input) c.in-Err.ensures.end e)
+
+pub returns-clause-refused : goal.returns-clause-refused
+returns-clause-refused g c = end_refused c.in-Err.status (g.I.Input.input c.args.input.now) (g.I.Input.input c.take_text.new.input) c.in-Err.ensures.end
+
+pub returns-clause-unbound : goal.returns-clause-unbound
+returns-clause-unbound g c = end_unbound c.in-Err.status (g.I.Input.input c.args.input.now) (g.I.Input.input c.take_text.new.input) c.in-Err.ensures.end
+
+pub returns-clause-unreadable : goal.returns-clause-unreadable
+returns-clause-unreadable g c = end_unreadable c.in-Err.status (g.I.Input.input c.args.input.now) (g.I.Input.input c.take_text.new.input) c.in-Err.ensures.end
+
+pub returns-clause-io : goal.returns-clause-io
+returns-clause-io g c = end_io c.in-Err.status (g.I.Input.input c.args.input.now) (g.I.Input.input c.take_text.new.input) (g.O.Output.output c.args.output.now) (g.O.Output.output c.args.output.now) c.in-Err.ensures.end
+
+pub returns-clause-nothing : goal.returns-clause-nothing
+returns-clause-nothing g c = λ h k. refl
+
+pub returns-clause-unwritten : goal.returns-clause-unwritten
+returns-clause-unwritten g c = λ e. inr refl
+
+pub returns-clause-front : goal.returns-clause-front
+returns-clause-front g c = inl refl
+
+pub returns-clause-statuses : goal.returns-clause-statuses
+returns-clause-statuses g c = end_below c.in-Err.status (g.I.Input.input c.args.input.now) (g.I.Input.input c.take_text.new.input) c.in-Err.ensures.end

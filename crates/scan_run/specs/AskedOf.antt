@@ -1,0 +1,9 @@
+-- What a manifest asks of its files.
+use Rattle.std.specs.Prelude.{◌≡◌}
+use Rattle.scan_run.specs.declared.manifest.Manifest.{Manifest}
+use Rattle.scan_run.specs.declared.run.Asked.{Asked}
+
+pub record IsAsked (m : Manifest) (a : Asked) : Type 0 where
+  pub dtype : m.dtype ≡ a.dtype
+  pub request : m.request ≡ a.request
+  pub workers : m.workers ≡ a.workers

@@ -1,0 +1,20 @@
+-- What an input and an output are.
+use Rattle.std.specs.Prelude.{ℕ, List, Option}
+use Rattle.scan_segments.specs.Faults.{Rose}
+
+pub record InputState : Type 0 where
+  -- the bytes still to come, where it tells
+  pub left : Option (List ℕ)
+  -- how many bytes it gave, how often it was at its end, how often it failed: each up to the greatest number that is kept
+  pub taken : ℕ
+  pub ends : ℕ
+  pub faults : ℕ
+
+pub record OutputState : Type 0 where
+  -- the bytes that it took, where it tells
+  pub written : Option (List ℕ)
+  pub faults : ℕ
+
+-- the input was read to its end
+abbrev pub WasRead : InputState → InputState → Type 0
+WasRead old new = Rose old.ends new.ends

@@ -1,0 +1,107 @@
+-- What a run of the program does.
+use Rattle.std.specs.Prelude.{◌≡◌, ◌≢◌, ℕ, List, [], ◌∷◌, ◌++◌, length, map, Bool, false, Option, None, Some, IfSome, option_map, Contains, if◌then◌else◌, codes}
+use Rattle.std.specs.Str.{bytes_eq}
+use Rattle.std.specs.List.{flat_map}
+use Rattle.std.specs.Ordering.{nat_cmp}
+use Rattle.std.specs.FinMap as store_map
+use Rattle.scan_segments.specs.Source.{Store}
+use Rattle.scan_values.specs.DataType.{DataType}
+use Rattle.scan_values.specs.Val.{Val}
+use Rattle.scan_expr.specs.Infer.{infer}
+use Rattle.scan_multi.specs.Opener.{Given, skip, layout_of}
+use Rattle.scan_multi.specs.Answer.{Item, ToldFile, answer}
+use Rattle.scan_multi.specs.Output.{ChunkData, Admits, given}
+use Rattle.scan_multi.specs.Served.{early_fault, first_request_fault, is_built}
+use Rattle.scan_multi.specs.Causes.{IsOfOtherType, IsIllFormed}
+use Rattle.scan_multi.specs.Places.{HasBad}
+use Rattle.scan_multi.specs.Named.{named_places}
+use Rattle.scan_multi.specs.declared.scan.files.ScanFault.TheVariants as fault
+use Rattle.scan_expr.specs.declared.op.BindFault.{BindFault}
+use Rattle.scan_layout.specs.declared.fault.LayoutFault.{LayoutFault}
+use Rattle.scan_run.specs.Io.{InputState, OutputState, WasRead}
+use Rattle.scan_run.specs.declared.manifest.FileSpec.{FileSpec}
+use Rattle.scan_run.specs.declared.manifest.Manifest.{Manifest}
+use Rattle.scan_run.specs.Manifest.{IsManifest}
+use Rattle.scan_run.specs.Line.{line_of}
+
+-- the words are `scan` alone
+abbrev pub is_scan_words : List (List ℕ) → Bool
+is_scan_words [] = false
+is_scan_words (w ∷ []) = bytes_eq w (codes "scan")
+is_scan_words (w ∷ v ∷ ws) = false
+
+-- the segments, by their ids
+abbrev pub store_of : List (ℕ × List ℕ) → Store
+store_of segments = λ id. store_map.get {R = nat_cmp} (store_map.from_entries segments) id
+
+abbrev pub given_by : FileSpec → Given
+given_by f = if f.skip then skip else layout_of f.layout
+
+-- what a file of a manifest tells
+abbrev pub told_by : FileSpec → ToldFile
+told_by f = record { given = given_by f; store = store_of f.segments }
+
+-- the rows that the manifest asks for
+abbrev pub answer_of : Manifest → List Item
+answer_of m = answer m.dtype m.request (map told_by m.files)
+
+abbrev pub item_line : DataType → ℕ → ℕ → Option Val → List ℕ
+item_line d file row None = []
+item_line d file row (Some v) = line_of d file row v
+
+-- the lines of rows of this dtype
+abbrev pub lines_of : DataType → List Item → List ℕ
+lines_of d items = flat_map (λ item. item_line d item.file item.row item.value) items
+
+-- what some chunks of a manifest's rows print
+abbrev pub printed : Manifest → List ChunkData → List ℕ
+printed m chunks = lines_of (infer m.dtype m.request.projection) (given chunks)
+
+-- a manifest whose request the checks let pass, and an output that it admits
+pub record IsScanned (m : Manifest) (chunks : List ChunkData) : Type 0 where
+  pub passes : first_request_fault m.workers m.dtype m.request ≡ None
+  pub admits : Admits m.dtype m.request (answer_of m) chunks
+
+-- The input was read to its end and is a manifest. The lines of an output that it admits were written, and nothing else.
+pub record IsDone (input input' : InputState) (output output' : OutputState) : Type 0 where
+  pub read : WasRead input input'
+  pub manifest : Manifest
+  pub is : IfSome input.left (λ bytes. IsManifest bytes manifest)
+  pub chunks : List ChunkData
+  pub scanned : IsScanned manifest chunks
+  pub written : output'.written ≡ option_map (λ before. before ++ printed manifest chunks) output.written
+
+-- a manifest whose scan is not served: of another number of files, or of another form
+pub data IsUnserved (m : Manifest) : Type 0 where
+  of_files : length m.files ≢ 1 → IsUnserved m
+  of_form : is_built m.workers (length m.files) m.dtype m.request ≡ false → IsUnserved m
+
+-- the input was read to its end, and is no manifest, or one whose scan is not served
+pub record IsRefused (input input' : InputState) : Type 0 where
+  pub read : WasRead input input'
+  pub is : IfSome input.left (λ bytes. (m : Manifest) → IsManifest bytes m → IsUnserved m)
+
+-- the input was read to its end, and is a manifest with this fact
+pub record IsFound (input input' : InputState) (P : Manifest → Type 0) : Type 0 where
+  pub read : WasRead input input'
+  pub manifest : Manifest
+  pub is : IfSome input.left (λ bytes. IsManifest bytes manifest)
+  pub fact : P manifest
+
+-- the request does not bind
+abbrev pub IsUnbound : Manifest → Type 0
+IsUnbound m = (f : BindFault) × (early_fault m.workers (length m.files) m.dtype m.request ≡ Some (fault.Bind f))
+
+-- what is wrong with a file: its layout is of another dtype, or not well-formed, or a named segment is missing or damaged
+pub data IsBadFile (m : Manifest) (f : FileSpec) : Type 0 where
+  of_type : IsOfOtherType m.dtype (given_by f) → IsBadFile m f
+  of_layout : (fault : LayoutFault) → IsIllFormed m.dtype fault (given_by f) → IsBadFile m f
+  of_segment : (id : ℕ) → HasBad (store_of f.segments) (named_places m.dtype m.request (given_by f) (store_of f.segments)) id → IsBadFile m f
+
+-- a file can't be read
+abbrev pub IsUnreadable : Manifest → Type 0
+IsUnreadable m = (f : FileSpec) × Contains m.files f × IsBadFile m f
+
+-- nothing was written
+abbrev pub WroteNone : OutputState → OutputState → Type 0
+WroteNone old new = new.written ≡ old.written

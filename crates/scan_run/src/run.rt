@@ -1,0 +1,315 @@
+// The program's run, over any input and output.
+ghost use Rattle.std.specs.Prelude.{◌≡◌, ◌≢◌, ◌⊎◌, ◌↔◌, ◌<◌, [], ◌∷◌, List, length, map, string_bytes, false, IfOk, IfErr, Some, None, if◌then◌else◌};
+ghost use Rattle.scan_segments.specs.Faults.{Rose};
+ghost use Rattle.scan_multi.specs.Opener.{skip, layout_of};
+ghost use Rattle.scan_multi.specs.OpenerMemory.{given_of};
+ghost use Rattle.scan_multi.specs.Output.{ChunkData};
+ghost use Rattle.scan_multi.specs.declared.scan.files.ScanFault.TheVariants as fault;
+ghost use Rattle.scan_run.specs.ReadAll.{TookMore};
+ghost use Rattle.scan_run.specs.Run.{is_scan_words, IsScanned, printed, IsDone, IsUnserved, IsRefused, IsFound, IsUnbound, IsUnreadable, WroteNone};
+ghost use Rattle.scan_run.specs.Printed.{chunks_lines};
+ghost use Rattle.scan_run.specs.Stops.{stop_of, status_of, IsStop, IsTextOf, WroteFrontOfLines, IsGiven, Halts, IsReady, Ends};
+ghost use Rattle.scan_run.specs.FileOf.{IsFileOf, AreFilesOf};
+ghost use Rattle.scan_run.specs.AskedOf.{IsAsked};
+ghost use Rattle.scan_run.specs.declared.manifest.FileSpec.{FileSpec};
+ghost use Rattle.scan_run.specs.declared.manifest.Manifest.{Manifest};
+
+use crate::input::{Input, MOST_BYTES, ReadFault, read_all};
+use crate::json::ParseFault;
+use crate::manifest::{FileSpec, Files, LayoutTree, Manifest, parse_manifest};
+use crate::output::{Output, WriteFault, write_all};
+use crate::print::push_chunks;
+use scan_expr::ScanRequest;
+use scan_layout::LayoutRef;
+use scan_multi::{Gate, MemoryOpener, ScanFault, ScanFile, ScanOutput, scan_files};
+use scan_segments::{MemorySource, NoOpSegmentCache, SegmentSourceId};
+use scan_values::{DType, NoMemory};
+use std::alloc::Global;
+use std::thread::Threads;
+
+fn is_scan(words: &[String]) -> bool
+    ensures { result ≡ is_scan_words (map string_bytes words.now) }
+{
+    match words {
+        [word] => word.as_str() == "scan",
+        _ => false,
+    }
+}
+
+fn gives_of(skipped: bool, layout: LayoutTree) -> Option<LayoutRef>
+    ensures { given_of result ≡ (if skipped then skip else layout_of layout) }
+{
+    if skipped {
+        None
+    } else {
+        Some(layout.into_root())
+    }
+}
+
+/// The objects in memory that a file of a manifest tells.
+fn make_file(
+    alloc: Global,
+    spec: FileSpec,
+) -> Result<ScanFile<MemoryOpener, MemorySource>, NoMemory>
+    ensures { IfOk result (λ f. IsFileOf spec f) }
+{
+    let FileSpec {
+        id,
+        layout,
+        segments,
+        skip,
+        opener: calls,
+        source,
+    } = spec;
+    let opener = MemoryOpener::new(gives_of(skip, layout), calls.fail, calls.pending);
+    let source = MemorySource::new(alloc, segments.into_map(), source.fail, source.pending);
+    let id = String::from_str(alloc, id.as_str())?;
+    let source_id = SegmentSourceId::new(alloc, id)?;
+    Ok(ScanFile {
+        opener,
+        source,
+        source_id,
+    })
+}
+
+/// Why a run stops before it prints.
+#[derive(Clone, Copy, Debug, PartialEq, Eq)]
+enum Stop {
+    Unserved,
+    Unbound,
+    Unreadable,
+    Failed,
+    NoMemory,
+}
+
+fn stop_of(e: ScanFault) -> Stop
+    ensures { result ≡ stop_of e }
+{
+    match e {
+        ScanFault::NoMemory => Stop::NoMemory,
+        ScanFault::Opener { file: _ } => Stop::Failed,
+        ScanFault::Source {
+            file: _,
+            segment: _,
+        } => Stop::Failed,
+        ScanFault::DTypeMismatch { file: _ } => Stop::Unreadable,
+        ScanFault::Bind(_) => Stop::Unbound,
+        ScanFault::Partitions => Stop::Unserved,
+        ScanFault::RowRange(_) => Stop::Unserved,
+        ScanFault::Layout { file: _, fault: _ } => Stop::Unreadable,
+        ScanFault::Corrupt {
+            file: _,
+            segment: _,
+        } => Stop::Unreadable,
+        ScanFault::TooManyRows { file: _ } => Stop::Unserved,
+        ScanFault::Concurrency => Stop::Unserved,
+        ScanFault::NotBuilt => Stop::Unserved,
+    }
+}
+
+fn status_of(stop: Stop) -> u8
+    ensures { result ≡ status_of stop }
+{
+    match stop {
+        Stop::Unserved => 2,
+        Stop::Unbound => 3,
+        Stop::Unreadable => 4,
+        Stop::Failed => 5,
+        Stop::NoMemory => 7,
+    }
+}
+
+fn one_file(
+    alloc: Global,
+    files: Files,
+) -> Result<Vec<ScanFile<MemoryOpener, MemorySource>>, NoMemory>
+    requires { length files ≡ 1 }
+    ensures { IfOk result (λ v. AreFilesOf files v.items) }
+{
+    let mut specs = files.into_vec();
+    let file = make_file(alloc, specs.remove(0))?;
+    let mut made = Vec::new(alloc);
+    made.push(file)?;
+    Ok(made)
+}
+
+/// What a manifest asks of its files.
+struct Asked {
+    dtype: DType,
+    request: ScanRequest,
+    workers: usize,
+}
+
+impl Drop for Asked {
+    fn drop(self) {
+        let Asked {
+            dtype: _,
+            request: _,
+            workers: _,
+        } = self;
+    }
+}
+
+/// The chunks of a manifest's scan.
+fn scan_manifest<R: Threads + Sync, G: Gate>(
+    rt: &R,
+    alloc: Global,
+    manifest: Manifest,
+    gate: &G,
+) -> Result<ScanOutput, Stop>
+    requires { length manifest.files ≡ 1 }
+    ensures ok { IfOk result (λ out. IsScanned manifest out.chunks) }
+    ensures stop { IfErr result (λ s. IsStop manifest s) }
+{
+    let Manifest {
+        dtype,
+        files,
+        request,
+        workers,
+        cache: _,
+    } = manifest;
+    let asked = Asked {
+        dtype,
+        request,
+        workers,
+    };
+    match one_file(alloc, files) {
+        Ok(made) => scan_made(rt, alloc, &asked, made, gate),
+        Err(NoMemory) => Err(Stop::NoMemory),
+    }
+}
+
+/// The chunks of a scan of files that were made.
+fn scan_made<R: Threads + Sync, G: Gate>(
+    rt: &R,
+    alloc: Global,
+    asked: &Asked,
+    made: Vec<ScanFile<MemoryOpener, MemorySource>>,
+    gate: &G,
+) -> Result<ScanOutput, Stop>
+    requires { (files : List FileSpec) × AreFilesOf files made.items }
+    ensures ok { IfOk result (λ out. (m : Manifest) → IsAsked m asked.now → AreFilesOf m.files made.items → IsScanned m out.chunks) }
+    ensures stop { IfErr result (λ s. (m : Manifest) → IsAsked m asked.now → AreFilesOf m.files made.items → IsStop m s) }
+{
+    let mut files = made;
+    let mut cache = NoOpSegmentCache::new();
+    match scan_files(
+        rt,
+        alloc,
+        &asked.dtype,
+        &mut files,
+        &mut cache,
+        &asked.request,
+        asked.workers,
+        gate,
+    ) {
+        Ok(out) => Ok(out),
+        Err(e) => Err(stop_of(e)),
+    }
+}
+
+/// The lines of a scan's chunks.
+fn text_of(alloc: Global, out: &ScanOutput) -> Result<Vec<u8>, NoMemory>
+    ensures { IfOk result (λ text. text.items ≡ chunks_lines out.now.chunks) }
+{
+    let mut text = Vec::new(alloc);
+    push_chunks(out.chunks.as_slice(), &mut text)?;
+    Ok(text)
+}
+
+/// The lines of a manifest's scan.
+fn scan_text<R: Threads + Sync, G: Gate>(
+    rt: &R,
+    alloc: Global,
+    manifest: Manifest,
+    gate: &G,
+) -> Result<Vec<u8>, Stop>
+    requires { length manifest.files ≡ 1 }
+    ensures ok { IfOk result (λ text. IsTextOf manifest text.items) }
+    ensures stop { IfErr result (λ s. IsStop manifest s) }
+{
+    match scan_manifest(rt, alloc, manifest, gate) {
+        Ok(out) => match text_of(alloc, &out) {
+            Ok(text) => Ok(text),
+            Err(NoMemory) => Err(Stop::NoMemory),
+        },
+        Err(stop) => Err(stop),
+    }
+}
+
+/// The manifest of an input that is read to its end, or a status.
+#[tactic(auto, using(crate::proofs::Running::refused_many))]
+fn take_manifest<I: Input>(alloc: Global, input: &mut I) -> Result<Manifest, u8>
+    ensures ok { IfOk result (λ m. IsGiven m (I.input input.old) (I.input input.new)) }
+    ensures one { IfOk result (λ m. length m.files ≡ 1) }
+    ensures halt { IfErr result (λ s. Halts s (I.input input.old) (I.input input.new)) }
+{
+    match read_all(alloc, input) {
+        Ok(bytes) => match parse_manifest(alloc, bytes.as_slice()) {
+            Ok(manifest) => Ok(manifest),
+            Err(ParseFault::Bad) => Err(2),
+            Err(ParseFault::NoMemory) => Err(7),
+        },
+        Err(ReadFault::TooLong) => Err(6),
+        Err(ReadFault::Failed) => Err(6),
+        Err(ReadFault::NoMemory) => Err(7),
+    }
+}
+
+/// The lines of the scan of the manifest that an input is, or a status.
+fn take_text<R: Threads + Sync, I: Input, G: Gate>(
+    rt: &R,
+    alloc: Global,
+    input: &mut I,
+    gate: &G,
+) -> Result<Vec<u8>, u8>
+    ensures ok { IfOk result (λ text. IsReady text.items (I.input input.old) (I.input input.new)) }
+    ensures end { IfErr result (λ s. Ends s (I.input input.old) (I.input input.new)) }
+{
+    match take_manifest(alloc, input) {
+        Ok(manifest) => match scan_text(rt, alloc, manifest, gate) {
+            Ok(text) => Ok(text),
+            Err(stop) => Err(status_of(stop)),
+        },
+        Err(status) => Err(status),
+    }
+}
+
+/// The program: it reads a manifest of one file from the input, scans it, and writes a line for each row to the output.
+/// The words are those after the program's name; `scan` alone is served. The answer is the exit status:
+/// 0 the lines were written, 1 other words, 2 the input is no manifest that is served, 3 the request does not bind,
+/// 4 a file's layout is of another dtype or not well-formed, or a segment is missing or damaged, 5 an opener or a source
+/// failed, 6 the input or the output failed or the input has more than 67,108,864 bytes, 7 want of memory.
+#[tactic(none)]
+pub fn run<R: Threads + Sync, I: Input, O: Output, G: Gate>(
+    rt: &R,
+    alloc: Global,
+    words: &[String],
+    input: &mut I,
+    output: &mut O,
+    gate: &G,
+) -> u8
+    ensures done { result ≡ 0 → IsDone (I.input input.old) (I.input input.new) (O.output output.old) (O.output output.new) }
+    ensures words { (result ≡ 1) ↔ (is_scan_words (map string_bytes words.now) ≡ false) }
+    ensures unread { result ≡ 1 → I.input input.new ≡ I.input input.old }
+    ensures refused { result ≡ 2 → IsRefused (I.input input.old) (I.input input.new) }
+    ensures unbound { result ≡ 3 → IsFound (I.input input.old) (I.input input.new) IsUnbound }
+    ensures unreadable { result ≡ 4 → IsFound (I.input input.old) (I.input input.new) IsUnreadable }
+    ensures io { result ≡ 6 → (Rose (I.input input.old).faults (I.input input.new).faults ⊎ Rose (O.output output.old).faults (O.output output.new).faults) ⊎ TookMore MOST_BYTES (I.input input.old) (I.input input.new) }
+    ensures nothing { 0 < result → result < 6 → WroteNone (O.output output.old) (O.output output.new) }
+    ensures unwritten { result ≡ 6 → Rose (O.output output.old).faults (O.output output.new).faults ⊎ WroteNone (O.output output.old) (O.output output.new) }
+    ensures front { WroteFrontOfLines (I.input input.old) (I.input input.new) (O.output output.old) (O.output output.new) }
+    ensures statuses { result < 8 }
+{
+    if !is_scan(words) {
+        return 1;
+    }
+    match take_text(rt, alloc, input, gate) {
+        Ok(text) => match write_all(output, text.as_slice()) {
+            Ok(()) => 0,
+            Err(WriteFault::Failed) => 6,
+            Err(WriteFault::NoMemory) => 7,
+        },
+        Err(status) => status,
+    }
+}
