@@ -1,0 +1,251 @@
+-- The parts and the root of an expression that is not deep are not too deep.
+use Rattle.std.proofs.Common.{◌≡◌, ℕ, ◌+◌, ◌<◌, ◌≤◌, ◌^◌, suc, Bool, true, false, cond, is_some, Some, None, List, [], ◌∷◌, ◌++◌, length, map, refl, ap, sym, subst, ◌∙◌, bytes_eq, arith, lit≤, append_assoc}
+use Rattle.std.specs.Fmt.{decimal}
+use Rattle.scan_values.specs.DataType.{DataType, Fields, field, Name, depth_of, fields_depth}
+use Rattle.scan_values.specs.declared.ptype.Nullability.TheVariants.{NonNullable}
+use Rattle.scan_values.specs.Marked.{Marked}
+use Rattle.scan_expr.specs.Bound.{Bound}
+use Rattle.scan_expr.specs.Infer.{infer, infer_all}
+use Rattle.scan_expr.specs.Expr.{Expr, root, row_index, literal, unary, binary, pack, Parts, no_parts, part}
+use Rattle.scan_expr.specs.declared.op.Unary.TheVariants.{GetItem}
+use Rattle.scan_expr.specs.declared.op.BindFault.TheVariants.{NoField}
+use Rattle.scan_expr.specs.Typing.{unless, has_field, unary_fault, binary_fault}
+use Rattle.scan_values.specs.FieldLists.{dtype_named}
+use Rattle.scan_partition.specs.declared.item.Item.{Item}
+use Rattle.scan_partition.specs.Items.{spelled, item_name, same_item, item_of, Use, no_use, one, many, use_of, IsExpanded, AreExpanded}
+use Rattle.scan_partition.specs.Partition.{Reads, Cut, Group, cut_or, cuts, all_cuts, cuts_of, count_item, added, collected, groups_of, found, step_into, step_into_all, numbered, part_of, leaf_of, leaf_or, root_of, roots_of, joined_fields, stepped_type}
+use Rattle.scan_partition.specs.Rewrite.{NodesHold, AllNodesHold}
+use Rattle.scan_partition.specs.Shallow.{NodesWithin, AllNodesWithin}
+use Rattle.scan_partition.specs.Rows.{AllPlain}
+use Rattle.scan_partition.specs.Divided.{kept, stepped, type_of_part}
+use Rattle.scan_partition.specs.Dividing.{GroupsFit}
+use Rattle.scan_partition.specs.Items.{AtMost}
+use Rattle.scan_partition.proofs.Through.{through, same_item-sound}
+use Rattle.scan_partition.proofs.Parted.{NotOne, expanded_part, whole, item_seen, cuts_around, root_seen, append_first, append_second}
+use Rattle.scan_partition.specs.Bare.{bare}
+use Rattle.scan_partition.proofs.Grouping.{found_collected}
+use Rattle.scan_partition.proofs.Names.{bytes_eq-refl}
+use Rattle.scan_partition.proofs.Typed.{NodesTyped, AllNodesTyped, ThroughTyped, AllThroughTyped, step_typed}
+use Rattle.scan_partition.proofs.Depths.{as_deep, top_within, within_fits, step_into_within, through-bare}
+
+-- ---- cuts that are not deep, each of its item alone
+abbrev pub CutOk : DataType → Reads → ℕ → Item → Expr → Type 0
+CutOk s r k i e = IsExpanded e × AtMost i (use_of e) × NodesWithin 64 s e × NodesTyped s e × ThroughTyped r k e
+
+abbrev pub CutsOk : DataType → Reads → ℕ → List Cut → Type 0
+CutsOk s r k [] = Unit {0}
+CutsOk s r k (c ∷ cs) = CutOk s r k c.0 c.1 × CutsOk s r k cs
+
+oks_append : (s : DataType) (r : Reads) (k : ℕ) (cs ds : List Cut) → CutsOk s r k cs → CutsOk s r k ds → CutsOk s r k (cs ++ ds)
+oks_append s r k [] ds a b = b
+oks_append s r k (c ∷ cs) ds a b = (a.0, oks_append s r k cs ds a.1 b)
+
+oks_by : (s : DataType) (r : Reads) (k : ℕ) (w : Use) (e : Expr) (cs : List Cut) → w ≡ use_of e → IsExpanded e → NodesWithin 64 s e → NodesTyped s e → ThroughTyped r k e → (NotOne w → CutsOk s r k cs) → CutsOk s r k (cut_or w e cs)
+oks_by s r k no_use e cs u p h t g f = f tt
+oks_by s r k (one i) e cs u p h t g f = ((p, subst (AtMost i) u refl, h, t, g), tt)
+oks_by s r k many e cs u p h t g f = f tt
+
+mutual
+  pub cuts_ok : (s : DataType) (r : Reads) (k : ℕ) (e : Expr) → IsExpanded e → NodesWithin 64 s e → NodesTyped s e → ThroughTyped r k e → CutsOk s r k (cuts e)
+  cuts_ok s r k root p h t g = absurd p
+  cuts_ok s r k row_index p h t g = tt
+  cuts_ok s r k (literal d v) p h t g = tt
+  cuts_ok s r k (unary u e) p h t g =
+      oks_by s r k (use_of (unary u e)) (unary u e) (cuts e) refl p h t g
+      (λ n. cuts_ok s r k e (expanded_part (item_of u e) (use_of e) (IsExpanded e) n p) h.1 t.1 (expanded_part (item_of u e) (use_of e) ((unary_fault u (through r k e).0 ≡ None) × ThroughTyped r k e) n g).1)
+  cuts_ok s r k (binary b x y) p h t g =
+      oks_by s r k (use_of (binary b x y)) (binary b x y) (cuts x ++ cuts y) refl p h t g (λ _. oks_append s r k (cuts x) (cuts y) (cuts_ok s r k x p.0 h.1 t.1 g.1) (cuts_ok s r k y p.1 h.2 t.2 g.2))
+  cuts_ok s r k (pack ps n) p h t g = oks_by s r k (use_of (pack ps n)) (pack ps n) (all_cuts ps) refl p h t g (λ _. all_cuts_ok s r k ps p h.1 t g)
+
+  all_cuts_ok : (s : DataType) (r : Reads) (k : ℕ) (ps : Parts) → AreExpanded ps → AllNodesWithin 64 s ps → AllNodesTyped s ps → AllThroughTyped r k ps → CutsOk s r k (all_cuts ps)
+  all_cuts_ok s r k no_parts p h t g = tt
+  all_cuts_ok s r k (part n e ps) p h t g = oks_append s r k (cuts e) (all_cuts ps) (cuts_ok s r k e p.0 h.0 t.0 g.0) (all_cuts_ok s r k ps p.1 h.1 t.1 g.1)
+
+-- ---- groups
+abbrev pub AllOk : DataType → Reads → ℕ → Item → List Expr → Type 0
+AllOk s r k i [] = Unit {0}
+AllOk s r k i (e ∷ es) = CutOk s r k i e × AllOk s r k i es
+
+abbrev pub SomeOk : DataType → Reads → ℕ → Item → List Expr → Type 0
+SomeOk s r k i [] = ⊥
+SomeOk s r k i (e ∷ es) = AllOk s r k i (e ∷ es)
+
+abbrev pub GroupsOk : DataType → Reads → ℕ → List Group → Type 0
+GroupsOk s r k [] = Unit {0}
+GroupsOk s r k (g ∷ gs) = SomeOk s r k g.0 g.1 × GroupsOk s r k gs
+
+all_more : (s : DataType) (r : Reads) (k : ℕ) (i : Item) (es : List Expr) (e : Expr) → AllOk s r k i es → CutOk s r k i e → AllOk s r k i (es ++ e ∷ [])
+all_more s r k i [] e a o = (o, tt)
+all_more s r k i (x ∷ xs) e a o = (a.0, all_more s r k i xs e a.1 o)
+
+some_more : (s : DataType) (r : Reads) (k : ℕ) (i : Item) (es : List Expr) (e : Expr) → SomeOk s r k i es → CutOk s r k i e → SomeOk s r k i (es ++ e ∷ [])
+some_more s r k i [] e a o = absurd a
+some_more s r k i (x ∷ xs) e a o = (a.0, all_more s r k i xs e a.1 o)
+
+added_ok : (s : DataType) (r : Reads) (k : ℕ) (i : Item) (e : Expr) (gs : List Group) → CutOk s r k i e → GroupsOk s r k gs → GroupsOk s r k (added i e gs)
+added_ok s r k i e [] o a = ((o, tt), tt)
+added_ok s r k i e (g ∷ gs) o a = go (same_item g.0 i) (same_item-sound g.0 i) (added_ok s r k i e gs o a.1)
+  where
+    go : (b : Bool) → (b ≡ true → g.0 ≡ i) → GroupsOk s r k (added i e gs) → GroupsOk s r k (cond b ((g.0, g.1 ++ e ∷ []) ∷ gs) (g ∷ added i e gs))
+    go true h q = (some_more s r k g.0 g.1 e a.0 (subst (λ j. CutOk s r k j e) (sym (h refl)) o), a.1)
+    go false h q = (a.0, q)
+
+pub collected_ok : (s : DataType) (r : Reads) (k : ℕ) (gs : List Group) (cs : List Cut) → GroupsOk s r k gs → CutsOk s r k cs → GroupsOk s r k (collected gs cs)
+collected_ok s r k gs [] g h = g
+collected_ok s r k gs (c ∷ cs) g h = collected_ok s r k (added c.0 c.1 gs) cs (added_ok s r k c.0 c.1 gs h.0 g) h.1
+
+-- ---- parts
+abbrev AllWithin : DataType → List Expr → Type 0
+AllWithin d [] = Unit {0}
+AllWithin d (e ∷ es) = (NodesWithin 64 d e × NodesTyped d e) × AllWithin d es
+
+numbered_deep : (d : DataType) (k : ℕ) (es : List Expr) → AllWithin d es → fields_depth (infer_all d (numbered k es)) ≤ 64
+numbered_deep d k [] h = omega arith
+numbered_deep d k (e ∷ es) h = let t : depth_of (infer d e) ≤ 64 = top_within 64 d e (lit≤ tt) h.0.0 in omega (arith, numbered_deep d (k + 1) es h.1)
+
+numbered_fits : (d : DataType) (k : ℕ) (es : List Expr) → AllWithin d es → AllNodesHold d (numbered k es)
+numbered_fits d k [] h = tt
+numbered_fits d k (e ∷ es) h = (within_fits 64 d e (lit≤ tt) h.0.0 h.0.1, numbered_fits d (k + 1) es h.1)
+
+part_fits : (d : DataType) (e : Expr) (es : List Expr) → AllWithin d (e ∷ es) → NodesHold d (part_of (e ∷ es)) × (depth_of (infer d (part_of (e ∷ es))) ≤ 65)
+part_fits d e [] h = (within_fits 64 d e (lit≤ tt) h.0.0 h.0.1, omega (arith, top_within 64 d e (lit≤ tt) h.0.0))
+part_fits d e (f ∷ es) h =
+    let deep : fields_depth (infer_all d (numbered 0 (e ∷ f ∷ es))) ≤ 64 = numbered_deep d 0 (e ∷ f ∷ es) h in
+    ((omega arith, numbered_fits d 0 (e ∷ f ∷ es) h), omega arith)
+
+kept_within : (s : DataType) (r : Reads) (k : ℕ) (i : Item) (es : List Expr) → AllOk s r k i es → AllWithin s es
+kept_within s r k i [] a = tt
+kept_within s r k i (e ∷ es) a = ((a.0.2, a.0.3), kept_within s r k i es a.1)
+
+pub kept_fit : (s : DataType) (r : Reads) (k : ℕ) (gs : List Group) → GroupsOk s r k gs → GroupsFit (kept s) gs
+kept_fit s r k [] a = tt
+kept_fit s r k (g ∷ gs) a = (go g.1 a.0, kept_fit s r k gs a.1)
+  where
+    go : (es : List Expr) → SomeOk s r k g.0 es → NodesHold s (part_of es) × (depth_of (infer s (part_of es)) ≤ 65)
+    go [] b = absurd b
+    go (e ∷ es) b = part_fits s e es (kept_within s r k g.0 (e ∷ es) b)
+
+steps_numbered : (k : ℕ) (es : List Expr) → step_into_all (numbered k es) ≡ numbered k (map step_into es)
+steps_numbered k [] = refl
+steps_numbered k (e ∷ es) = ap (part (decimal k) (step_into e)) (steps_numbered (k + 1) es)
+
+pub step_part : (es : List Expr) → step_into (part_of es) ≡ part_of (map step_into es)
+step_part [] = refl
+step_part (e ∷ []) = refl
+step_part (e ∷ f ∷ es) = ap (λ ps. pack ps NonNullable) (steps_numbered 0 (e ∷ f ∷ es))
+
+steps_within : (s : DataType) (r : Reads) (k : ℕ) (i : Item) → bare (r i).0 ≡ bare (infer s (spelled i)) → (es : List Expr) → AllOk s r k i es → AllWithin (r i).0 (map step_into es)
+steps_within s r k i h [] a = tt
+steps_within s r k i h (e ∷ es) a = ((step_into_within s (r i).0 i h e a.0.0 a.0.1 a.0.2, step_typed r k i e a.0.0 a.0.1 a.0.4), steps_within s r k i h es a.1)
+
+pub step_fits : (s : DataType) (r : Reads) (k : ℕ) (i : Item) → bare (r i).0 ≡ bare (infer s (spelled i)) → (es : List Expr) → SomeOk s r k i es → NodesHold (r i).0 (step_into (part_of es)) × (depth_of (infer (r i).0 (step_into (part_of es))) ≤ 65)
+step_fits s r k i h [] a = absurd a
+step_fits s r k i h (e ∷ es) a = subst (λ x. NodesHold (r i).0 x × (depth_of (infer (r i).0 x) ≤ 65)) (sym (step_part (e ∷ es))) (part_fits (r i).0 (step_into e) (map step_into es) (steps_within s r k i h (e ∷ es) a))
+
+pub stepped_fit : (s : DataType) (w : Item → Marked) (k : ℕ) → ((i : Item) → bare (stepped s i root).scope ≡ bare (infer s (spelled i))) → (gs : List Group) → GroupsOk s (λ i. ((stepped s i root).scope, w i)) k gs → GroupsFit (stepped s) gs
+stepped_fit s w k same [] a = tt
+stepped_fit s w k same (g ∷ gs) a = (step_fits s (λ i. ((stepped s i root).scope, w i)) k g.0 (same g.0) g.1 a.0, stepped_fit s w k same gs a.1)
+
+pub joined_deep : (b : Item → Expr → Bound) (gs : List Group) → GroupsFit b gs → fields_depth (joined_fields (type_of_part b) gs) ≤ 65
+joined_deep b [] a = omega arith
+joined_deep b (g ∷ gs) a = omega (arith, a.0.1, joined_deep b gs a.1)
+
+-- ---- the root
+-- a field stands under each item's name
+has_past : (n m : Name) (d : DataType) (fs : Fields) → has_field n fs ≡ true → has_field n (field m d fs) ≡ true
+has_past n m d fs h = go (bytes_eq n m)
+  where
+    go : (b : Bool) → is_some (cond b (Some d) (dtype_named n fs)) ≡ true
+    go true = refl
+    go false = h
+
+has_here : (n : Name) (d : DataType) (fs : Fields) → has_field n (field n d fs) ≡ true
+has_here n d fs = ap (λ b. is_some (cond b (Some d) (dtype_named n fs))) (bytes_eq-refl n)
+
+joined_has : (t : Item → Expr → DataType) (i : Item) (gs : List Group) (ps : List Expr) (p : Expr) (qs : List Expr) → found i gs ≡ ps ++ (p ∷ qs) → has_field (item_name i) (joined_fields t gs) ≡ true
+joined_has t i [] ps p qs h = absurd (none ps h)
+  where
+    none : (ps : List Expr) → [] ≡ ps ++ (p ∷ qs) → ⊥
+    none [] q = cc
+    none (x ∷ xs) q = cc
+joined_has t i (g ∷ gs) ps p qs h = go (same_item g.0 i) (same_item-sound g.0 i) h (joined_has t i gs ps p qs)
+  where
+    go : (b : Bool) → (b ≡ true → g.0 ≡ i) → cond b g.1 (found i gs) ≡ ps ++ (p ∷ qs) → (found i gs ≡ ps ++ (p ∷ qs) → has_field (item_name i) (joined_fields t gs) ≡ true) → has_field (item_name i) (joined_fields t (g ∷ gs)) ≡ true
+    go true s h f = subst (λ j. has_field (item_name j) (joined_fields t (g ∷ gs)) ≡ true) (s refl) (has_here (item_name g.0) (t g.0 (part_of g.1)) (joined_fields t gs))
+    go false s h f = has_past (item_name i) (item_name g.0) (t g.0 (part_of g.1)) (joined_fields t gs) (f h)
+
+numbered_has : (d : DataType) (n : ℕ) (p : Expr) (before after : List Expr) → has_field (decimal (n + length before)) (infer_all d (step_into_all (numbered n (before ++ (p ∷ after))))) ≡ true
+numbered_has d n p [] after = subst (λ m. has_field (decimal m) (infer_all d (step_into_all (numbered n (p ∷ after)))) ≡ true) move (has_here (decimal n) (infer d (step_into p)) (infer_all d (step_into_all (numbered (n + 1) after))))
+  where
+    move : n ≡ n + 0
+    move = omega arith
+numbered_has d n p (e ∷ before) after =
+    has_past (decimal (n + suc (length before))) (decimal n) (infer d (step_into e)) (infer_all d (step_into_all (numbered (n + 1) (before ++ (p ∷ after)))))
+    (subst (λ m. has_field (decimal m) (infer_all d (step_into_all (numbered (n + 1) (before ++ (p ∷ after))))) ≡ true) move (numbered_has d (n + 1) p before after))
+  where
+    move : n + 1 + length before ≡ n + suc (length before)
+    move = omega arith
+
+leaf_by : (d x : DataType) (i : Item) (p : Expr) (ps qs rs : List Expr) (m : ℕ) → ps ≡ qs ++ (p ∷ rs) → m ≡ length qs → unary_fault (GetItem (item_name i)) d ≡ None → infer d (unary (GetItem (item_name i)) root) ≡ infer x (step_into (part_of ps)) → NodesHold d (leaf_of ps i m)
+leaf_by d x i p [] qs rs m e em h here = (h, tt)
+leaf_by d x i p (f ∷ []) qs rs m e em h here = (h, tt)
+leaf_by d x i p (f ∷ g ∷ fs) qs rs m e em h here = (ap (unary_fault (GetItem (decimal m))) here ∙ ap (λ b. unless b NoField) has, (h, tt))
+  where
+    zero_first : 0 + length qs ≡ length qs
+    zero_first = omega arith
+
+    has : has_field (decimal m) (infer_all x (step_into_all (numbered 0 (f ∷ g ∷ fs)))) ≡ true
+    has =
+        (λ j. has_field (decimal (em j)) (infer_all x (step_into_all (numbered 0 (e j)))))
+        ∙ subst (λ n. has_field (decimal n) (infer_all x (step_into_all (numbered 0 (qs ++ (p ∷ rs))))) ≡ true) zero_first (numbered_has x 0 p qs rs)
+
+module _ (s : DataType) (r : Reads) (k : ℕ) (same : (i : Item) → bare (r i).0 ≡ bare (infer s (spelled i))) (all : List Cut) (plain : AllPlain all) (few : length all < 2 ^ 64) where
+  leaf_holds : (i : Item) (e : Expr) (before after : List Cut) → all ≡ before ++ ((i, e) ∷ after) → NodesHold (whole r k all).0 (leaf_of (cuts_of i all) i (count_item i before))
+  leaf_holds i e before after h =
+      leaf_by (whole r k all).0 (r i).0 i e (cuts_of i all) (cuts_of i before) (cuts_of i after) (count_item i before) (cuts_around all i e before after h) refl
+      (ap (λ b. unless b NoField) (joined_has (stepped_type (λ j. (r j).0)) i (groups_of all) (cuts_of i before) e (cuts_of i after) (found_collected i [] all ∙ cuts_around all i e before after h)))
+      (ap (λ x. x.0) (item_seen r k all i e before after plain h))
+
+  or_leaf_holds : (w : Use) (e f : Expr) (cs before after : List Cut) → all ≡ (before ++ cut_or w e cs) ++ after → (NotOne w → all ≡ (before ++ cs) ++ after → NodesHold (whole r k all).0 f) → NodesHold (whole r k all).0 (leaf_or w all before f)
+  or_leaf_holds no_use e f cs before after h g = g tt h
+  or_leaf_holds (one i) e f cs before after h g = leaf_holds i e before after (h ∙ append_assoc before ((i, e) ∷ []) after)
+  or_leaf_holds many e f cs before after h g = g tt h
+
+  pack_shallow : (w : Use) (before : List Cut) (f : Expr) (d : DataType) → NotOne w → infer (whole r k all).0 (leaf_or w all before f) ≡ d → depth_of d ≤ 64 → depth_of (infer (whole r k all).0 f) ≤ 66
+  pack_shallow no_use before f d n h l = omega (arith, subst (λ x. depth_of x ≤ 64) (sym h) l)
+  pack_shallow (one i) before f d n h l = absurd n
+  pack_shallow many before f d n h l = omega (arith, subst (λ x. depth_of x ≤ 64) (sym h) l)
+
+  -- the dtype of a part of the root
+  at : (e : Expr) (before after : List Cut) → IsExpanded e → all ≡ (before ++ cuts e) ++ after → infer (whole r k all).0 (root_of all before e) ≡ (through r k e).0
+  at e before after p h = ap (λ x. x.0) (root_seen r k all plain few e before after p h)
+
+  mutual
+    pub root_fits : (e : Expr) (before after : List Cut) → IsExpanded e → all ≡ (before ++ cuts e) ++ after → NodesWithin 64 s e → ThroughTyped r k e → NodesHold (whole r k all).0 (root_of all before e)
+    root_fits root before after p h w t = absurd p
+    root_fits row_index before after p h w t = tt
+    root_fits (literal d v) before after p h w t = t
+    root_fits (unary u e) before after p h w t =
+        or_leaf_holds (use_of (unary u e)) (unary u e) (unary u (root_of all before e)) (cuts e) before after h
+        (λ n q. let p1 = expanded_part (item_of u e) (use_of e) (IsExpanded e) n p in
+        let t1 = expanded_part (item_of u e) (use_of e) ((unary_fault u (through r k e).0 ≡ None) × ThroughTyped r k e) n t in
+        (ap (unary_fault u) (at e before after p1 q) ∙ t1.0, root_fits e before after p1 q w.1 t1.1))
+    root_fits (binary b x y) before after p h w t =
+        or_leaf_holds (use_of (binary b x y)) (binary b x y) (binary b (root_of all before x) (root_of all (before ++ cuts x) y)) (cuts x ++ cuts y) before after h
+        (λ n q. let first = append_first all before (cuts x) (cuts y) after q in
+        let second = append_second all before (cuts x) (cuts y) after q in (
+          (λ j. binary_fault b (at x before (cuts y ++ after) p.0 first j) (at y (before ++ cuts x) after p.1 second j)) ∙ t.0,
+          root_fits x before (cuts y ++ after) p.0 first w.1 t.1,
+          root_fits y (before ++ cuts x) after p.1 second w.2 t.2,
+        ))
+    root_fits (pack ps n) before after p h w t =
+        or_leaf_holds (use_of (pack ps n)) (pack ps n) (pack (roots_of all before ps) n) (all_cuts ps) before after h
+        (λ m q. (
+          pack_shallow (use_of (pack ps n)) before (pack (roots_of all before ps) n) (through r k (pack ps n)).0 m (at (pack ps n) before after p h) (as_deep 64 (through r k (pack ps n)).0 (infer s (pack ps n)) (through-bare s r k same (pack ps n) p) w.0),
+          roots_fit ps before after p q w.1 t,
+        ))
+
+    roots_fit : (ps : Parts) (before after : List Cut) → AreExpanded ps → all ≡ (before ++ all_cuts ps) ++ after → AllNodesWithin 64 s ps → AllThroughTyped r k ps → AllNodesHold (whole r k all).0 (roots_of all before ps)
+    roots_fit no_parts before after p h w t = tt
+    roots_fit (part n e ps) before after p h w t =
+        (root_fits e before (all_cuts ps ++ after) p.0 (append_first all before (cuts e) (all_cuts ps) after h) w.0 t.0, roots_fit ps (before ++ cuts e) after p.1 (append_second all before (cuts e) (all_cuts ps) after h) w.1 t.1)

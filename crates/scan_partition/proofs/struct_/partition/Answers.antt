@@ -1,0 +1,18 @@
+use Rattle.std.proofs.Common.{◌≡◌, ◌<◌, ◌^◌, length, sym, subst}
+use Rattle.scan_partition.specs.Partition.{cuts}
+use Rattle.scan_partition.specs.Divided.{divided, kept}
+use Rattle.scan_partition.specs.Split.{KeptJoins}
+use Rattle.scan_partition.proofs.Loops.{if_ok_both}
+use Rattle.scan_partition.proofs.Keeping.{kept_joins, kept_parts_fit, kept_root_fits}
+use Rattle.scan_partition.proofs.struct_.partition.Goals as goal
+
+pub divide-requires-clause-parts : goal.divide-requires-clause-parts
+divide-requires-clause-parts c = kept_parts_fit c.args.expr.now c.requires.over c.requires.expanded c.dtype-typed.ensures.faultless
+
+pub divide-requires-clause-root : goal.divide-requires-clause-root
+divide-requires-clause-root c = kept_root_fits c.args.expr.now c.requires.over c.requires.expanded c.dtype-typed.ensures.faultless
+
+pub returns-clause-joined : goal.returns-clause-joined
+returns-clause-joined c =
+    if_ok_both (λ p. p ≡ divided (kept c.args.expr.now.scope) c.args.expr.now.expr) (λ _. length (cuts c.args.expr.now.expr) < 2 ^ 64) (KeptJoins c.args.expr.now) c.divide.result
+    (λ p h few. subst (KeptJoins c.args.expr.now) (sym h) (kept_joins c.args.expr.now c.requires.over c.requires.expanded c.dtype-typed.ensures.faultless few)) c.divide.ensures.exact c.divide.ensures.few
