@@ -42,6 +42,10 @@ absent id es none = lookup_is (entries_of es) id ∙ eq.absent id es none
 pub found : (id k : ℕ) (es : List Entry) → position (λ e. nat_eq e.id id) es ≡ Some k → is_some (table es id) ≡ true
 found id k es h = ap is_some (lookup_is (entries_of es) id) ∙ eq.found id k es h
 
+pub there_or_not : (id : ℕ) (es : List Entry) (at : Option ℕ) → at ≡ position (λ e. nat_eq e.id id) es → is_some at ≡ is_some (table es id)
+there_or_not id es None h = sym (ap is_some (absent id es (sym h)))
+there_or_not id es (Some k) h = sym (found id k es (sym h))
+
 pub unused : (n : ℕ) (es : List Entry) (i : ℕ) → list_any (λ (e : Entry). has n e.holders.items) es ≡ false → is_held n (table es i) ≡ false
 unused n es i h = ap (is_held n) (lookup_is (entries_of es) i) ∙ eq.unused n es i h
 

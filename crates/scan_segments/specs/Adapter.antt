@@ -1,19 +1,17 @@
 -- A source over a cache and an inner source: what it is, and what its calls do to both.
-use Rattle.std.specs.Prelude.{◌≡◌, ◌⊎◌, ℕ, ◌+◌, ◌≤◌, List, Bool, true, false, nat_eq, Option, None, Some, is_some}
+use Rattle.std.specs.Prelude.{◌≡◌, ◌⊎◌, ℕ, ◌+◌, List, Bool, true, false, nat_eq, Option, None, Some, is_some}
 use Rattle.std.specs.Map.{lookup}
 use Rattle.scan_segments.specs.declared.adapter.Stage.{Stage}
 use Rattle.scan_segments.specs.declared.adapter.Stage.TheVariants as stage
 use Rattle.scan_segments.specs.declared.adapter.Looked.{Looked}
 use Rattle.scan_segments.specs.declared.adapter.Looked.TheVariants as looked
-use Rattle.scan_segments.specs.declared.cache.CacheEvent.TheVariants.{Offered}
 use Rattle.scan_segments.specs.declared.cache.CacheGet.TheVariants as get
 use Rattle.scan_segments.specs.declared.source.Polled.{Polled}
 use Rattle.scan_segments.specs.declared.source.Polled.TheVariants.{Pending, Bytes, Missing, Failed, NoMemory}
-use Rattle.scan_segments.specs.Faults.{RaisedByOne}
 use Rattle.scan_segments.specs.Source.{Store, SourceState, without, Begins, Stays}
 use Rattle.scan_segments.specs.Polled.{IsPolled}
-use Rattle.scan_segments.specs.Cache.{Entries, CacheState, Stores, Both, happened}
-use Rattle.scan_segments.specs.Cached.{IsGot}
+use Rattle.scan_segments.specs.Cache.{Entries, CacheState}
+use Rattle.scan_segments.specs.Cached.{IsGot, Offers}
 use Rattle.scan_segments.specs.Sharing.{has}
 
 -- the cache and the source, what was asked, what is live, and the stage of each live id
@@ -56,13 +54,6 @@ Looks id c d s t looked.Pending = IsGot id c d get.Pending × (t ≡ s)
 Looks id c d s t (looked.Hit b) = IsGot id c d (get.Hit b) × (t ≡ s)
 Looks id c d s t looked.Asked = IsMissed id c d × Begins id s t
 Looks id c d s t looked.NoMemory = (IsGot id c d get.NoMemory × (t ≡ s)) ⊎ (IsMissed id c d × Stays s t)
-
--- a put that was polled to its end
-pub record Offers (id : ℕ) (bytes : List ℕ) (c d : CacheState ℕ) : Type 0 where
-  pub entries : Both c.entries d.entries (Stores id bytes)
-  pub noted : ((d.ended ≡ happened (Offered id) c.ended) × (d.short ≡ c.short)) ⊎ ((d.ended ≡ c.ended) × RaisedByOne c.short d.short)
-  pub faults : c.faults ≤ d.faults
-  pub turns : d.turns ≤ c.turns
 
 -- one poll of the inner source: bytes that come from it are put
 abbrev pub PollsSource : (ℕ → List ℕ → Type 0) → ℕ → CacheState ℕ → CacheState ℕ → SourceState → SourceState → Polled → Type 0

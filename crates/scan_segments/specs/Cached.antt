@@ -1,5 +1,5 @@
 -- What a lookup and a put may answer.
-use Rattle.std.specs.Prelude.{◌≡◌, ℕ, ◌<◌, ◌≤◌, List, Option, None, Some, IfSome}
+use Rattle.std.specs.Prelude.{◌≡◌, ◌⊎◌, ℕ, ◌<◌, ◌≤◌, List, Option, None, Some, IfSome}
 use Rattle.scan_segments.specs.declared.cache.CacheEvent.{CacheEvent}
 use Rattle.scan_segments.specs.declared.cache.CacheEvent.TheVariants.{Missed, Found, Offered}
 use Rattle.scan_segments.specs.declared.cache.CacheGet.{CacheGet}
@@ -39,3 +39,10 @@ module _ {K : Type 0} where
   IsPut k bytes old new put.Passed = Moves Loses (happened (Offered k) old.ended) old new
   IsPut k bytes old new put.Failed = Moves Loses (happened (Offered k) old.ended) old new × Rose old.faults new.faults
   IsPut k bytes old new put.NoMemory = FallsShort old new
+
+  -- a put that was polled to its end
+  pub record Offers (k : K) (bytes : List ℕ) (old new : CacheState K) : Type 0 where
+    pub entries : Both old.entries new.entries (Stores k bytes)
+    pub noted : ((new.ended ≡ happened (Offered k) old.ended) × (new.short ≡ old.short)) ⊎ ((new.ended ≡ old.ended) × RaisedByOne old.short new.short)
+    pub faults : old.faults ≤ new.faults
+    pub turns : new.turns ≤ old.turns

@@ -10,6 +10,10 @@ pub record RaisedBy (n before now : ℕ) : Type 0 where
   pub least : min (before + n) (2 ^ 64 - 1) ≤ now
   pub most : now ≤ before + n
 
+-- a count as it is kept
+abbrev pub capped : ℕ → ℕ
+capped n = min n (2 ^ 64 - 1)
+
 -- the count one higher, or its greatest value
 abbrev pub one_more : ℕ → ℕ
 one_more n = min (n + 1) (2 ^ 64 - 1)

@@ -1,6 +1,7 @@
 pub mod Bounded
 pub mod Cache
 pub mod Cached
+pub mod Events
 pub mod Faults
 pub mod Holding
 pub mod Keys

@@ -2,7 +2,8 @@
 ghost use Rattle.std.specs.Prelude.{◌≡◌, ◌⊎◌, ◌++◌, ◌∷◌, ℕ, List, [], not, ◌==◌, nat_eq, cond, is_some, true, Some, None, OnOk, OnErr, Contains};
 ghost use Rattle.scan_segments.specs.Source.{SourceState, Store, without, Begins, Stays, Ends};
 ghost use Rattle.scan_segments.specs.Polled.{IsPolled};
-ghost use Rattle.scan_segments.specs.Adapter.{Looks, Offers, PollsSource, PollsBoth, LooksAgain, LooksFirst, KeepsStages, IsLinked, IsFaithful, GivesContent, adapter_state, stage_at, is_asked, asked_after, live_after};
+ghost use Rattle.scan_segments.specs.Cached.{Offers};
+ghost use Rattle.scan_segments.specs.Adapter.{Looks, PollsSource, PollsBoth, LooksAgain, LooksFirst, KeepsStages, IsLinked, IsFaithful, GivesContent, adapter_state, stage_at, is_asked, asked_after, live_after};
 ghost use Rattle.scan_segments.specs.declared.adapter.Stage.TheVariants as stage;
 ghost use Rattle.scan_segments.specs.declared.adapter.Looked.TheVariants as looked;
 

@@ -114,6 +114,13 @@ impl SharedTable {
         }
     }
 
+    /// Whether a request of the segment is held.
+    pub fn contains(&self, id: SegmentId) -> bool
+        ensures { result ≡ is_some (entry_at self.now id) }
+    {
+        place(&self.entries, id).is_some()
+    }
+
     /// Whether the table has such a holder.
     pub fn holds(&self, h: &Holder) -> bool
         ensures { result ≡ is_held h.now.number (entry_at self.now h.now.id) }

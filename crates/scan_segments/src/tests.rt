@@ -236,8 +236,10 @@ fn holders_share_one_request(rt: HostRuntime) -> Result<(), Fail> {
     let (one, two) = share(alloc, &mut table, &mut source, id)?;
     assert!(rt; has_failed_once(&one) && has_failed_once(&two));
     assert_eq!(rt; source.asked(), [id, id].as_slice());
+    assert!(rt; !table.contains(id));
     let only = table.request(alloc, id, &mut source)?;
     assert!(rt; table.holds(&only));
+    assert!(rt; table.contains(id) && !table.contains(SegmentId::from(6)));
     table.drop_holder(only, &mut source);
     assert!(rt; source.live().is_empty());
     Ok(())
