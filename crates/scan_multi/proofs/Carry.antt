@@ -1,6 +1,6 @@
 -- A plan's dtype and request are those of the scan.
 use Rattle.std.proofs.Common.{◌≡◌, ◌≢◌, ℕ, List, Bool, true, sym, ap, ◌∙◌, subst, inl, inr}
-use Rattle.std.specs.Prelude.{Option, None, Some, IfSome, Result, Err}
+use Rattle.std.specs.Prelude.{Option, None, Some, IfSome, Result, Ok, Err, IfOk}
 use Rattle.scan_values.specs.DataType.{DataType}
 use Rattle.scan_expr.specs.Bound.{Bound}
 use Rattle.scan_expr.specs.Infer.{infer}
@@ -40,3 +40,7 @@ late-answer r workers files d q none = subst (λ o. IfSome o (λ x. r ≡ Err x)
 pub always : (A : Type 0) (o : Option ScanFault) → A → IfSome o (λ e. A)
 always A None a = tt
 always A (Some e) a = a
+
+pub ok_always : {T E : Type 0} (r : Result T E) (A : Type 0) → A → IfOk r (λ x. A)
+ok_always (Ok x) A a = a
+ok_always (Err e) A a = tt

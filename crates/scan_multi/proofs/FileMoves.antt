@@ -12,27 +12,29 @@ use Rattle.scan_expr.specs.Expr.{filter_conjuncts}
 use Rattle.scan_expr.specs.Typing.{bind_fault}
 use Rattle.scan_expr.specs.declared.request.ScanRequest.{ScanRequest}
 use Rattle.scan_segments.specs.Source.{SourceState, Store}
+use Rattle.scan_segments.specs.Cache.{CacheState}
+use Rattle.scan_segments.specs.declared.segment.SegmentKey.{SegmentKey}
 use Rattle.scan_layout.specs.Layout.{Layout, rows_of, kids_of}
 use Rattle.scan_layout.specs.Check.{first_fault}
 use Rattle.scan_layout.specs.RowValue.{row_value}
 use Rattle.scan_layout.specs.Touched.{Place}
 use Rattle.scan_multi.specs.Opener.{OpenerState, Given, skip, layout_of}
-use Rattle.scan_multi.specs.Fetch.{Opens}
-use Rattle.scan_multi.specs.Read.{Reads, IsReadFault}
+use Rattle.scan_multi.specs.Opened.{Opens}
+use Rattle.scan_multi.specs.Fetch.{Fetches}
+use Rattle.scan_multi.specs.FileScan.{ids_of, chosen_in, IsLayoutFault}
 use Rattle.scan_multi.specs.Places.{IsIdOf, HasBad}
 use Rattle.scan_multi.specs.Columns.{nodes_in, chosen_places}
 use Rattle.scan_multi.specs.Choice.{field_count, places_of, flags_of}
 use Rattle.scan_multi.specs.Answer.{Item, finding, drops, row_items, part_of}
 use Rattle.scan_multi.specs.Output.{ChunkData}
 use Rattle.scan_multi.specs.Named.{named, named_places}
-use Rattle.scan_multi.specs.Plan.{IsPlan, IsScanned, IsPlacedFault, items_in, row_item, placed, IsChecked, NamesFile}
+use Rattle.scan_multi.specs.Plan.{IsPlan, IsScanned, items_in, row_item, IsChecked, NamesFile}
 use Rattle.scan_multi.specs.Causes.{IfTold, IsRead, IsOfOtherType, IsIllFormed, told_file, Tells, FileMoves, IsFileCause}
 use Rattle.scan_multi.specs.declared.scan.files.ScanFile.{ScanFile}
 use Rattle.scan_multi.specs.declared.scan.files.ScanFault.{ScanFault}
 use Rattle.scan_multi.specs.declared.scan.files.ScanFault.TheVariants as fault
-use Rattle.scan_multi.specs.declared.scan.read.ReadFault.{ReadFault}
-use Rattle.scan_multi.specs.declared.scan.read.ReadFault.TheVariants as read
 use Rattle.scan_multi.proofs.Members.{In}
+use Rattle.scan_multi.proofs.Agree.{id_of}
 use Rattle.scan_multi.proofs.Checked.{well_typed, told-layout}
 use Rattle.scan_multi.proofs.PlainForms.{plain_form}
 use Rattle.scan_multi.proofs.Cells.{chooses}
@@ -101,8 +103,8 @@ module _ {O S : Type 0} (opener : O → OpenerState) (source : S → SourceState
   is-read None l e f = tt
   is-read (Some g) l e f = subst (IsRead d) (sym e) (well_typed l d f, f)
 
-  pub layout_moves : (old : ScanFile O S) (o : O) (s : S) (l : Layout) → Opens (opener old.opener) (opener o) → IfSome (opener old.opener).gives (λ g. g ≡ layout_of l) → first_fault l d ≡ None → (source old.source).live ≡ [] → Reads (chosen_places (nodes_in (kids_of l)) chosen) (source old.source) (source s) → FileMoves opener source d request old (record old { opener = o; source = s })
-  layout_moves old o s l p e f idle r = record {
+  pub layout_moves : (old : ScanFile O S) (o : O) (s : S) (l : Layout) (name : List ℕ) (before after : CacheState SegmentKey) → Opens (opener old.opener) (opener o) → IfSome (opener old.opener).gives (λ g. g ≡ layout_of l) → first_fault l d ≡ None → (source old.source).live ≡ [] → Fetches name (ids_of (chosen_in l chosen)) before after (source old.source) (source s) → FileMoves opener source d request old (record old { opener = o; source = s })
+  layout_moves old o s l name before after p e f idle r = record {
     source_id = refl;
     gives = p.gives;
     opener_faults = p.faults;
@@ -112,24 +114,24 @@ module _ {O S : Type 0} (opener : O → OpenerState) (source : S → SourceState
     live = r.asks.live ∙ sym idle;
     ids = r.ids;
     asked = r.asks.asked;
-    among = All-weaker (IsIdOf (chosen_places (nodes_in (kids_of l)) chosen)) (λ id. IfTold (opener old.opener).gives (source old.source).holds (λ g store. Contains (named d request g store) id))
-        (λ id w. may (opener old.opener).gives (source old.source).holds l (chosen_places (nodes_in (kids_of l)) chosen) id e (each-named d request b places chosen l plan f) w) r.ids r.among;
+    among = All-weaker (Contains (ids_of (chosen_in l chosen))) (λ id. IfTold (opener old.opener).gives (source old.source).holds (λ g store. Contains (named d request g store) id))
+        (λ id w. may (opener old.opener).gives (source old.source).holds l (chosen_in l chosen) id e (each-named d request b places chosen l plan f) (id_of (chosen_in l chosen) id w)) r.ids r.among;
   }
 
   -- a layout of another dtype, or not well-formed, is a fault of its file
-  pub fault-cause : (old : ScanFile O S) (o : O) (l : Layout) (file : ℕ) (x : ScanFault) → IfSome (opener old.opener).gives (λ g. g ≡ layout_of l) → IsChecked file d l (Some x) → IsFileCause opener source d request old (record old { opener = o }) x
-  fault-cause old o l file (fault.DTypeMismatch place) e h = (told-layout (opener old.opener).gives l (IsOfOtherType d) e h.1, refl)
-  fault-cause old o l file (fault.Layout place f) e h = (told-layout (opener old.opener).gives l (IsIllFormed d f) e (h.1, h.2), refl)
-  fault-cause old o l file fault.NoMemory e h = absurd h
-  fault-cause old o l file (fault.Opener place) e h = absurd h
-  fault-cause old o l file (fault.Source place id) e h = absurd h
-  fault-cause old o l file (fault.Bind f) e h = absurd h
-  fault-cause old o l file fault.Partitions e h = absurd h
-  fault-cause old o l file (fault.RowRange f) e h = absurd h
-  fault-cause old o l file (fault.Corrupt place id) e h = absurd h
-  fault-cause old o l file (fault.TooManyRows place) e h = absurd h
-  fault-cause old o l file fault.Concurrency e h = absurd h
-  fault-cause old o l file fault.NotBuilt e h = absurd h
+  pub fault-cause : (cache : CacheState SegmentKey) (old : ScanFile O S) (o : O) (l : Layout) (file : ℕ) (x : ScanFault) → IfSome (opener old.opener).gives (λ g. g ≡ layout_of l) → IsChecked file d l (Some x) → IsFileCause opener source d request cache old (record old { opener = o }) x
+  fault-cause cache old o l file (fault.DTypeMismatch place) e h = (told-layout (opener old.opener).gives l (IsOfOtherType d) e h.1, refl)
+  fault-cause cache old o l file (fault.Layout place f) e h = (told-layout (opener old.opener).gives l (IsIllFormed d f) e (h.1, h.2), refl)
+  fault-cause cache old o l file fault.NoMemory e h = absurd h
+  fault-cause cache old o l file (fault.Opener place) e h = absurd h
+  fault-cause cache old o l file (fault.Source place id) e h = absurd h
+  fault-cause cache old o l file (fault.Bind f) e h = absurd h
+  fault-cause cache old o l file fault.Partitions e h = absurd h
+  fault-cause cache old o l file (fault.RowRange f) e h = absurd h
+  fault-cause cache old o l file (fault.Corrupt place id) e h = absurd h
+  fault-cause cache old o l file (fault.TooManyRows place) e h = absurd h
+  fault-cause cache old o l file fault.Concurrency e h = absurd h
+  fault-cause cache old o l file fault.NotBuilt e h = absurd h
 
   -- a skipped file has no rows
   pub skip_given : (old : ScanFile O S) (file : ℕ) → IfSome (opener old.opener).gives (λ g. g ≡ skip) → Tells opener source old → items_in None ≡ part_of d request file (told_file opener source old).store (told_file opener source old).given
@@ -145,16 +147,33 @@ module _ {O S : Type 0} (opener : O → OpenerState) (source : S → SourceState
     go (Some g) None e h p q = cc
     go (Some g) (Some store) e h p q = h ∙ sym (part-is d request b places chosen l plan f file store) ∙ ap (part_of d request file store) (sym e)
 
-  pub layout_cause : (old : ScanFile O S) (o : O) (s : S) (l : Layout) (file : ℕ) (x : ScanFault) → IfSome (opener old.opener).gives (λ g. g ≡ layout_of l) → first_fault l d ≡ None → IsPlacedFault file (chosen_places (nodes_in (kids_of l)) chosen) (source old.source) (source s) x → IsFileCause opener source d request old (record old { opener = o; source = s }) x
-  layout_cause old o s l file x e f w = subst (IsFileCause opener source d request old (record old { opener = o; source = s })) (sym w.is) (go w.fault w.why) where
-    go : (r : ReadFault) → IsReadFault (chosen_places (nodes_in (kids_of l)) chosen) (source old.source) (source s) r → IsFileCause opener source d request old (record old { opener = o; source = s }) (placed file r)
-    go (read.Corrupt id) h = (may-bad (opener old.opener).gives (source old.source).holds l (chosen_places (nodes_in (kids_of l)) chosen) id e (each-named d request b places chosen l plan f) h.0, record { read = is-read (opener old.opener).gives l e f; asked = h.1 })
-    go (read.Source id) h = (h.0, record { read = is-read (opener old.opener).gives l e f; asked = h.1 })
-    go read.NoMemory h = tt
+  pub layout_cause : (cache : CacheState SegmentKey) (old : ScanFile O S) (o : O) (s : S) (l : Layout) (file : ℕ) (x : ScanFault) → IfSome (opener old.opener).gives (λ g. g ≡ layout_of l) → first_fault l d ≡ None → IsLayoutFault file old.source_id (chosen_in l chosen) cache (source old.source) (source s) x → IsFileCause opener source d request cache old (record old { opener = o; source = s }) x
+  layout_cause cache old o s l file fault.NoMemory e f w = tt
+  layout_cause cache old o s l file (fault.Source place id) e f w = (w.1, record { read = is-read (opener old.opener).gives l e f; asked = w.2 })
+  layout_cause cache old o s l file (fault.Corrupt place id) e f w = (
+    λ trust. may-bad (opener old.opener).gives (source old.source).holds l (chosen_in l chosen) id e (each-named d request b places chosen l plan f) (w.1 trust),
+    record { read = is-read (opener old.opener).gives l e f; came = w.2 },
+  )
+  layout_cause cache old o s l file (fault.Opener place) e f w = absurd w
+  layout_cause cache old o s l file (fault.DTypeMismatch place) e f w = absurd w
+  layout_cause cache old o s l file (fault.Bind g) e f w = absurd w
+  layout_cause cache old o s l file fault.Partitions e f w = absurd w
+  layout_cause cache old o s l file (fault.RowRange g) e f w = absurd w
+  layout_cause cache old o s l file (fault.Layout place g) e f w = absurd w
+  layout_cause cache old o s l file (fault.TooManyRows place) e f w = absurd w
+  layout_cause cache old o s l file fault.Concurrency e f w = absurd w
+  layout_cause cache old o s l file fault.NotBuilt e f w = absurd w
 
-pub layout_names : (file : ℕ) (ps : List Place) (a b : SourceState) (x : ScanFault) → IsPlacedFault file ps a b x → NamesFile file x
-layout_names file ps a b x w = subst (NamesFile file) (sym w.is) (go w.fault) where
-  go : (r : ReadFault) → NamesFile file (placed file r)
-  go (read.Corrupt id) = refl
-  go (read.Source id) = refl
-  go read.NoMemory = tt
+pub layout_names : (file : ℕ) (name : List ℕ) (ps : List Place) (c : CacheState SegmentKey) (s t : SourceState) (x : ScanFault) → IsLayoutFault file name ps c s t x → NamesFile file x
+layout_names file name ps c s t fault.NoMemory w = tt
+layout_names file name ps c s t (fault.Source place id) w = w.0
+layout_names file name ps c s t (fault.Corrupt place id) w = w.0
+layout_names file name ps c s t (fault.Opener place) w = absurd w
+layout_names file name ps c s t (fault.DTypeMismatch place) w = absurd w
+layout_names file name ps c s t (fault.Bind g) w = absurd w
+layout_names file name ps c s t fault.Partitions w = absurd w
+layout_names file name ps c s t (fault.RowRange g) w = absurd w
+layout_names file name ps c s t (fault.Layout place g) w = absurd w
+layout_names file name ps c s t (fault.TooManyRows place) w = absurd w
+layout_names file name ps c s t fault.Concurrency w = absurd w
+layout_names file name ps c s t fault.NotBuilt w = absurd w

@@ -14,6 +14,7 @@ use Rattle.scan_multi.specs.Opener.{OpenerState}
 use Rattle.scan_multi.specs.Answer.{answer, part_of}
 use Rattle.scan_multi.specs.Output.{ChunkData, chunk_items, given, IsChunk, IsGiven, Admits, limited}
 use Rattle.scan_multi.specs.Plan.{items_in}
+use Rattle.scan_multi.specs.Traffic.{Trusts}
 use Rattle.scan_multi.specs.Causes.{told, told_file, Tells, IsLawful, IsIdle, IsSkippedOrRead, ReadWhereTold, FileMoves, EachMoves}
 use Rattle.scan_multi.specs.declared.scan.files.ScanFile.{ScanFile}
 use Rattle.scan_multi.proofs.Naming.{AllRows}
@@ -56,12 +57,12 @@ module _ {O S : Type 0} (opener : O → OpenerState) (source : S → SourceState
   answer-one (f ∷ []) x n e = append-nil _ ∙ ap (λ (z : ScanFile O S). part_of d request 0 (told_file opener source z).store (told_file opener source z).given) (sym e)
 
   pub admitted : (files : List (ScanFile O S)) (x : ScanFile O S) (cache : CacheState SegmentKey) (c : Option ChunkData) → length files ≡ 1 → x ≡ get_or files 0 x → AllRows request → All (IsChunk (infer d request.projection)) (option_to_list c)
-      → (Tells opener source x → items_in c ≡ part_of d request 0 (told_file opener source x).store (told_file opener source x).given) → IsLawful opener source files cache → Admits d request (answer d request (told opener source files)) (option_to_list c)
+      → (Tells opener source x → Trusts x.source_id cache (source x.source) → items_in c ≡ part_of d request 0 (told_file opener source x).store (told_file opener source x).given) → IsLawful opener source files cache → Admits d request (answer d request (told opener source files)) (option_to_list c)
   admitted files x cache c n e all chunks items lawful = record {
     chunks = chunks;
     items = subst (λ o. IsGiven o request.limit (answer d request (told opener source files)) (given (option_to_list c))) (sym all.ordered)
         (subst (λ l. given (option_to_list c) ≡ limited l (answer d request (told opener source files))) (sym all.limit)
-        (given-one c ∙ items (subst (Tells opener source) (sym e) (lawful.tells 0 x (omega (arith, n)))) ∙ sym (answer-one files x n e)));
+        (given-one c ∙ items (subst (Tells opener source) (sym e) (lawful.tells 0 x (omega (arith, n)))) (subst (λ (z : ScanFile O S). Trusts z.source_id cache (source z.source)) (sym e) (record { tells = lawful.cache_tells; agrees = lawful.agrees 0 x (omega (arith, n)) })) ∙ sym (answer-one files x n e)));
   }
 
   pub all-read : (files : List (ScanFile O S)) (x : ScanFile O S) → length files ≡ 1 → x ≡ get_or files 0 x → IfSome (opener x.opener).gives (IsSkippedOrRead d) → All (ReadWhereTold opener source d) files

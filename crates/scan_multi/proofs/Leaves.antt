@@ -1,60 +1,24 @@
 -- The segments of a leaf, read one after another.
 use Rattle.std.proofs.Common.{◌≡◌, ℕ, zero, suc, ◌+◌, ◌<◌, List, [], ◌∷◌, ◌++◌, Bool, true, false, refl, sym, ap, ◌∙◌, arith, subst, length, get_or, take, append_assoc, length-append}
-use Rattle.std.specs.Prelude.{Option, None, Some, IfSome, ◌&&◌, Contains}
+use Rattle.std.specs.Prelude.{Option, None, Some, ◌&&◌, Contains}
 use Rattle.std.proofs.lemmas.List.{take_more}
-use Rattle.std.proofs.lemmas.List.Elements.{All-append, All-weaker, Contains-append_left, Contains-append_right}
+use Rattle.std.proofs.lemmas.List.Elements.{Contains-append_left, Contains-append_right}
 use Rattle.std.proofs.lemmas.List.Sums.{sum_by-append}
 use Rattle.scan_values.specs.DataType.{DataType}
 use Rattle.scan_values.specs.Val.{Val, vals_of, marked, marked_all}
 use Rattle.scan_values.specs.Fits.{fits, fits_all}
-use Rattle.scan_segments.specs.Source.{SourceState, Store}
+use Rattle.scan_segments.specs.Source.{Store}
 use Rattle.scan_layout.specs.Check.{total_rows}
 use Rattle.scan_layout.specs.Touched.{Place}
-use Rattle.scan_multi.specs.Fetch.{Asks}
-use Rattle.scan_multi.specs.Places.{IsIdOf, HasBad, WasAsked}
 use Rattle.scan_multi.specs.Columns.{segment_values, both, column, segment_places, leaf_places, IsColumn}
-use Rattle.scan_multi.specs.Read.{Reads, IsReadFault}
+use Rattle.scan_multi.specs.Read.{IsReadFault}
 use Rattle.scan_multi.specs.declared.scan.read.ReadFault.{ReadFault}
 use Rattle.scan_multi.specs.declared.scan.read.ReadFault.TheVariants as fault
 
--- ---- what is asked
-pub asks_then : (ids more : List ℕ) (a b c : SourceState) → Asks ids a b → Asks more b c → Asks (ids ++ more) a c
-asks_then ids more a b c p q = record {
-  holds = q.holds ∙ p.holds;
-  asked = q.asked ∙ ap (λ xs. xs ++ more) p.asked ∙ append_assoc a.asked ids more;
-  live = q.live;
-  faults = let f = p.faults in let h = q.faults in omega arith;
-  turns = let f = p.turns in let h = q.turns in omega arith;
-}
-
-abbrev pub is_id_within : (some all : List Place) (id : ℕ) → ((p : Place) → Contains some p → Contains all p) → IsIdOf some id → IsIdOf all id
-is_id_within some all id among h = record { place = h.place; among = among h.place h.among; is = h.is }
-
-pub reads_then : (all some : List Place) (a b c : SourceState) → Reads all a b → Reads some b c → ((p : Place) → Contains some p → Contains all p) → Reads all a c
-reads_then all some a b c p q among = record {
-  ids = p.ids ++ q.ids;
-  asks = asks_then p.ids q.ids a b c p.asks q.asks;
-  among = All-append (IsIdOf all) p.ids q.ids p.among (All-weaker (IsIdOf some) (IsIdOf all) (λ id h. is_id_within some all id among h) q.ids q.among);
-}
-
-pub was_asked_later : (ids : List ℕ) (id : ℕ) (a b c : SourceState) → Asks ids a b → WasAsked id b c → WasAsked id a c
-was_asked_later ids id a b c p q = record {
-  ids = ids ++ q.ids;
-  asked = q.asked ∙ ap (λ xs. xs ++ q.ids) p.asked ∙ append_assoc a.asked ids q.ids;
-  among = Contains-append_right ids q.ids id q.among;
-}
-
-bad_later : (holds now : Option Store) (some all : List Place) (id : ℕ) → now ≡ holds → ((p : Place) → Contains some p → Contains all p) → IfSome now (λ store. HasBad store some id) → IfSome holds (λ store. HasBad store all id)
-bad_later holds now some all id same among h = go holds (subst (λ z. IfSome z (λ store. HasBad store some id)) same h) where
-  go : (holds : Option Store) → IfSome holds (λ store. HasBad store some id) → IfSome holds (λ store. HasBad store all id)
-  go None h = tt
-  go (Some store) h = record { place = h.place; among = among h.place h.among; is = h.is; bad = h.bad }
-
--- a fault of a later part of the reading
-pub fault_later : (all some : List Place) (a b c : SourceState) (e : ReadFault) → Reads all a b → ((p : Place) → Contains some p → Contains all p) → IsReadFault some b c e → IsReadFault all a c e
-fault_later all some a b c (fault.Corrupt id) p among h = (bad_later a.holds b.holds some all id p.asks.holds among h.0, was_asked_later p.ids id a b c p.asks h.1)
-fault_later all some a b c (fault.Source id) p among h = let f = p.asks.faults in let r = h.0 in (omega arith, was_asked_later p.ids id a b c p.asks h.1)
-fault_later all some a b c fault.NoMemory p among h = tt
+-- a fault over some places is one over more places
+pub fault_within : (some all : List Place) (store : Store) (e : ReadFault) → ((p : Place) → Contains some p → Contains all p) → IsReadFault some store e → IsReadFault all store e
+fault_within some all store (fault.Corrupt id) among h = record { place = h.place; among = among h.place h.among; is = h.is; bad = h.bad }
+fault_within some all store fault.NoMemory among h = tt
 
 -- ---- the places of a leaf's segments
 pub segment_among : (t : DataType) (segments : List (ℕ × ℕ)) (i : ℕ) (s : ℕ × ℕ) → i < length segments → s ≡ get_or segments i s → (p : Place) → Contains (segment_places t s) p → Contains (leaf_places t segments) p
@@ -101,9 +65,9 @@ fits-at t (x ∷ xs) zero d h lt = and-left (fits (marked x) t) (fits_all (marke
 fits-at t (x ∷ xs) (suc i) d h lt = fits-at t xs i d (and-right (fits (marked x) t) (fits_all (marked_all (vals_of xs)) t) h) (omega arith)
 
 -- one more segment was read
-pub column_more : (holds now : Option Store) (t : DataType) (segments : List (ℕ × ℕ)) (i : ℕ) (s : ℕ × ℕ) (found more : List Val) → i < length segments → s ≡ get_or segments i s → now ≡ holds → IsColumn holds t (take i segments) found → IsColumn now t (s ∷ []) more → IsColumn holds t (take (i + 1) segments) (found ++ more)
-column_more holds now t segments i s found more lt e same p q = record {
-  told = rw is (go holds p.told (subst (λ z. IfSome z (λ store. column store t (s ∷ []) ≡ Some more)) same q.told));
+pub column_more : (store : Store) (t : DataType) (segments : List (ℕ × ℕ)) (i : ℕ) (s : ℕ × ℕ) (found more : List Val) → i < length segments → s ≡ get_or segments i s → IsColumn (Some store) t (take i segments) found → IsColumn (Some store) t (s ∷ []) more → IsColumn (Some store) t (take (i + 1) segments) (found ++ more)
+column_more store t segments i s found more lt e p q = record {
+  told = rw is (column-append store t (take i segments) (s ∷ []) ∙ ap (λ o. both o (column store t (s ∷ []))) p.told ∙ ap (both (Some found)) q.told);
   count = rw is (length-append found more ∙ counts ∙ sym (sum_by-append (λ (g : ℕ × ℕ). g.1) (take i segments) (s ∷ [])));
   fit = fits_all-append t found more p.fit q.fit;
 } where
@@ -112,7 +76,3 @@ column_more holds now t segments i s found more lt e same p q = record {
 
   counts : length found + length more ≡ total_rows (take i segments) + total_rows (s ∷ [])
   counts = let a = p.count in let b = q.count in omega (arith, a, b)
-
-  go : (holds : Option Store) → IfSome holds (λ store. column store t (take i segments) ≡ Some found) → IfSome holds (λ store. column store t (s ∷ []) ≡ Some more) → IfSome holds (λ store. column store t (take i segments ++ s ∷ []) ≡ Some (found ++ more))
-  go None a b = tt
-  go (Some store) a b = column-append store t (take i segments) (s ∷ []) ∙ ap (λ o. both o (column store t (s ∷ []))) a ∙ ap (both (Some found)) b

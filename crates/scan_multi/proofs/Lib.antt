@@ -19,3 +19,15 @@ pub mod GivenRows
 pub mod FirstFault
 pub mod Carry
 pub mod Complete
+pub mod Wants
+pub mod Agree
+pub mod FileScan
+pub mod Traffic
+pub mod Holders
+pub mod KeyTimes
+pub mod HeldWants
+pub mod LookedUp
+pub mod PolledWants
+pub mod ReceivedWants
+pub mod ReceivedAll
+pub mod FetchedAll

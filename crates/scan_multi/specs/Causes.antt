@@ -1,5 +1,5 @@
 -- What a scan does to its files, and why it may fail.
-use Rattle.std.specs.Prelude.{◌≡◌, ◌≢◌, ℕ, ◌<◌, ◌≤◌, List, [], ◌++◌, Option, None, Some, IfSome, IsSome, All, Contains, map, length, get_or, unwrap_or}
+use Rattle.std.specs.Prelude.{◌≡◌, ◌≢◌, ◌⊎◌, ℕ, ◌<◌, ◌≤◌, List, [], ◌++◌, Option, None, Some, IfSome, IsSome, All, Contains, map, length, get_or, unwrap_or}
 use Rattle.scan_values.specs.DataType.{DataType}
 use Rattle.scan_expr.specs.declared.request.ScanRequest.{ScanRequest}
 use Rattle.scan_segments.specs.Faults.{Rose}
@@ -14,6 +14,7 @@ use Rattle.scan_multi.specs.Answer.{ToldFile}
 use Rattle.scan_multi.specs.Places.{WasAsked, HasBad}
 use Rattle.scan_multi.specs.Named.{named, named_places}
 use Rattle.scan_multi.specs.Served.{early_fault}
+use Rattle.scan_multi.specs.Traffic.{key_of, KeepsContent, Trusts, IsKept}
 use Rattle.scan_multi.specs.declared.scan.files.ScanFile.{ScanFile}
 use Rattle.scan_multi.specs.declared.scan.files.ScanFault.{ScanFault}
 use Rattle.scan_multi.specs.declared.scan.files.ScanFault.TheVariants as fault
@@ -30,7 +31,7 @@ IsRead d (layout_of l) = (dtype_of l ≡ d) × (first_fault l d ≡ None)
 -- skipped, or a layout of the dtype that is well-formed
 abbrev pub IsSkippedOrRead : DataType → Given → Type 0
 IsSkippedOrRead d skip = Unit {0}
-IsSkippedOrRead d (layout_of l) = (dtype_of l ≡ d) × (first_fault l d ≡ None)
+IsSkippedOrRead d (layout_of l) = IsRead d (layout_of l)
 
 -- a layout of another dtype
 abbrev pub IsOfOtherType : DataType → Given → Type 0
@@ -56,7 +57,7 @@ module _ {O S : Type 0} (opener : O → OpenerState) (source : S → SourceState
 
   -- what the cache keeps under a file's name is what the file's source holds
   abbrev pub Agrees : CacheState SegmentKey → ScanFile O S → Type 0
-  Agrees cache f = IfSome cache.entries (λ m. IfSome (source f.source).holds (λ store. (id : ℕ) → IfSome (m (record { source_id = f.source_id; segment = id })) (λ bytes. store id ≡ Some bytes)))
+  Agrees cache f = KeepsContent f.source_id cache (source f.source)
 
   -- Each opener, each source and the cache tell, files of one source name have one content, and the cache agrees with it.
   pub record IsLawful (files : List (ScanFile O S)) (cache : CacheState SegmentKey) : Type 0 where
@@ -95,34 +96,39 @@ module _ {O S : Type 0} (opener : O → OpenerState) (source : S → SourceState
     pub read : IfSome (opener old.opener).gives (IsRead d)
     pub asked : WasAsked id (source old.source) (source new.source)
 
+  -- a segment of a file that is read was asked for, or kept by the cache
+  pub record CameOf (d : DataType) (cache : CacheState SegmentKey) (id : ℕ) (old new : ScanFile O S) : Type 0 where
+    pub read : IfSome (opener old.opener).gives (IsRead d)
+    pub came : WasAsked id (source old.source) (source new.source) ⊎ IsKept cache (key_of old.source_id id)
+
   -- no segment was asked
   abbrev pub NoneAsked : ScanFile O S → ScanFile O S → Type 0
   NoneAsked old new = (source new.source).asked ≡ (source old.source).asked
 
-  -- why the scan of a file may fail
-  abbrev pub IsFileCause : DataType → ScanRequest → ScanFile O S → ScanFile O S → ScanFault → Type 0
-  IsFileCause d request old new fault.NoMemory = Unit {0}
-  IsFileCause d request old new (fault.Opener place) = Rose (opener old.opener).faults (opener new.opener).faults
-  IsFileCause d request old new (fault.Source place id) = Rose (source old.source).faults (source new.source).faults × AskedOf d id old new
-  IsFileCause d request old new (fault.Corrupt place id) = IfTold (opener old.opener).gives (source old.source).holds (λ g store. HasBad store (named_places d request g store) id) × AskedOf d id old new
-  IsFileCause d request old new (fault.DTypeMismatch place) = IfSome (opener old.opener).gives (IsOfOtherType d) × NoneAsked old new
-  IsFileCause d request old new (fault.Layout place f) = IfSome (opener old.opener).gives (IsIllFormed d f) × NoneAsked old new
-  IsFileCause d request old new _ = ⊥
+  -- why the scan of a file may fail, over this cache
+  abbrev pub IsFileCause : DataType → ScanRequest → CacheState SegmentKey → ScanFile O S → ScanFile O S → ScanFault → Type 0
+  IsFileCause d request cache old new fault.NoMemory = Unit {0}
+  IsFileCause d request cache old new (fault.Opener place) = Rose (opener old.opener).faults (opener new.opener).faults
+  IsFileCause d request cache old new (fault.Source place id) = Rose (source old.source).faults (source new.source).faults × AskedOf d id old new
+  IsFileCause d request cache old new (fault.Corrupt place id) = (Trusts old.source_id cache (source old.source) → IfTold (opener old.opener).gives (source old.source).holds (λ g store. HasBad store (named_places d request g store) id)) × CameOf d cache id old new
+  IsFileCause d request cache old new (fault.DTypeMismatch place) = IfSome (opener old.opener).gives (IsOfOtherType d) × NoneAsked old new
+  IsFileCause d request cache old new (fault.Layout place f) = IfSome (opener old.opener).gives (IsIllFormed d f) × NoneAsked old new
+  IsFileCause d request cache old new _ = ⊥
 
   -- a fault of the file at a place, where the request itself has none
-  pub record FaultAt (workers : ℕ) (d : DataType) (request : ScanRequest) (old new : List (ScanFile O S)) (place : ℕ) (e : ScanFault) : Type 0 where
+  pub record FaultAt (workers : ℕ) (d : DataType) (request : ScanRequest) (cache : CacheState SegmentKey) (old new : List (ScanFile O S)) (place : ℕ) (e : ScanFault) : Type 0 where
     pub late : early_fault workers (length old) d request ≡ None
     pub there : place < length old
-    pub cause : (f : ScanFile O S) → IsFileCause d request (get_or old place f) (get_or new place f) e
+    pub cause : (f : ScanFile O S) → IsFileCause d request cache (get_or old place f) (get_or new place f) e
 
   -- why a scan may fail
-  abbrev pub HasCause : ℕ → DataType → ScanRequest → List (ScanFile O S) → List (ScanFile O S) → ScanFault → Type 0
-  HasCause workers d request old new fault.NoMemory = Unit {0}
-  HasCause workers d request old new (fault.Bind f) = early_fault workers (length old) d request ≡ Some (fault.Bind f)
-  HasCause workers d request old new fault.NotBuilt = early_fault workers (length old) d request ≡ Some fault.NotBuilt
-  HasCause workers d request old new (fault.Opener place) = FaultAt workers d request old new place (fault.Opener place)
-  HasCause workers d request old new (fault.Source place id) = FaultAt workers d request old new place (fault.Source place id)
-  HasCause workers d request old new (fault.Corrupt place id) = FaultAt workers d request old new place (fault.Corrupt place id)
-  HasCause workers d request old new (fault.DTypeMismatch place) = FaultAt workers d request old new place (fault.DTypeMismatch place)
-  HasCause workers d request old new (fault.Layout place f) = FaultAt workers d request old new place (fault.Layout place f)
-  HasCause workers d request old new _ = ⊥
+  abbrev pub HasCause : ℕ → DataType → ScanRequest → CacheState SegmentKey → List (ScanFile O S) → List (ScanFile O S) → ScanFault → Type 0
+  HasCause workers d request cache old new fault.NoMemory = Unit {0}
+  HasCause workers d request cache old new (fault.Bind f) = early_fault workers (length old) d request ≡ Some (fault.Bind f)
+  HasCause workers d request cache old new fault.NotBuilt = early_fault workers (length old) d request ≡ Some fault.NotBuilt
+  HasCause workers d request cache old new (fault.Opener place) = FaultAt workers d request cache old new place (fault.Opener place)
+  HasCause workers d request cache old new (fault.Source place id) = FaultAt workers d request cache old new place (fault.Source place id)
+  HasCause workers d request cache old new (fault.Corrupt place id) = FaultAt workers d request cache old new place (fault.Corrupt place id)
+  HasCause workers d request cache old new (fault.DTypeMismatch place) = FaultAt workers d request cache old new place (fault.DTypeMismatch place)
+  HasCause workers d request cache old new (fault.Layout place f) = FaultAt workers d request cache old new place (fault.Layout place f)
+  HasCause workers d request cache old new _ = ⊥

@@ -1,7 +1,11 @@
 pub mod Opener
 pub mod OpenerMemory
-pub mod Fetch
+pub mod Opened
 pub mod Places
+pub mod Traffic
+pub mod Fetch
+pub mod Holding
+pub mod Receiving
 pub mod Columns
 pub mod Read
 pub mod Choice
@@ -10,5 +14,6 @@ pub mod Output
 pub mod Named
 pub mod Served
 pub mod Plan
+pub mod FileScan
 pub mod Causes
 pub mod Valid

@@ -6,6 +6,7 @@ use Rattle.scan_values.specs.DataType.{DataType}
 use Rattle.scan_values.specs.Arrays.{ArrayData, array_code}
 use Rattle.scan_expr.specs.Infer.{infer}
 use Rattle.scan_expr.specs.declared.request.ScanRequest.{ScanRequest}
+use Rattle.scan_multi.specs.declared.scan.report.ScanReport.{ScanReport}
 use Rattle.scan_multi.specs.Answer.{Item}
 
 -- some rows of a file, and a value for each
@@ -18,16 +19,9 @@ abbrev pub chunk_code : Coded ChunkData
 chunk_code =
     code_by (ℕ × (List ℕ × ArrayData)) (coded× coded_ℕ (coded× (coded_list coded_ℕ) array_code)) (λ c. (c.file, (c.rows, c.values))) (λ p. record { file = p.0; rows = p.1.0; values = p.1.1 }) (λ _. refl)
 
--- how many segments were wanted, and how: found in the cache, shared with a request before, or asked for
-pub record ReportData : Type 0 where
-  pub wants : ℕ
-  pub hits : ℕ
-  pub shared : ℕ
-  pub asks : ℕ
-
 pub record OutputData : Type 0 where
   pub chunks : List ChunkData
-  pub report : ReportData
+  pub report : ScanReport
 
 abbrev pub output_code : Coded OutputData
 output_code =

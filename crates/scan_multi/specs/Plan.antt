@@ -10,11 +10,13 @@ use Rattle.scan_expr.specs.Eval.{eval}
 use Rattle.scan_expr.specs.Infer.{infer}
 use Rattle.scan_expr.specs.Typing.{bind_fault}
 use Rattle.scan_expr.specs.declared.request.ScanRequest.{ScanRequest}
-use Rattle.scan_segments.specs.Source.{SourceState, Store}
+use Rattle.scan_segments.specs.Source.{Store}
 use Rattle.scan_layout.specs.Layout.{Layout, rows_of, dtype_of}
 use Rattle.scan_layout.specs.Check.{first_fault}
 use Rattle.scan_layout.specs.RowValue.{row_value}
 use Rattle.scan_layout.specs.Touched.{Place}
+use Rattle.scan_multi.specs.declared.scan.fetch.FetchFault.{FetchFault}
+use Rattle.scan_multi.specs.declared.scan.fetch.FetchFault.TheVariants as fetch
 use Rattle.scan_multi.specs.declared.scan.read.ReadFault.{ReadFault}
 use Rattle.scan_multi.specs.declared.scan.read.ReadFault.TheVariants as read
 use Rattle.scan_multi.specs.declared.scan.files.ScanFault.{ScanFault}
@@ -66,13 +68,17 @@ pub record IsScanned (holds : Option Store) (l : Layout) (b : Bound) (file : ℕ
 -- a fault of reading, at its file
 abbrev pub placed : ℕ → ReadFault → ScanFault
 placed file (read.Corrupt id) = fault.Corrupt file id
-placed file (read.Source id) = fault.Source file id
 placed file read.NoMemory = fault.NoMemory
 
-pub record IsPlacedFault (file : ℕ) (places : List Place) (old new : SourceState) (e : ScanFault) : Type 0 where
+pub record IsPlacedFault (file : ℕ) (places : List Place) (store : Store) (e : ScanFault) : Type 0 where
   pub fault : ReadFault
   pub is : e ≡ placed file fault
-  pub why : IsReadFault places old new fault
+  pub why : IsReadFault places store fault
+
+-- a fault of fetching, at its file
+abbrev pub placed_fetch : ℕ → FetchFault → ScanFault
+placed_fetch file (fetch.Source id) = fault.Source file id
+placed_fetch file fetch.NoMemory = fault.NoMemory
 
 -- Whether a file's layout is of the dtype and well-formed, or its fault: another dtype, else the first fault of the layout.
 abbrev pub IsChecked : ℕ → DataType → Layout → Option ScanFault → Type 0

@@ -7,7 +7,6 @@ pub mod scan;
 mod tests;
 
 pub use gate::Gate;
-pub use scan::files::{
-    RangeFault, ScanChunk, ScanFault, ScanFile, ScanOutput, ScanReport, scan_files,
-};
+pub use scan::files::{RangeFault, ScanChunk, ScanFault, ScanFile, ScanOutput, scan_files};
 pub use scan::multi::{BoxedFactory, LayoutReaderFactory, MemoryOpener, Opening};
+pub use scan::report::ScanReport;

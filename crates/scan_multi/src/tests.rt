@@ -1,10 +1,13 @@
-//! Examples: a file of two columns, and one of a column of flags.
+//! Examples: a file of two columns, one of a column of flags, and caches that a scan looks into.
 ghost use Rattle.std.specs.Prelude.{◌≡◌, [], All, IfOk};
 
 use crate::*;
 use scan_expr::{BindFault, Expression, ScanRequest};
 use scan_layout::{LayoutFault, LayoutKind, LayoutNode, LayoutRef};
-use scan_segments::{ByteBuffer, MemorySource, NoOpSegmentCache, SegmentId, SegmentSourceId};
+use scan_segments::{
+    ByteBuffer, CacheEvent, CachePut, KeyedSegmentCache, MemoryCache, MemorySource,
+    MokaSegmentCache, NoOpSegmentCache, SegmentEviction, SegmentId, SegmentKey, SegmentSourceId,
+};
 use scan_values::{DType, FieldName, Nullability, PType, StrictSorted, StructFields, Value};
 use std::alloc::Global;
 use std::collections::BTreeMap;
@@ -29,6 +32,10 @@ fn names(alloc: Global, texts: &[&str]) -> Result<Vec<FieldName>, Fail> {
 
 fn number() -> DType {
     DType::primitive(PType::I32, Nullability::NonNullable)
+}
+
+fn long() -> DType {
+    DType::primitive(PType::I64, Nullability::NonNullable)
 }
 
 /// A struct of two columns a and b, of a dtype and of i32.
@@ -66,17 +73,29 @@ fn leaf(alloc: Global, dtype: DType, id: u32, rows: u64) -> Result<LayoutRef, Fa
     Ok(LayoutNode::leaf(alloc, dtype, segments)?)
 }
 
-/// Three rows of a and b, in the segments 0 and 1, where b's leaf has so many.
-fn table_of(alloc: Global, dtype: DType, rows: u64) -> Result<LayoutRef, Fail> {
+/// Three rows of a and b, where these are their leaves.
+fn table_of(
+    alloc: Global,
+    dtype: DType,
+    first: LayoutRef,
+    second: LayoutRef,
+) -> Result<LayoutRef, Fail> {
     let mut leaves = Vec::new(alloc);
-    leaves.push(leaf(alloc, number(), 0, 3)?)?;
-    leaves.push(leaf(alloc, number(), 1, rows)?)?;
+    leaves.push(first)?;
+    leaves.push(second)?;
     Ok(LayoutNode::from_parts(alloc, dtype, 3, LayoutKind::Struct, leaves)?)
+}
+
+/// Three rows of a and b, in the segments 0 and this one.
+fn table_with(alloc: Global, second: u32) -> Result<LayoutRef, Fail> {
+    let first = leaf(alloc, number(), 0, 3)?;
+    let second = leaf(alloc, number(), second, 3)?;
+    table_of(alloc, table(alloc)?, first, second)
 }
 
 /// Three rows of a and b, in the segments 0 and 1.
 fn table_layout(alloc: Global) -> Result<LayoutRef, Fail> {
-    table_of(alloc, table(alloc)?, 3)
+    table_with(alloc, 1)
 }
 
 /// Two rows of f, in the segment 0.
@@ -117,6 +136,10 @@ fn opener(alloc: Global, layout: LayoutRef, failing: &[u64]) -> Result<MemoryOpe
     Ok(MemoryOpener::new(Some(layout), failing, pending))
 }
 
+fn source_name(alloc: Global, text: &str) -> Result<SegmentSourceId, Fail> {
+    Ok(SegmentSourceId::new(alloc, String::from_str(alloc, text)?)?)
+}
+
 fn file<O: LayoutReaderFactory + Drop>(
     alloc: Global,
     opener: O,
@@ -125,7 +148,7 @@ fn file<O: LayoutReaderFactory + Drop>(
     requires { source.live ≡ [] }
     ensures { IfOk result (λ files. All (λ f. f.source.live ≡ []) files.items) }
 {
-    let source_id = SegmentSourceId::new(alloc, String::from_str(alloc, "A")?)?;
+    let source_id = source_name(alloc, "A")?;
     let mut files = Vec::new(alloc);
     files.push(ScanFile {
         opener,
@@ -135,7 +158,23 @@ fn file<O: LayoutReaderFactory + Drop>(
     Ok(files)
 }
 
-/// Scans a file for some fields, or for all where none is named.
+/// Scans a file for some fields, or for all where none is named, through a cache.
+fn scan_through<R: Threads + Sync, O: LayoutReaderFactory, C: KeyedSegmentCache>(
+    rt: &R,
+    alloc: Global,
+    dtype: &DType,
+    files: &mut Vec<ScanFile<O, MemorySource>>,
+    cache: &mut C,
+    projection: Expression,
+) -> Result<ScanOutput, ScanFault>
+    requires { All (λ f. f.source.live ≡ []) files.old.items }
+    ensures { All (λ f. f.source.live ≡ []) files.new.items }
+{
+    let request = ScanRequest::new(projection);
+    scan_files(rt, alloc, dtype, files, cache, &request, 1, &Open)
+}
+
+/// Scans a file for some fields, or for all where none is named, without a cache.
 fn scan<R: Threads + Sync, O: LayoutReaderFactory>(
     rt: &R,
     alloc: Global,
@@ -205,6 +244,15 @@ fn is_true_false(chunks: &[ScanChunk]) -> bool {
     }
 }
 
+fn counts(wants: u64, hits: u64, shared: u64, asks: u64) -> ScanReport {
+    ScanReport {
+        wants,
+        hits,
+        shared,
+        asks,
+    }
+}
+
 // The column a, whole, and without its last byte.
 const A: [u8; 12] = [1, 0, 0, 0, 2, 0, 0, 0, 3, 0, 0, 0];
 
@@ -216,6 +264,7 @@ fn one_column_is_read_and_no_other(rt: HostRuntime) -> Result<(), Fail> {
     let dtype = table(alloc)?;
     let output = scan(&rt, alloc, &dtype, &mut files, select(alloc, &["a"])?, 1)?;
     assert!(rt; is_one_two_three(&output.chunks));
+    assert_eq!(rt; output.report, counts(1, 0, 0, 1));
     let Some(file) = files.get(0) else {
         return Err(Fail::from("no file"));
     };
@@ -337,8 +386,9 @@ fn layout_fault<R: Threads + Sync>(
 #[test]
 fn a_file_of_another_dtype_is_refused(rt: HostRuntime) -> Result<(), Fail> {
     let alloc = rt.alloc();
-    let long = DType::primitive(PType::I64, Nullability::NonNullable);
-    let layout = table_of(alloc, columns(alloc, long)?, 3)?;
+    let first = leaf(alloc, long(), 0, 3)?;
+    let second = leaf(alloc, number(), 1, 3)?;
+    let layout = table_of(alloc, columns(alloc, long())?, first, second)?;
     let fault = layout_fault(&rt, alloc, layout)?;
     assert!(rt; fault == Some(ScanFault::DTypeMismatch { file: 0 }));
     Ok(())
@@ -347,7 +397,9 @@ fn a_file_of_another_dtype_is_refused(rt: HostRuntime) -> Result<(), Fail> {
 #[test]
 fn a_layout_with_a_child_of_other_rows_is_refused(rt: HostRuntime) -> Result<(), Fail> {
     let alloc = rt.alloc();
-    let layout = table_of(alloc, table(alloc)?, 2)?;
+    let first = leaf(alloc, number(), 0, 3)?;
+    let second = leaf(alloc, number(), 1, 2)?;
+    let layout = table_of(alloc, table(alloc)?, first, second)?;
     let found = layout_fault(&rt, alloc, layout)?;
     let fault = LayoutFault::ChildRows;
     assert!(rt; found == Some(ScanFault::Layout { file: 0, fault }));
@@ -362,10 +414,97 @@ fn a_skipped_file_has_no_rows(rt: HostRuntime) -> Result<(), Fail> {
     let dtype = table(alloc)?;
     let output = scan(&rt, alloc, &dtype, &mut files, Expression::root(), 1)?;
     assert_eq!(rt; output.chunks.len(), 0);
+    assert_eq!(rt; output.report, counts(0, 0, 0, 0));
     let Some(file) = files.get(0) else {
         return Err(Fail::from("no file"));
     };
     assert!(rt; file.source.asked().is_empty());
     assert_eq!(rt; file.opener.polled(), 1);
+    Ok(())
+}
+
+/// The ids that the source of the only file was asked for.
+fn asked<O>(files: &[ScanFile<O, MemorySource>]) -> &[SegmentId] {
+    match files {
+        [file] => file.source.asked(),
+        _ => &[],
+    }
+}
+
+#[test]
+fn a_second_scan_asks_nothing(rt: HostRuntime) -> Result<(), Fail> {
+    let alloc = rt.alloc();
+    let opener = opener(alloc, table_layout(alloc)?, &[])?;
+    let mut files = file(alloc, opener, source(alloc, &A, &[])?)?;
+    let dtype = table(alloc)?;
+    let mut cache = MokaSegmentCache::new(alloc, 1048576, 1024, SegmentEviction::Lru)?;
+    let all = Expression::root();
+    let first = scan_through(&rt, alloc, &dtype, &mut files, &mut cache, all)?;
+    assert_eq!(rt; first.report, counts(2, 0, 0, 2));
+    let a = select(alloc, &["a"])?;
+    let second = scan_through(&rt, alloc, &dtype, &mut files, &mut cache, a)?;
+    assert_eq!(rt; second.report, counts(1, 1, 0, 0));
+    assert!(rt; is_one_two_three(&second.chunks));
+    assert_eq!(rt;
+        asked(&files),
+        [SegmentId::from(0), SegmentId::from(1)].as_slice()
+    );
+    Ok(())
+}
+
+/// Whether a lookup of this segment missed, and then a put of it ended.
+fn is_missed_and_put(events: &[CacheEvent<SegmentKey>], id: SegmentId) -> bool {
+    match events {
+        [CacheEvent::Missed(missed), CacheEvent::Offered(put)] => {
+            missed.segment == id && put.segment == id
+        }
+        _ => false,
+    }
+}
+
+#[test]
+fn a_cache_that_fails_changes_no_row(rt: HostRuntime) -> Result<(), Fail> {
+    let alloc = rt.alloc();
+    let opener = opener(alloc, table_layout(alloc)?, &[])?;
+    let mut files = file(alloc, opener, source(alloc, &A, &[])?)?;
+    let dtype = table(alloc)?;
+    let failing = sorted(alloc, &[0, 1])?;
+    let mut cache = MemoryCache::new(alloc, failing, sorted(alloc, &[])?);
+    let a = select(alloc, &["a"])?;
+    let output = scan_through(&rt, alloc, &dtype, &mut files, &mut cache, a)?;
+    assert!(rt; is_one_two_three(&output.chunks));
+    assert!(rt; is_missed_and_put(cache.ended(), SegmentId::from(0)));
+    Ok(())
+}
+
+#[test]
+fn a_segment_that_is_wanted_twice_is_asked_once(rt: HostRuntime) -> Result<(), Fail> {
+    let alloc = rt.alloc();
+    let opener = opener(alloc, table_with(alloc, 0)?, &[])?;
+    let mut files = file(alloc, opener, source(alloc, &A, &[])?)?;
+    let dtype = table(alloc)?;
+    let output = scan(&rt, alloc, &dtype, &mut files, Expression::root(), 1)?;
+    assert_eq!(rt; output.report, counts(2, 0, 1, 1));
+    assert_eq!(rt; asked(&files), [SegmentId::from(0)].as_slice());
+    Ok(())
+}
+
+#[test]
+fn a_segment_of_another_source_is_no_hit(rt: HostRuntime) -> Result<(), Fail> {
+    let alloc = rt.alloc();
+    let opener = opener(alloc, table_layout(alloc)?, &[])?;
+    let mut files = file(alloc, opener, source(alloc, &A, &[])?)?;
+    let dtype = table(alloc)?;
+    let mut cache = MokaSegmentCache::new(alloc, 1048576, 1024, SegmentEviction::Lru)?;
+    let other = SegmentKey {
+        source_id: source_name(alloc, "B")?,
+        segment: SegmentId::from(0),
+    };
+    let put = cache.poll_put(alloc, &other, &bytes(alloc, &[9; 12])?);
+    assert_eq!(rt; put, CachePut::Stored);
+    let a = select(alloc, &["a"])?;
+    let output = scan_through(&rt, alloc, &dtype, &mut files, &mut cache, a)?;
+    assert!(rt; is_one_two_three(&output.chunks));
+    assert_eq!(rt; output.report, counts(1, 0, 0, 1));
     Ok(())
 }

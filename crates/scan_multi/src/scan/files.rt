@@ -1,31 +1,37 @@
 //! The top call of the library: a scan of files. An own call over the Rust's parts.
-ghost use Rattle.std.specs.Prelude.{◌≡◌, ◌≢◌, ◌<◌, [], ℕ, IfOk, IfErr, IfSome, Err, None, Some, All, length, true, false, get_or, option_to_list};
+ghost use Rattle.std.specs.Prelude.{◌≡◌, ◌≢◌, ◌<◌, [], ℕ, Option, IfOk, IfErr, IfSome, Err, None, Some, All, length, true, false, get_or, option_to_list};
 ghost use Rattle.scan_values.specs.DataType.{fields_of};
 ghost use Rattle.scan_values.specs.Val.{marked};
 ghost use Rattle.scan_values.specs.Fits.{fits};
 ghost use Rattle.scan_expr.specs.Infer.{infer};
+ghost use Rattle.scan_segments.specs.Source.{Store};
 ghost use Rattle.scan_layout.specs.Check.{first_fault};
-ghost use Rattle.scan_layout.specs.Layout.{kids_of};
 ghost use Rattle.scan_multi.specs.Answer.{answer, part_of};
 ghost use Rattle.scan_multi.specs.Output.{Admits, IsChunk};
-ghost use Rattle.scan_multi.specs.Columns.{HasRow, row_of, chosen_places, nodes_in};
-ghost use Rattle.scan_multi.specs.Read.{Reads};
+ghost use Rattle.scan_multi.specs.Columns.{HasRow, row_of};
+ghost use Rattle.scan_multi.specs.Fetch.{Fetches, store_of};
+ghost use Rattle.scan_multi.specs.FileScan.{ids_of, chosen_in, SameAt, FetchesSome, Counts, IsLayoutFault};
+ghost use Rattle.scan_multi.specs.Traffic.{Trusts, CacheMoves, LooksUpFirst, PutsWhatItAsked, IsReport, ended_since, asked_keys};
 ghost use Rattle.scan_multi.specs.Served.{are_plain, is_plain, is_plain_struct, is_choice, is_all, is_of_all_rows, is_built, early_fault, first_request_fault};
-ghost use Rattle.scan_multi.specs.Plan.{IsPlannable, IsPlan, IsPlanFault, IsWhole, IsScanned, items_in, placed, IsPlacedFault, IsChecked, NamesFile};
+ghost use Rattle.scan_multi.specs.Plan.{IsPlannable, IsPlan, IsPlanFault, IsWhole, IsScanned, items_in, placed, placed_fetch, IsPlacedFault, IsChecked, NamesFile};
 ghost use Rattle.scan_multi.specs.Valid.{IsValid, NoneRose};
 ghost use Rattle.scan_multi.specs.Causes.{told, told_file, Tells, IsLawful, IsIdle, IsSkippedOrRead, ReadWhereTold, FileMoves, EachMoves, HasCause, IsFileCause};
 
 use crate::gate::Gate;
 use crate::scan::choice::{flags, places};
-use crate::scan::fetch::{OpenedFile, open_file};
+use crate::scan::fetch::{FetchFault, Fetched, fetch};
 use crate::scan::multi::LayoutReaderFactory;
+use crate::scan::open::{OpenedFile, open_file};
 use crate::scan::read::{ReadFault, read_columns};
+use crate::scan::report::ScanReport;
 use crate::scan::rows::{row_numbers, rows};
+use crate::scan::wants::wanted;
 use scan_expr::{BindFault, BoundExpression, Expression, ScanRequest};
 use scan_layout::{LayoutFault, LayoutNode};
-use scan_segments::{KeyedSegmentCache, SegmentId, SegmentSource, SegmentSourceId};
+use scan_segments::{ByteBuffer, KeyedSegmentCache, SegmentId, SegmentSource, SegmentSourceId};
 use scan_values::{Array, DType, NoMemory, Nullability, PType, Selection, StructFields, Values};
 use std::alloc::Global;
+use std::collections::HashMap;
 use std::marker::Model;
 use std::thread::Threads;
 use thiserror::Error;
@@ -56,16 +62,6 @@ impl Model for ScanChunk {
     ghost view = { λ a. record { file = a.file; rows = a.rows.items; values = a.values } };
 }
 
-/// How many segments were wanted, and of these how many were found in the cache, shared with a request before, and
-/// asked for. Each count stops at the greatest u64.
-#[derive(Clone, Copy, Debug, PartialEq, Eq)]
-pub struct ScanReport {
-    pub wants: u64,
-    pub hits: u64,
-    pub shared: u64,
-    pub asks: u64,
-}
-
 /// What a scan gives.
 #[derive(Drop)]
 pub struct ScanOutput {
@@ -80,7 +76,7 @@ impl Model for ScanOutput {
 
     ghost coded = { output_code };
 
-    ghost view = { λ a. record { chunks = a.chunks.items; report = record { wants = a.report.wants; hits = a.report.hits; shared = a.report.shared; asks = a.report.asks } } };
+    ghost view = { λ a. record { chunks = a.chunks.items; report = a.report } };
 }
 
 /// What is wrong with a range of rows.
@@ -237,8 +233,17 @@ fn placed(e: ReadFault, file: usize) -> ScanFault
 {
     match e {
         ReadFault::Corrupt(segment) => ScanFault::Corrupt { file, segment },
-        ReadFault::Source(segment) => ScanFault::Source { file, segment },
         ReadFault::NoMemory => ScanFault::NoMemory,
+    }
+}
+
+/// A fault of fetching, at its file.
+fn placed_fetch(e: FetchFault, file: usize) -> ScanFault
+    ensures { result ≡ placed_fetch file e }
+{
+    match e {
+        FetchFault::Source(segment) => ScanFault::Source { file, segment },
+        FetchFault::NoMemory => ScanFault::NoMemory,
     }
 }
 
@@ -301,23 +306,21 @@ fn chunk_of(
     }))
 }
 
-/// The rows of a file whose layout is well-formed.
-fn scan_layout<S: SegmentSource>(
+/// All rows of a well-formed layout whose segments have come.
+fn rows_of(
     alloc: Global,
-    source: &mut S,
+    came: &HashMap<SegmentId, ByteBuffer>,
     layout: &LayoutNode,
     file: usize,
     plan: &Plan<'_>,
 ) -> Result<Option<ScanChunk>, ScanFault>
-    requires idle { (S.state source.old).live ≡ [] }
     requires plan { IsPlan plan.now.projection.scope plan.now.request.now plan.now.projection plan.now.places.items plan.now.chosen.items }
     requires form { first_fault layout.now plan.now.projection.scope ≡ None }
-    ensures reads { Reads (chosen_places (nodes_in (kids_of layout.now)) plan.now.chosen.items) (S.state source.old) (S.state source.new) }
-    ensures ok { IfOk result (λ c. IsScanned (S.state source.old).holds layout.now plan.now.projection file c) }
-    ensures err { IfErr result (λ e. IsPlacedFault file (chosen_places (nodes_in (kids_of layout.now)) plan.now.chosen.items) (S.state source.old) (S.state source.new) e) }
+    ensures ok { IfOk result (λ c. (holds : Option Store) → SameAt (ids_of (chosen_in layout.now plan.now.chosen.items)) (store_of came.now.entries) holds → IsScanned holds layout.now plan.now.projection file c) }
+    ensures err { IfErr result (λ e. IsPlacedFault file (chosen_in layout.now plan.now.chosen.items) (store_of came.now.entries) e) }
 {
     let children = layout.children.as_slice();
-    match read_columns(alloc, source, children, plan.chosen.as_slice()) {
+    match read_columns(alloc, came, children, plan.chosen.as_slice()) {
         Err(e) => Err(placed(e, file)),
         Ok(columns) => {
             let given = plan.projection.dtype();
@@ -333,29 +336,78 @@ fn scan_layout<S: SegmentSource>(
     }
 }
 
+/// The rows that a file gave, in one chunk or none, and how its segments came.
+#[derive(Drop)]
+struct FileRows {
+    chunk: Option<ScanChunk>,
+    report: ScanReport,
+}
+
+/// The rows of a file whose layout is well-formed.
+#[tactic(none)]
+fn scan_layout<S: SegmentSource, C: KeyedSegmentCache>(
+    alloc: Global,
+    source: &mut S,
+    name: &SegmentSourceId,
+    cache: &mut C,
+    layout: &LayoutNode,
+    file: usize,
+    plan: &Plan<'_>,
+) -> Result<FileRows, ScanFault>
+    requires idle { (S.state source.old).live ≡ [] }
+    requires plan { IsPlan plan.now.projection.scope plan.now.request.now plan.now.projection plan.now.places.items plan.now.chosen.items }
+    requires form { first_fault layout.now plan.now.projection.scope ≡ None }
+    ensures fetches { Fetches name.now (ids_of (chosen_in layout.now plan.now.chosen.items)) (C.cache cache.old) (C.cache cache.new) (S.state source.old) (S.state source.new) }
+    ensures ok { IfOk result (λ r. Trusts name.now (C.cache cache.old) (S.state source.old) → IsScanned (S.state source.old).holds layout.now plan.now.projection file r.chunk) }
+    ensures chunks { IfOk result (λ r. All (IsChunk (infer plan.now.projection.scope plan.now.projection.expr)) (option_to_list r.chunk)) }
+    ensures counts { IfOk result (λ r. Counts name.now (C.cache cache.old) (C.cache cache.new) (S.state source.old) (S.state source.new) r.report) }
+    ensures err { IfErr result (λ e. IsLayoutFault file name.now (chosen_in layout.now plan.now.chosen.items) (C.cache cache.old) (S.state source.old) (S.state source.new) e) }
+{
+    let children = layout.children.as_slice();
+    let ids = wanted(alloc, children, plan.chosen.as_slice())?;
+    let fetched = match fetch(alloc, source, name, cache, ids.as_slice()) {
+        Ok(fetched) => fetched,
+        Err(e) => return Err(placed_fetch(e, file)),
+    };
+    let chunk = rows_of(alloc, &fetched.segments, layout, file, plan)?;
+    Ok(FileRows {
+        chunk,
+        report: fetched.report,
+    })
+}
+
 /// The rows of a file.
 #[tactic(none)]
-fn scan_file<O: LayoutReaderFactory, S: SegmentSource>(
+fn scan_file<O: LayoutReaderFactory, S: SegmentSource, C: KeyedSegmentCache>(
     alloc: Global,
     file: &mut ScanFile<O, S>,
+    cache: &mut C,
     place: usize,
     plan: &Plan<'_>,
-) -> Result<Option<ScanChunk>, ScanFault>
+) -> Result<FileRows, ScanFault>
     requires idle { IsIdle O.opener S.state file.old }
     requires plan { IsPlan plan.now.projection.scope plan.now.request.now plan.now.projection plan.now.places.items plan.now.chosen.items }
     ensures moves { FileMoves O.opener S.state plan.now.projection.scope plan.now.request.now file.old file.new }
-    ensures read { IfOk result (λ c. IfSome (O.opener file.old.opener).gives (IsSkippedOrRead plan.now.projection.scope)) }
-    ensures ok { IfOk result (λ c. Tells O.opener S.state file.old → items_in c ≡ part_of plan.now.projection.scope plan.now.request.now place (told_file O.opener S.state file.old).store (told_file O.opener S.state file.old).given) }
-    ensures chunks { IfOk result (λ c. All (IsChunk (infer plan.now.projection.scope plan.now.projection.expr)) (option_to_list c)) }
-    ensures cause { IfErr result (λ e. IsFileCause O.opener S.state plan.now.projection.scope plan.now.request.now file.old file.new e) }
+    ensures fetches { FetchesSome file.old.source_id (C.cache cache.old) (C.cache cache.new) (S.state file.old.source) (S.state file.new.source) }
+    ensures counts { IfOk result (λ r. Counts file.old.source_id (C.cache cache.old) (C.cache cache.new) (S.state file.old.source) (S.state file.new.source) r.report) }
+    ensures read { IfOk result (λ r. IfSome (O.opener file.old.opener).gives (IsSkippedOrRead plan.now.projection.scope)) }
+    ensures ok { IfOk result (λ r. Tells O.opener S.state file.old → Trusts file.old.source_id (C.cache cache.old) (S.state file.old.source) → items_in r.chunk ≡ part_of plan.now.projection.scope plan.now.request.now place (told_file O.opener S.state file.old).store (told_file O.opener S.state file.old).given) }
+    ensures chunks { IfOk result (λ r. All (IsChunk (infer plan.now.projection.scope plan.now.projection.expr)) (option_to_list r.chunk)) }
+    ensures cause { IfErr result (λ e. IsFileCause O.opener S.state plan.now.projection.scope plan.now.request.now (C.cache cache.old) file.old file.new e) }
     ensures named { IfErr result (λ e. NamesFile place e) }
 {
     match open_file(alloc, &mut file.opener) {
         OpenedFile::Layout(layout) => match layout_fault(&layout, plan.projection.scope(), place) {
             Some(fault) => Err(fault),
-            None => scan_layout(alloc, &mut file.source, &layout, place, plan),
+            None => {
+                let name = &file.source_id;
+                scan_layout(alloc, &mut file.source, name, cache, &layout, place, plan)
+            }
         },
-        OpenedFile::Skipped => Ok(None),
+        OpenedFile::Skipped => Ok(FileRows {
+            chunk: None,
+            report: ScanReport::default(),
+        }),
         OpenedFile::Failed => Err(ScanFault::Opener { file: place }),
         OpenedFile::NoMemory => Err(ScanFault::NoMemory),
     }
@@ -377,8 +429,10 @@ fn chunk_list(alloc: Global, chunk: Option<ScanChunk>) -> Result<Vec<ScanChunk>,
 /// none.
 ///
 /// The opener is polled to its end, and the layout that it gives is checked. Then each segment with a row of a chosen
-/// field is asked for, in the order of the fields, one after the other. Neither the cache nor the gate is called yet,
-/// and the report's counts are 0.
+/// field is wanted, in the order of the fields. Each want is looked up in the cache first, by a lookup of its own that
+/// is polled to its end. What is not there is asked of the file's source, once for all wants of a segment, and what
+/// comes is put into the cache. A fault of the cache is a miss, and no answer of a put changes what the scan gives. No
+/// request is live after any answer. The gate is not called yet.
 ///
 /// # Errors
 /// `NotBuilt` exactly where the scan is none of these, tested before `Bind`. `Bind` exactly where the projection does
@@ -386,9 +440,9 @@ fn chunk_list(alloc: Global, chunk: Option<ScanChunk>) -> Result<Vec<ScanChunk>,
 /// gives a layout of another dtype, and `Layout` only where it gives one of the dtype that is not well-formed, by its
 /// first fault; no segment was asked before these two. `Opener` and `Source` only where the count of faults of that
 /// opener or source rose in this call, and the segment was asked in it. `Corrupt` only where the segment was asked in
-/// this call and, as far as opener and source tell, may be asked and is missing or does not decode. `NoMemory` may come
-/// in place of any answer but `NotBuilt`; it alone comes of a scan that is built, over good files whose segments
-/// decode, where no count of faults rose.
+/// this call or was kept by the cache, and, as far as opener and source tell and the cache keeps what the source holds,
+/// may be asked and is missing or does not decode. `NoMemory` may come in place of any answer but `NotBuilt`; it alone
+/// comes of a scan that is built, over good files whose segments decode, where no count of faults rose.
 #[tactic(none)]
 pub fn scan_files<
     R: Threads + Sync,
@@ -414,27 +468,24 @@ pub fn scan_files<
     ensures moves { EachMoves O.opener S.state dtype.now request.now files.old.items files.new.items }
     ensures count { length files.new.items ≡ length files.old.items }
     ensures idle { All (IsIdle O.opener S.state) files.new.items }
-    ensures cache { C.cache cache.new ≡ C.cache cache.old }
-    ensures report { IfOk result (λ out. out.report ≡ record { wants = 0; hits = 0; shared = 0; asks = 0 }) }
+    ensures cache { CacheMoves S.state files.old.items files.new.items (C.cache cache.old) (C.cache cache.new) }
+    ensures lawful { IsLawful O.opener S.state files.old.items (C.cache cache.old) → IsLawful O.opener S.state files.new.items (C.cache cache.new) }
+    ensures lookups { IfSome (ended_since (C.cache cache.old) (C.cache cache.new)) (LooksUpFirst S.state files.old.items files.new.items) }
+    ensures puts { IfOk result (λ out. request.now.limit ≡ None → IfSome (ended_since (C.cache cache.old) (C.cache cache.new)) (PutsWhatItAsked S.state files.old.items files.new.items (C.cache cache.old) (C.cache cache.new))) }
+    ensures report { IfOk result (λ out. IsReport (length (asked_keys S.state files.old.items files.new.items)) (ended_since (C.cache cache.old) (C.cache cache.new)) out.report) }
     ensures unbuilt { is_built workers (length files.old.items) dtype.now request.now ≡ false → result ≡ Err ScanFault.NotBuilt }
-    ensures untouched { IfSome (early_fault workers (length files.old.items) dtype.now request.now) (λ e. files.new.items ≡ files.old.items) }
+    ensures untouched { IfSome (early_fault workers (length files.old.items) dtype.now request.now) (λ e. (files.new.items ≡ files.old.items) × (C.cache cache.new ≡ C.cache cache.old)) }
     ensures early { result ≢ Err ScanFault.NoMemory → IfSome (early_fault workers (length files.old.items) dtype.now request.now) (λ e. result ≡ Err e) }
-    ensures cause { IfErr result (λ e. HasCause O.opener S.state workers dtype.now request.now files.old.items files.new.items e) }
+    ensures cause { IfErr result (λ e. HasCause O.opener S.state workers dtype.now request.now (C.cache cache.old) files.old.items files.new.items e) }
     ensures complete { IfErr result (λ e. is_built workers (length files.old.items) dtype.now request.now ≡ true → IsLawful O.opener S.state files.old.items (C.cache cache.old) → IsValid workers dtype.now request.now (told O.opener S.state files.old.items) → NoneRose O.opener S.state files.old.items files.new.items → e ≡ ScanFault.NoMemory) }
 {
     if !is_built(workers, files.len(), dtype, request) {
         return Err(ScanFault::NotBuilt);
     }
     let plan = make_plan(alloc, dtype, request)?;
-    let chunk = scan_file(alloc, &mut files[0], 0, &plan)?;
-    let chunks = chunk_list(alloc, chunk)?;
+    let found = scan_file(alloc, &mut files[0], cache, 0, &plan)?;
     Ok(ScanOutput {
-        chunks,
-        report: ScanReport {
-            wants: 0,
-            hits: 0,
-            shared: 0,
-            asks: 0,
-        },
+        chunks: chunk_list(alloc, found.chunk)?,
+        report: found.report,
     })
 }

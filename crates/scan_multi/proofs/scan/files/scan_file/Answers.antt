@@ -1,9 +1,12 @@
-use Rattle.std.proofs.Common.{◌≡◌, refl, subst, arith, None, Some}
+use Rattle.std.proofs.Common.{◌≡◌, [], refl, subst, arith, None, Some, IfSome}
 use Rattle.std.proofs.lemmas.Result.{IfOk-weaker, IfErr-weaker}
 use Rattle.scan_layout.specs.Check.{first_fault}
 use Rattle.scan_multi.specs.Plan.{IsChecked}
+use Rattle.scan_multi.specs.Causes.{IsSkippedOrRead}
+use Rattle.scan_multi.proofs.Carry.{ok_always}
 use Rattle.scan_multi.proofs.Checked.{fault-names, read-skip, read-layout}
 use Rattle.scan_multi.proofs.FileMoves.{opened_moves, fault-cause, skip_given, layout_moves, layout_given, layout_cause, layout_names}
+use Rattle.scan_multi.proofs.FileScan.{fetches_nothing, counts_nothing}
 use Rattle.scan_multi.proofs.scan.files.scan_file.Goals as goal
 
 pub returns-in-Some-clause-moves : goal.returns-in-Some-clause-moves
@@ -13,7 +16,7 @@ returns-in-Some-clause-moves g c =
 pub returns-in-Some-clause-cause : goal.returns-in-Some-clause-cause
 returns-in-Some-clause-cause g c =
     let h : IsChecked c.args.place c.args.plan.now.projection.scope c.in-Layout.layout.value (Some c.in-Some.fault) = subst (λ z. IsChecked c.args.place z c.in-Layout.layout.value (Some c.in-Some.fault)) c.scope.ensures (subst (λ z. IsChecked c.args.place c.scope.result.now z (Some c.in-Some.fault)) c.deref.ensures c.in-Some.ensures) in
-    fault-cause g.O.LayoutReaderFactory.opener g.S.SegmentSource.state c.args.plan.now.projection.scope c.args.plan.now.request.now c.args.plan.now.projection c.args.plan.now.places.items c.args.plan.now.chosen.items c.requires.plan c.args.file.now c.open_file.new.opener c.in-Layout.layout.value c.args.place c.in-Some.fault c.in-Layout.ensures.1 h
+    fault-cause g.O.LayoutReaderFactory.opener g.S.SegmentSource.state c.args.plan.now.projection.scope c.args.plan.now.request.now c.args.plan.now.projection c.args.plan.now.places.items c.args.plan.now.chosen.items c.requires.plan (g.C.KeyedSegmentCache.cache c.args.cache.now) c.args.file.now c.open_file.new.opener c.in-Layout.layout.value c.args.place c.in-Some.fault c.in-Layout.ensures.1 h
 
 pub returns-in-Some-clause-named : goal.returns-in-Some-clause-named
 returns-in-Some-clause-named g c =
@@ -36,30 +39,30 @@ scan_layout-requires-clause-form g c =
 pub returns-in-Layout-clause-moves : goal.returns-in-Layout-clause-moves
 returns-in-Layout-clause-moves g c =
     let form : first_fault c.in-Layout.layout.value c.args.plan.now.projection.scope ≡ None = rw (c.deref.ensures, c.scope.ensures) at c.in-None.ensures in
-    layout_moves g.O.LayoutReaderFactory.opener g.S.SegmentSource.state c.args.plan.now.projection.scope c.args.plan.now.request.now c.args.plan.now.projection c.args.plan.now.places.items c.args.plan.now.chosen.items c.requires.plan c.args.file.now _ _ c.in-Layout.layout.value c.in-Layout.ensures.0 c.in-Layout.ensures.1 form c.requires.idle (rw c.deref-in-None.ensures at c.scan_layout.ensures.reads)
+    layout_moves g.O.LayoutReaderFactory.opener g.S.SegmentSource.state c.args.plan.now.projection.scope c.args.plan.now.request.now c.args.plan.now.projection c.args.plan.now.places.items c.args.plan.now.chosen.items c.requires.plan c.args.file.now _ _ c.in-Layout.layout.value c.args.file.now.source_id (g.C.KeyedSegmentCache.cache c.args.cache.now) (g.C.KeyedSegmentCache.cache c.scan_layout.new.cache) c.in-Layout.ensures.0 c.in-Layout.ensures.1 form c.requires.idle (rw c.deref-in-None.ensures at c.scan_layout.ensures.fetches)
 
 pub returns-in-Layout-clause-read : goal.returns-in-Layout-clause-read
 returns-in-Layout-clause-read g c =
     let form : first_fault c.in-Layout.layout.value c.args.plan.now.projection.scope ≡ None = rw (c.deref.ensures, c.scope.ensures) at c.in-None.ensures in
-    IfOk-weaker c.scan_layout.result _ _ (λ o h. read-layout c.args.plan.now.projection.scope (g.O.LayoutReaderFactory.opener c.args.file.now.opener).gives c.in-Layout.layout.value c.in-Layout.ensures.1 form) c.scan_layout.ensures.ok
+    ok_always c.scan_layout.result (IfSome (g.O.LayoutReaderFactory.opener c.args.file.now.opener).gives (IsSkippedOrRead c.args.plan.now.projection.scope)) (read-layout c.args.plan.now.projection.scope (g.O.LayoutReaderFactory.opener c.args.file.now.opener).gives c.in-Layout.layout.value c.in-Layout.ensures.1 form)
 
 pub returns-in-Layout-clause-ok : goal.returns-in-Layout-clause-ok
 returns-in-Layout-clause-ok g c =
     let form : first_fault c.in-Layout.layout.value c.args.plan.now.projection.scope ≡ None = rw (c.deref.ensures, c.scope.ensures) at c.in-None.ensures in
-    IfOk-weaker c.scan_layout.result _ _ (λ o h told. layout_given g.O.LayoutReaderFactory.opener g.S.SegmentSource.state c.args.plan.now.projection.scope c.args.plan.now.request.now c.args.plan.now.projection c.args.plan.now.places.items c.args.plan.now.chosen.items c.requires.plan c.args.file.now c.in-Layout.layout.value c.args.place o c.in-Layout.ensures.1 form h told) (rw c.deref-in-None.ensures at c.scan_layout.ensures.ok)
+    IfOk-weaker c.scan_layout.result _ _ (λ r h told trust. layout_given g.O.LayoutReaderFactory.opener g.S.SegmentSource.state c.args.plan.now.projection.scope c.args.plan.now.request.now c.args.plan.now.projection c.args.plan.now.places.items c.args.plan.now.chosen.items c.requires.plan c.args.file.now c.in-Layout.layout.value c.args.place r.chunk c.in-Layout.ensures.1 form (h trust) told) (rw c.deref-in-None.ensures at c.scan_layout.ensures.ok)
 
 pub returns-in-Layout-clause-chunks : goal.returns-in-Layout-clause-chunks
 returns-in-Layout-clause-chunks g c =
-    IfOk-weaker c.scan_layout.result _ _ (λ o h. h.chunks) c.scan_layout.ensures.ok
+    c.scan_layout.ensures.chunks
 
 pub returns-in-Layout-clause-cause : goal.returns-in-Layout-clause-cause
 returns-in-Layout-clause-cause g c =
     let form : first_fault c.in-Layout.layout.value c.args.plan.now.projection.scope ≡ None = rw (c.deref.ensures, c.scope.ensures) at c.in-None.ensures in
-    IfErr-weaker c.scan_layout.result _ _ (λ e h. layout_cause g.O.LayoutReaderFactory.opener g.S.SegmentSource.state c.args.plan.now.projection.scope c.args.plan.now.request.now c.args.plan.now.projection c.args.plan.now.places.items c.args.plan.now.chosen.items c.requires.plan c.args.file.now _ _ c.in-Layout.layout.value c.args.place e c.in-Layout.ensures.1 form h) (rw c.deref-in-None.ensures at c.scan_layout.ensures.err)
+    IfErr-weaker c.scan_layout.result _ _ (λ e h. layout_cause g.O.LayoutReaderFactory.opener g.S.SegmentSource.state c.args.plan.now.projection.scope c.args.plan.now.request.now c.args.plan.now.projection c.args.plan.now.places.items c.args.plan.now.chosen.items c.requires.plan (g.C.KeyedSegmentCache.cache c.args.cache.now) c.args.file.now _ _ c.in-Layout.layout.value c.args.place e c.in-Layout.ensures.1 form h) (rw c.deref-in-None.ensures at c.scan_layout.ensures.err)
 
 pub returns-in-Layout-clause-named : goal.returns-in-Layout-clause-named
 returns-in-Layout-clause-named g c =
-    IfErr-weaker c.scan_layout.result _ _ (λ e h. layout_names c.args.place _ _ _ e h) c.scan_layout.ensures.err
+    IfErr-weaker c.scan_layout.result _ _ (λ e h. layout_names c.args.place c.args.file.now.source_id _ _ _ _ e h) c.scan_layout.ensures.err
 
 pub returns-in-Skipped-clause-moves : goal.returns-in-Skipped-clause-moves
 returns-in-Skipped-clause-moves g c =
@@ -71,7 +74,7 @@ returns-in-Skipped-clause-read g c =
 
 pub returns-in-Skipped-clause-ok : goal.returns-in-Skipped-clause-ok
 returns-in-Skipped-clause-ok g c =
-    skip_given g.O.LayoutReaderFactory.opener g.S.SegmentSource.state c.args.plan.now.projection.scope c.args.plan.now.request.now c.args.plan.now.projection c.args.plan.now.places.items c.args.plan.now.chosen.items c.requires.plan c.args.file.now c.args.place c.in-Skipped.ensures.1
+    λ told trust. skip_given g.O.LayoutReaderFactory.opener g.S.SegmentSource.state c.args.plan.now.projection.scope c.args.plan.now.request.now c.args.plan.now.projection c.args.plan.now.places.items c.args.plan.now.chosen.items c.requires.plan c.args.file.now c.args.place c.in-Skipped.ensures.1 told
 
 pub returns-in-Skipped-clause-chunks : goal.returns-in-Skipped-clause-chunks
 returns-in-Skipped-clause-chunks g c =
@@ -92,3 +95,24 @@ returns-in-Failed-clause-named g c =
 pub returns-clause-moves : goal.returns-clause-moves
 returns-clause-moves g c =
     opened_moves g.O.LayoutReaderFactory.opener g.S.SegmentSource.state c.args.plan.now.projection.scope c.args.plan.now.request.now c.args.plan.now.projection c.args.plan.now.places.items c.args.plan.now.chosen.items c.requires.plan c.args.file.now c.open_file.new.opener c.in-NoMemory.ensures
+
+pub returns-in-Some-clause-fetches : goal.returns-in-Some-clause-fetches
+returns-in-Some-clause-fetches g c = record { wants = []; fetches = fetches_nothing c.args.file.now.source_id [] (g.C.KeyedSegmentCache.cache c.args.cache.now) (g.S.SegmentSource.state c.args.file.now.source) c.requires.idle }
+
+pub returns-in-Skipped-clause-fetches : goal.returns-in-Skipped-clause-fetches
+returns-in-Skipped-clause-fetches g c = record { wants = []; fetches = fetches_nothing c.args.file.now.source_id [] (g.C.KeyedSegmentCache.cache c.args.cache.now) (g.S.SegmentSource.state c.args.file.now.source) c.requires.idle }
+
+pub returns-in-Failed-clause-fetches : goal.returns-in-Failed-clause-fetches
+returns-in-Failed-clause-fetches g c = record { wants = []; fetches = fetches_nothing c.args.file.now.source_id [] (g.C.KeyedSegmentCache.cache c.args.cache.now) (g.S.SegmentSource.state c.args.file.now.source) c.requires.idle }
+
+pub returns-clause-fetches : goal.returns-clause-fetches
+returns-clause-fetches g c = record { wants = []; fetches = fetches_nothing c.args.file.now.source_id [] (g.C.KeyedSegmentCache.cache c.args.cache.now) (g.S.SegmentSource.state c.args.file.now.source) c.requires.idle }
+
+pub returns-in-Layout-clause-fetches : goal.returns-in-Layout-clause-fetches
+returns-in-Layout-clause-fetches g c = record { wants = _; fetches = c.scan_layout.ensures.fetches }
+
+pub returns-in-Layout-clause-counts : goal.returns-in-Layout-clause-counts
+returns-in-Layout-clause-counts g c = c.scan_layout.ensures.counts
+
+pub returns-in-Skipped-clause-counts : goal.returns-in-Skipped-clause-counts
+returns-in-Skipped-clause-counts g c = counts_nothing c.args.file.now.source_id (g.C.KeyedSegmentCache.cache c.args.cache.now) (g.S.SegmentSource.state c.args.file.now.source) c.default.result c.requires.idle c.default.ensures

@@ -1,5 +1,5 @@
-use Rattle.scan_multi.specs.Fetch.{Opens}
-use Rattle.scan_multi.proofs.scan.fetch.open_file.Given as goal
+use Rattle.scan_multi.specs.Opened.{Opens}
+use Rattle.scan_multi.proofs.scan.open.open_file.Given as goal
 
 abbrev pub invariant-wait : goal.invariant-wait
 invariant-wait g l = Opens (g.O.LayoutReaderFactory.opener l.fn.opener) (g.O.LayoutReaderFactory.opener l.opener)

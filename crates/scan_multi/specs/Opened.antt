@@ -1,0 +1,19 @@
+-- What waiting for an opener may answer.
+use Rattle.std.specs.Prelude.{◌≡◌, ◌≤◌, IfSome}
+use Rattle.scan_segments.specs.Faults.{Rose}
+use Rattle.scan_multi.specs.declared.scan.open.OpenedFile.{OpenedFile}
+use Rattle.scan_multi.specs.declared.scan.open.OpenedFile.TheVariants as opened
+use Rattle.scan_multi.specs.Opener.{OpenerState, layout_of, skip}
+
+-- an opener after some polls
+pub record Opens (old new : OpenerState) : Type 0 where
+  pub gives : new.gives ≡ old.gives
+  pub faults : old.faults ≤ new.faults
+  pub turns : new.turns ≤ old.turns
+  pub polled : old.polled ≤ new.polled
+
+abbrev pub IsOpened : OpenerState → OpenerState → OpenedFile → Type 0
+IsOpened old new (opened.Layout layout) = Opens old new × IfSome old.gives (λ g. g ≡ layout_of layout.value)
+IsOpened old new opened.Skipped = Opens old new × IfSome old.gives (λ g. g ≡ skip)
+IsOpened old new opened.Failed = Opens old new × Rose old.faults new.faults
+IsOpened old new opened.NoMemory = Opens old new
