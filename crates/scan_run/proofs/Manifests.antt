@@ -13,7 +13,7 @@ use Rattle.scan_run.specs.declared.json.Form.TheVariants as form
 use Rattle.scan_run.specs.declared.manifest.FileSpec.{FileSpec}
 use Rattle.scan_run.specs.declared.manifest.Manifest.{Manifest}
 use Rattle.scan_expr.specs.declared.request.ScanRequest.{ScanRequest}
-use Rattle.scan_run.specs.declared.manifest.CacheSpec.{CacheSpec}
+use Rattle.scan_run.specs.CacheSize.{CacheSize}
 use Rattle.scan_run.specs.declared.json.ParseFault.{ParseFault}
 use Rattle.scan_run.specs.declared.json.ParseFault.TheVariants.{Bad, NoMemory}
 use Rattle.scan_run.specs.Parse.{IsParse}
@@ -43,7 +43,7 @@ one_agrees (f ∷ g ∷ fs) h = absurd (omega arith)
 
 -- ---- the parts of a manifest
 module _ (d : Data) (t : DataType) (fs : List FileSpec) where
-  kept : (w : Option ℕ) (c : Option CacheSpec) (r : Option ScanRequest) (k : Manifest)
+  kept : (w : Option ℕ) (c : Option CacheSize) (r : Option ScanRequest) (k : Manifest)
       → option_and_then (λ workers. option_and_then (λ cache. option_map (λ request. let m : Manifest = record { dtype = t; files = fs; request = request; workers = workers; cache = cache } in m) r) c) w ≡ Some k → k.files ≡ fs
   kept None c r k h = cc
   kept (Some w) None r k h = cc

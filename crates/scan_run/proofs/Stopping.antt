@@ -57,23 +57,23 @@ module _ (m : Manifest) (spec : FileSpec) (f : ScanFile MemoryOpener MemorySourc
   same_count : length (f ∷ []) ≡ length m.files
   same_count = sym (ap length one)
 
-  other_type : (place : ℕ) → FaultAt memory_opener source_state m.workers m.dtype m.request (f ∷ []) new place (fault.DTypeMismatch place) → IsOfOtherType m.dtype (given_by spec)
+  other_type : (place : ℕ) → FaultAt memory_opener source_state m.workers m.dtype m.request empty_cache (f ∷ []) new place (fault.DTypeMismatch place) → IsOfOtherType m.dtype (given_by spec)
   other_type zero c = told_is _ (given_by spec) (IsOfOtherType m.dtype) is.gives (c.cause f).0
   other_type (suc k) c = let t = c.there in absurd (omega arith)
 
-  ill_formed : (place : ℕ) (l : LayoutFault) → FaultAt memory_opener source_state m.workers m.dtype m.request (f ∷ []) new place (fault.Layout place l) → IsIllFormed m.dtype l (given_by spec)
+  ill_formed : (place : ℕ) (l : LayoutFault) → FaultAt memory_opener source_state m.workers m.dtype m.request empty_cache (f ∷ []) new place (fault.Layout place l) → IsIllFormed m.dtype l (given_by spec)
   ill_formed zero l c = told_is _ (given_by spec) (IsIllFormed m.dtype l) is.gives (c.cause f).0
   ill_formed (suc k) l c = let t = c.there in absurd (omega arith)
 
-  bad_file : (place id : ℕ) → FaultAt memory_opener source_state m.workers m.dtype m.request (f ∷ []) new place (fault.Corrupt place id) → HasBad (store_of spec.segments) (named_places m.dtype m.request (given_by spec) (store_of spec.segments)) id
+  bad_file : (place id : ℕ) → FaultAt memory_opener source_state m.workers m.dtype m.request empty_cache (f ∷ []) new place (fault.Corrupt place id) → HasBad (store_of spec.segments) (named_places m.dtype m.request (given_by spec) (store_of spec.segments)) id
   bad_file zero id c =
       let at : Store → Type 0 = λ store. HasBad store (named_places m.dtype m.request (given_by spec) store) id in
       let over : Given → Type 0 = λ given. IfSome (source_state f.source).holds (λ store. HasBad store (named_places m.dtype m.request given store) id) in
-      told_is _ (store_of spec.segments) at is.holds (told_is _ (given_by spec) over is.gives (c.cause f).0)
+      told_is _ (store_of spec.segments) at is.holds (told_is _ (given_by spec) over is.gives ((c.cause f).0 (record { tells = refl; agrees = λ id. tt })))
   bad_file (suc k) id c = let t = c.there in absurd (omega arith)
 
   -- each cause is one that the manifest shows
-  pub stopped : (e : ScanFault) → HasCause memory_opener source_state m.workers m.dtype m.request (f ∷ []) new e → IsStop m (stop_of e)
+  pub stopped : (e : ScanFault) → HasCause memory_opener source_state m.workers m.dtype m.request empty_cache (f ∷ []) new e → IsStop m (stop_of e)
   stopped fault.NoMemory c = tt
   stopped (fault.Opener place) c = tt
   stopped (fault.Source place id) c = tt
@@ -141,8 +141,8 @@ module _ (m : Manifest) (made : List (ScanFile MemoryOpener MemorySource)) (are 
       → (IsLawful memory_opener source_state made empty_cache → Admits m.dtype m.request (answer m.dtype m.request (told memory_opener source_state made)) chunks) → IsScanned m chunks
   scanned chunks p a = record { passes = p; admits = subst (λ ts. Admits m.dtype m.request (answer m.dtype m.request ts) chunks) made_told (a made_lawful) }
 
-  pub made_stopped : (new : List (ScanFile MemoryOpener MemorySource)) (e : ScanFault) → HasCause memory_opener source_state m.workers m.dtype m.request made new e → IsStop m (stop_of e)
-  made_stopped new e h = stopped m are.0 are.1 new are.2 are.4 e (subst (λ fs. HasCause memory_opener source_state m.workers m.dtype m.request fs new e) are.3 h)
+  pub made_stopped : (new : List (ScanFile MemoryOpener MemorySource)) (e : ScanFault) → HasCause memory_opener source_state m.workers m.dtype m.request empty_cache made new e → IsStop m (stop_of e)
+  made_stopped new e h = stopped m are.0 are.1 new are.2 are.4 e (subst (λ fs. HasCause memory_opener source_state m.workers m.dtype m.request empty_cache fs new e) are.3 h)
 
 -- ---- the same, of a scan of what is asked
 module _ (a : Asked) (made : List (ScanFile MemoryOpener MemorySource)) where
@@ -155,7 +155,7 @@ module _ (a : Asked) (made : List (ScanFile MemoryOpener MemorySource)) where
   asked_scanned chunks p h m is are =
       scanned m made are chunks (rw (is.dtype, is.request, is.workers) p) (rw (is.dtype, is.request) h)
 
-  pub asked_stopped : (new : List (ScanFile MemoryOpener MemorySource)) (e : ScanFault) → HasCause memory_opener source_state a.workers a.dtype a.request made new e
+  pub asked_stopped : (new : List (ScanFile MemoryOpener MemorySource)) (e : ScanFault) → HasCause memory_opener source_state a.workers a.dtype a.request empty_cache made new e
       → (m : Manifest) → IsAsked m a → AreFilesOf m.files made → IsStop m (stop_of e)
   asked_stopped new e h m is are = made_stopped m made are new e (rw (is.dtype, is.request, is.workers) h)
 

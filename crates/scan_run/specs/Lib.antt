@@ -9,6 +9,7 @@ pub mod Json
 pub mod DTypes
 pub mod Layouts
 pub mod Exprs
+pub mod CacheSize
 pub mod Manifest
 pub mod Run
 pub mod Printed

@@ -22,7 +22,7 @@ use Rattle.scan_segments.specs.declared.bounded.SegmentEviction.TheVariants.{Lru
 use Rattle.scan_run.specs.declared.json.Form.TheVariants as form
 use Rattle.scan_run.specs.declared.manifest.Calls.{Calls}
 use Rattle.scan_run.specs.declared.manifest.FileSpec.{FileSpec}
-use Rattle.scan_run.specs.declared.manifest.CacheSpec.{CacheSpec}
+use Rattle.scan_run.specs.CacheSize.{CacheSize}
 use Rattle.scan_run.specs.declared.manifest.Manifest.{Manifest}
 use Rattle.scan_run.specs.Json.{has_form, number_of, number_to, optional, flag_at, pair_in, list_in, both}
 use Rattle.scan_run.specs.DTypes.{dtype_in}
@@ -134,7 +134,7 @@ eviction_named k = if bytes_eq k (codes "lru") then Some Lru else (if bytes_eq k
 abbrev pub from_one : Option ℕ → Option ℕ
 from_one o = option_and_then (λ n. if nat_le 1 n then Some n else None) o
 
-abbrev pub cache_in : Data → Option CacheSpec
+abbrev pub cache_in : Data → Option CacheSize
 cache_in d = if has_form form.Cache d then
     option_and_then (λ bytes. option_and_then (λ entries. option_map (λ eviction. record { bytes = bytes; entries = entries; eviction = eviction })
     (option_and_then eviction_named (option_and_then as_str (get (codes "eviction") d))))
@@ -142,7 +142,7 @@ cache_in d = if has_form form.Cache d then
     (option_and_then number_of (get (codes "bytes") d))
     else None
 
-abbrev pub usual_cache : CacheSpec
+abbrev pub usual_cache : CacheSize
 usual_cache = record { bytes = 1048576; entries = 1024; eviction = Lru }
 
 -- the rest of a manifest of this dtype and these files

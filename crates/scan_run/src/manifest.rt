@@ -1,5 +1,5 @@
 // A manifest: a dtype, files and a request, read from JSON.
-ghost use Rattle.std.specs.Prelude.{◌≡◌, ◌≢◌, [], ℕ, List, length, IfOk, IfErr, Some, None, option_map, option_and_then, codes, true};
+ghost use Rattle.std.specs.Prelude.{◌≡◌, ◌≢◌, ◌<◌, ◌≤◌, [], ℕ, List, length, IfOk, IfErr, Some, None, option_map, option_and_then, codes, true};
 ghost use Rattle.std.specs.Result.{result_ok};
 ghost use Rattle.hex.specs.Hex.{decode_of};
 ghost use Rattle.serde_json.specs.Data.{Data};
@@ -141,12 +141,59 @@ impl Files {
     }
 }
 
-/// How large a cache is, and what it drops first.
-#[derive(Clone, Copy, Debug, PartialEq, Eq)]
+/// How large a cache is, and what it drops first. It has 1 to 65,536 entries.
+#[derive(Drop)]
 pub struct CacheSpec {
-    pub bytes: u64,
-    pub entries: usize,
-    pub eviction: SegmentEviction,
+    bytes: u64,
+    entries: usize,
+    eviction: SegmentEviction,
+}
+
+impl Model for CacheSpec {
+    ghost use Rattle.std.specs.Prelude.{◌<◌, ◌≤◌};
+    ghost use Rattle.scan_run.specs.CacheSize.{CacheSize};
+
+    ghost Value = { CacheSize };
+
+    ghost view = { λ c. record { bytes = c.bytes; entries = c.entries; eviction = c.eviction } };
+
+    ghost invariant = { λ c. (0 < c.entries) × (c.entries ≤ 65536) };
+}
+
+impl CacheSpec {
+    pub fn new(bytes: u64, entries: usize, eviction: SegmentEviction) -> Self
+        requires { (0 < entries) × (entries ≤ 65536) }
+        ensures { result ≡ record { bytes = bytes; entries = entries; eviction = eviction } }
+    {
+        CacheSpec {
+            bytes,
+            entries,
+            eviction,
+        }
+    }
+
+    /// The most bytes that it keeps.
+    pub fn bytes(&self) -> u64
+        ensures { result ≡ self.now.bytes }
+    {
+        self.bytes
+    }
+
+    /// The most entries that it keeps.
+    pub fn entries(&self) -> usize
+        ensures exact { result ≡ self.now.entries }
+        ensures some { 0 < result }
+        ensures most { result ≤ 65536 }
+    {
+        self.entries
+    }
+
+    /// Which entries it drops first.
+    pub fn eviction(&self) -> SegmentEviction
+        ensures { result ≡ self.now.eviction }
+    {
+        self.eviction
+    }
 }
 
 /// What a scan is made from.
@@ -412,7 +459,8 @@ fn read_eviction(json: &Value) -> Result<SegmentEviction, ParseFault>
 }
 
 fn read_entries(json: &Value) -> Result<usize, ParseFault>
-    ensures { IsParse (from_one (option_and_then (number_to 65_536) (get (codes "entries") (view json.now)))) result }
+    ensures parsed { IsParse (from_one (option_and_then (number_to 65_536) (get (codes "entries") (view json.now)))) result }
+    ensures within { IfOk result (λ n. (0 < n) × (n ≤ 65536)) }
 {
     let n = read_number_to(member(json, "entries")?, 65_536)?;
     if n < 1 {
@@ -430,11 +478,7 @@ fn read_cache(json: &Value) -> Result<CacheSpec, ParseFault>
     let bytes = read_number(member(json, "bytes")?)?;
     let entries = read_entries(json)?;
     let eviction = read_eviction(member(json, "eviction")?)?;
-    Ok(CacheSpec {
-        bytes,
-        entries,
-        eviction,
-    })
+    Ok(CacheSpec::new(bytes, entries, eviction))
 }
 
 fn read_maybe_cache(json: &Value) -> Result<CacheSpec, ParseFault>
@@ -442,11 +486,7 @@ fn read_maybe_cache(json: &Value) -> Result<CacheSpec, ParseFault>
 {
     match json.get("cache") {
         Some(cache) => read_cache(cache),
-        None => Ok(CacheSpec {
-            bytes: 1_048_576,
-            entries: 1024,
-            eviction: SegmentEviction::Lru,
-        }),
+        None => Ok(CacheSpec::new(1_048_576, 1024, SegmentEviction::Lru)),
     }
 }
 

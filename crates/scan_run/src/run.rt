@@ -1,6 +1,8 @@
 // The program's run, over any input and output.
 ghost use Rattle.std.specs.Prelude.{◌≡◌, ◌≢◌, ◌⊎◌, ◌↔◌, ◌<◌, [], ◌∷◌, List, length, map, string_bytes, false, IfOk, IfErr, Some, None, if◌then◌else◌};
 ghost use Rattle.scan_segments.specs.Faults.{Rose};
+ghost use Rattle.scan_segments.specs.Cache.{empty_cache};
+ghost use Rattle.scan_segments.specs.Bounded.{bounded, keyed_state};
 ghost use Rattle.scan_multi.specs.Opener.{skip, layout_of};
 ghost use Rattle.scan_multi.specs.OpenerMemory.{given_of};
 ghost use Rattle.scan_multi.specs.Output.{ChunkData};
@@ -16,13 +18,13 @@ ghost use Rattle.scan_run.specs.declared.manifest.Manifest.{Manifest};
 
 use crate::input::{Input, MOST_BYTES, ReadFault, read_all};
 use crate::json::ParseFault;
-use crate::manifest::{FileSpec, Files, LayoutTree, Manifest, parse_manifest};
+use crate::manifest::{CacheSpec, FileSpec, Files, LayoutTree, Manifest, parse_manifest};
 use crate::output::{Output, WriteFault, write_all};
 use crate::print::push_chunks;
 use scan_expr::ScanRequest;
 use scan_layout::LayoutRef;
 use scan_multi::{Gate, MemoryOpener, ScanFault, ScanFile, ScanOutput, scan_files};
-use scan_segments::{MemorySource, NoOpSegmentCache, SegmentSourceId};
+use scan_segments::{MemorySource, MokaSegmentCache, SegmentEviction, SegmentSourceId};
 use scan_values::{DType, NoMemory};
 use std::alloc::Global;
 use std::thread::Threads;
@@ -138,6 +140,7 @@ struct Asked {
     dtype: DType,
     request: ScanRequest,
     workers: usize,
+    cache: CacheSpec,
 }
 
 impl Drop for Asked {
@@ -146,6 +149,7 @@ impl Drop for Asked {
             dtype: _,
             request: _,
             workers: _,
+            cache: _,
         } = self;
     }
 }
@@ -166,17 +170,27 @@ fn scan_manifest<R: Threads + Sync, G: Gate>(
         files,
         request,
         workers,
-        cache: _,
+        cache,
     } = manifest;
     let asked = Asked {
         dtype,
         request,
         workers,
+        cache,
     };
     match one_file(alloc, files) {
         Ok(made) => scan_made(rt, alloc, &asked, made, gate),
         Err(NoMemory) => Err(Stop::NoMemory),
     }
+}
+
+/// An empty cache of a manifest's size. So far it drops the least recently used entries first, whatever is named: the
+/// rows that a scan gives do not depend on it.
+fn new_cache(alloc: Global, size: &CacheSpec) -> Result<MokaSegmentCache, NoMemory>
+    ensures exact { IfOk result (λ c. c ≡ bounded [] size.now.bytes size.now.entries) }
+    ensures empty { IfOk result (λ c. keyed_state c ≡ empty_cache) }
+{
+    MokaSegmentCache::new(alloc, size.bytes(), size.entries(), SegmentEviction::Lru)
 }
 
 /// The chunks of a scan of files that were made.
@@ -192,7 +206,10 @@ fn scan_made<R: Threads + Sync, G: Gate>(
     ensures stop { IfErr result (λ s. (m : Manifest) → IsAsked m asked.now → AreFilesOf m.files made.items → IsStop m s) }
 {
     let mut files = made;
-    let mut cache = NoOpSegmentCache::new();
+    let mut cache = match new_cache(alloc, &asked.cache) {
+        Ok(cache) => cache,
+        Err(NoMemory) => return Err(Stop::NoMemory),
+    };
     match scan_files(
         rt,
         alloc,
