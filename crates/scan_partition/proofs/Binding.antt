@@ -25,7 +25,8 @@ use Rattle.scan_partition.specs.Rows.{Distinct}
 use Rattle.scan_partition.specs.Found.{AllFound, FoundBy, FoundAt, NamesFound, AllNamesFound}
 use Rattle.scan_partition.specs.Shallow.{NodesWithin, AllNodesWithin}
 use Rattle.scan_partition.specs.Conditions.{IsStruct, IsOverStruct}
-use Rattle.scan_partition.specs.Binding.{BoundOverAStruct}
+use Rattle.scan_partition.specs.RowSplit.{IsOverRows}
+use Rattle.scan_partition.specs.Binding.{BoundOverAStruct, BoundOverRows}
 use Rattle.scan_partition.proofs.Expanded.{is_root-sound}
 use Rattle.scan_partition.proofs.Names.{false_if, bytes_eq-refl}
 
@@ -208,6 +209,16 @@ bound_over s e d h st =
       shallow = nodes_shallow s e nodes;
     }
 
+pub bound_over_rows : BoundOverRows
+bound_over_rows s e d h =
+    let none : bind_fault s e ≡ None = no_fault (bind_fault s e) (infer s e) d h in
+    let rest = second_none (depth_fault s) (or_fault (of_names (dtype_fault s)) (or_fault (unless (leb (expr_depth e) 100) Deep) (nodes_fault s e))) none in
+    let nodes = second_none (unless (leb (expr_depth e) 100) Deep) (nodes_fault s e) (second_none (of_names (dtype_fault s)) (or_fault (unless (leb (expr_depth e) 100) Deep) (nodes_fault s e)) rest) in
+    record {
+      scope = shallow_if s (first_none (depth_fault s) (or_fault (of_names (dtype_fault s)) (or_fault (unless (leb (expr_depth e) 100) Deep) (nodes_fault s e))) none);
+      nodes = nodes_shallow s e nodes;
+    }
+
 -- ---- for callers
 pub is_struct : (d : DataType) (fs : Fields) (n : Nullability) → d ≡ struct_type fs n → IsStruct d
 is_struct d fs n h = subst IsStruct (sym h) refl
@@ -223,3 +234,11 @@ pub bound_meets : (s : DataType) (e : Expr) (b : Bound) → Ok b ≡ typed (bind
 bound_meets s e b h st =
     let r = one_bound (bind_fault s e) b (bound_of s e) h in
     subst IsOverStruct (sym r.1) (bound_over s e (infer s e) (ap (λ (f : Fault). typed f (infer s e)) r.0) st)
+
+pub bound_meets_rows : (s : DataType) (e : Expr) (b : Bound) → Ok b ≡ typed (bind_fault s e) (bound_of s e) → IsOverRows b
+bound_meets_rows s e b h =
+    let r = one_bound (bind_fault s e) b (bound_of s e) h in
+    subst IsOverRows (sym r.1) (bound_over_rows s e (infer s e) (ap (λ (f : Fault). typed f (infer s e)) r.0))
+
+pub bound_is : (s : DataType) (e : Expr) (b : Bound) → Ok b ≡ typed (bind_fault s e) (bound_of s e) → b ≡ bound_of s e
+bound_is s e b h = (one_bound (bind_fault s e) b (bound_of s e) h).1

@@ -11,7 +11,7 @@ use Rattle.scan_expr.specs.declared.op.Unary.{Unary}
 use Rattle.scan_expr.specs.declared.op.Unary.TheVariants.{GetItem, Select, Exclude, Not, IsNull, IsNotNull, ListLength}
 use Rattle.scan_expr.specs.Expr.{is_root, Expr, root, row_index, literal, unary, binary, pack, Parts, no_parts, part}
 use Rattle.scan_partition.specs.declared.item.Item.{Item}
-use Rattle.scan_partition.specs.declared.rewrite.Rewriting.TheVariants.{Expand, StepIn, Validity, Lengths}
+use Rattle.scan_partition.specs.declared.rewrite.Rewriting.TheVariants.{Expand, Validity, Lengths}
 use Rattle.scan_partition.specs.declared.list_.ListChildrenNeeded.TheVariants.{Validity as ValidityAlone, OffsetsAndValidity}
 use Rattle.scan_partition.specs.Items.{spelled, AtMost, use_of, IsExpanded}
 use Rattle.scan_partition.specs.Expand.{expanded_struct_root, expand}
@@ -20,14 +20,12 @@ use Rattle.scan_partition.specs.Lists.{IsClass, necessary, all_necessary, childr
 use Rattle.scan_partition.specs.Rewrite.{rewritten, NodesHold}
 use Rattle.scan_partition.specs.Rewritings.{rules_of}
 use Rattle.scan_partition.specs.Rows.{Distinct, IsRow}
-use Rattle.scan_partition.specs.Bare.{bare}
 use Rattle.scan_partition.specs.Shallow.{IsShallow, NodesWithin, AllNodesWithin}
 use Rattle.scan_partition.specs.Conditions.{IsStruct, IsOverStruct}
 use Rattle.scan_partition.proofs.Through.{seen, step_into-through, own_reads, through-seen}
 use Rattle.scan_partition.proofs.Pushed.{expand_like}
-use Rattle.scan_partition.proofs.Depths.{expand_within, within_fits, step_into_within}
+use Rattle.scan_partition.proofs.Depths.{expand_within, within_fits}
 use Rattle.scan_partition.proofs.Classes.{class-split, rewrite_validity_seen, rewrite_offsets_seen}
-use Rattle.scan_partition.proofs.Kept.{steps}
 use Rattle.scan_expr.specs.Typing.{typing_fault}
 use Rattle.scan_partition.proofs.Typed.{NodesTyped, typed_nodes}
 use Rattle.scan_partition.proofs.ExpandTyped.{expand_typed}
@@ -50,9 +48,6 @@ expand_fits b s h o t =
 
 pub expand_values : (b : Bound) → IsOverStruct b → (v : Marked) (k : ℕ) → IsRow (struct_fields b.scope) (nullability_of b.scope) v → eval b.scope (expand b.scope b.expr) v k ≡ eval b.scope b.expr v k
 expand_values b o v k r = subst (λ (t : DataType). eval t (expand t b.expr) v k ≡ eval t b.expr v k) o.structure (expand_like (struct_fields b.scope) (nullability_of b.scope) v k o.distinct r b.expr).value
-
-pub step_fits : (s d : DataType) (i : Item) (e : Expr) → IsExpanded e → AtMost i (use_of e) → bare d ≡ bare (infer s (spelled i)) → IsShallow s e → typing_fault d (step_into e) ≡ None → NodesHold d (rewritten (rules_of StepIn d) e)
-step_fits s d i e p a h w t = subst (NodesHold d) (sym (steps d e)) (within_fits 64 d (step_into e) (lit≤ tt) (step_into_within s d i h e p a w) (typed_nodes d (step_into e) t))
 
 pub stepped_seen : (s : DataType) (i : Item) (e : Expr) (v : Marked) (k : ℕ) → IsExpanded e → AtMost i (use_of e) → seen (infer s (spelled i)) (eval s (spelled i) v k) k (step_into e) ≡ seen s v k e
 stepped_seen s i e v k p a = step_into-through (own_reads s v k) k i e p a ∙ through-seen s v k e p

@@ -18,11 +18,11 @@ use Rattle.scan_partition.specs.Rewrite.{NodesHold, AllNodesHold}
 use Rattle.scan_partition.specs.Shallow.{NodesWithin, AllNodesWithin}
 use Rattle.scan_partition.specs.Rows.{Distinct}
 use Rattle.scan_partition.specs.Items.{AtMost}
-use Rattle.scan_partition.proofs.Through.{both-split, item_of-spelled, through, through_all, or_read, seen_unary}
+use Rattle.scan_partition.proofs.Through.{both-split, item_of-spelled, through, through_all, or_read, seen_unary, step_into-through}
 use Rattle.scan_partition.specs.Bare.{bare, bare_all}
 use Rattle.scan_partition.proofs.Bare.{bare-with, unary-same, binary-same, expand-bare, step_into-bare}
 use Rattle.scan_partition.proofs.Expanded.{is_root-sound}
-use Rattle.scan_partition.proofs.Typed.{NodesTyped, AllNodesTyped}
+use Rattle.scan_partition.proofs.Typed.{NodesTyped, AllNodesTyped, item_or}
 
 -- ---- dtypes without their nullability are as deep
 mutual
@@ -30,7 +30,7 @@ mutual
   depth-bare (bool_type n) = refl
   depth-bare (int_type p n) = refl
   depth-bare (utf8_type n) = refl
-  depth-bare (list_type d n) = refl
+  depth-bare (list_type d n) = ap (λ k. k + 1) (depth-bare d)
   depth-bare (struct_type fs n) = ap (λ k. k + 1) (fields_depth-bare fs)
 
   fields_depth-bare : (fs : Fields) → fields_depth (bare_all fs) ≡ fields_depth fs
@@ -181,3 +181,61 @@ module _ (s : DataType) (r : Reads) (k : ℕ) (same : (i : Item) → bare (r i).
     through_all-bare : (ps : Parts) → AreExpanded ps → bare_all (through_all r k ps).0 ≡ bare_all (infer_all s ps)
     through_all-bare no_parts p = refl
     through_all-bare (part n e ps) p = λ j. field n (through-bare e p.0 j) (through_all-bare ps p.1 j)
+
+-- no node, through the items, is deeper than 64
+abbrev mutual
+  pub ThroughWithin : Reads → ℕ → Expr → Type 0
+  ThroughWithin r k root = Unit {0}
+  ThroughWithin r k row_index = Unit {0}
+  ThroughWithin r k (literal d v) = depth_of d ≤ 64
+  ThroughWithin r k (unary u e) = (depth_of (through r k (unary u e)).0 ≤ 64) × ItemOr (item_of u e) (ThroughWithin r k e)
+  ThroughWithin r k (binary b x y) = (depth_of (through r k (binary b x y)).0 ≤ 64) × ThroughWithin r k x × ThroughWithin r k y
+  ThroughWithin r k (pack ps n) = (depth_of (through r k (pack ps n)).0 ≤ 64) × AllThroughWithin r k ps
+
+  pub AllThroughWithin : Reads → ℕ → Parts → Type 0
+  AllThroughWithin r k no_parts = Unit {0}
+  AllThroughWithin r k (part n e ps) = ThroughWithin r k e × AllThroughWithin r k ps
+
+module _ (s : DataType) (r : Reads) (k : ℕ) (same : (i : Item) → bare (r i).0 ≡ bare (infer s (spelled i))) where
+  top_through : (e : Expr) → IsExpanded e → depth_of (infer s e) ≤ 64 → depth_of (through r k e).0 ≤ 64
+  top_through e p h = as_deep 64 (through r k e).0 (infer s e) (through-bare s r k same e p) h
+
+  mutual
+    pub within_through : (e : Expr) → IsExpanded e → NodesWithin 64 s e → ThroughWithin r k e
+    within_through root p h = tt
+    within_through row_index p h = tt
+    within_through (literal d v) p h = h
+    within_through (unary u e) p h = (top_through (unary u e) p h.0, item_or (item_of u e) (IsExpanded e) (ThroughWithin r k e) p (λ q. within_through e q h.1))
+    within_through (binary b x y) p h = (top_through (binary b x y) p h.0, within_through x p.0 h.1, within_through y p.1 h.2)
+    within_through (pack ps n) p h = (top_through (pack ps n) p h.0, all_within_through ps p h.1)
+
+    all_within_through : (ps : Parts) → AreExpanded ps → AllNodesWithin 64 s ps → AllThroughWithin r k ps
+    all_within_through no_parts p h = tt
+    all_within_through (part n e ps) p h = (within_through e p.0 h.0, all_within_through ps p.1 h.1)
+
+module _ (r : Reads) (k : ℕ) (i : Item) where
+  step_through_within : (u : Unary) (x e : Expr) (o : Option Item) (w : Use) → ItemOr o (IsExpanded e) → AtMost i (or_use o w) → ItemOr o (ThroughWithin r k e) → depth_of (infer (r i).0 (or_root o (unary u x))) ≤ 64
+      → (IsExpanded e → AtMost i w → ThroughWithin r k e → NodesWithin 64 (r i).0 x) → NodesWithin 64 (r i).0 (or_root o (unary u x))
+  step_through_within u x e None w p a t h f = (h, f p a t)
+  step_through_within u x e (Some j) w p a t h f = h
+
+  top_stepped : (e : Expr) → IsExpanded e → AtMost i (use_of e) → depth_of (through r k e).0 ≤ 64 → depth_of (infer (r i).0 (step_into e)) ≤ 64
+  top_stepped e p a h = subst (λ (d : DataType). depth_of d ≤ 64) (sym (ap (λ x. x.0) (step_into-through r k i e p a))) h
+
+  mutual
+    -- stepped in, they are not deeper either
+    pub through_within : (e : Expr) → IsExpanded e → AtMost i (use_of e) → ThroughWithin r k e → NodesWithin 64 (r i).0 (step_into e)
+    through_within root p a h = absurd p
+    through_within row_index p a h = tt
+    through_within (literal d v) p a h = h
+    through_within (unary u e) p a h = step_through_within u (step_into e) e (item_of u e) (use_of e) p a h.1 (top_stepped (unary u e) p a h.0) (through_within e)
+    through_within (binary b x y) p a h =
+        let hs = both-split i (use_of x) (use_of y) a in
+        (top_stepped (binary b x y) p a h.0, through_within x p.0 hs.0 h.1, through_within y p.1 hs.1 h.2)
+    through_within (pack ps n) p a h = (top_stepped (pack ps n) p a h.0, all_through_within ps p a h.1)
+
+    all_through_within : (ps : Parts) → AreExpanded ps → AtMost i (uses_of ps) → AllThroughWithin r k ps → AllNodesWithin 64 (r i).0 (step_into_all ps)
+    all_through_within no_parts p a h = tt
+    all_through_within (part n e ps) p a h =
+        let hs = both-split i (use_of e) (uses_of ps) a in
+        (through_within e p.0 hs.0 h.0, all_through_within ps p.1 hs.1 h.1)

@@ -12,7 +12,7 @@ use Rattle.scan_expr.specs.declared.op.BindFault.TheVariants.{NoField}
 use Rattle.scan_expr.specs.Typing.{unless, has_field, unary_fault, binary_fault}
 use Rattle.scan_values.specs.FieldLists.{dtype_named}
 use Rattle.scan_partition.specs.declared.item.Item.{Item}
-use Rattle.scan_partition.specs.Items.{spelled, item_name, same_item, item_of, Use, no_use, one, many, use_of, IsExpanded, AreExpanded}
+use Rattle.scan_partition.specs.Items.{item_name, same_item, item_of, Use, no_use, one, many, use_of, IsExpanded, AreExpanded}
 use Rattle.scan_partition.specs.Partition.{Reads, Cut, Group, cut_or, cuts, all_cuts, cuts_of, count_item, added, collected, groups_of, found, step_into, step_into_all, numbered, part_of, leaf_of, leaf_or, root_of, roots_of, joined_fields, stepped_type}
 use Rattle.scan_partition.specs.Rewrite.{NodesHold, AllNodesHold}
 use Rattle.scan_partition.specs.Shallow.{NodesWithin, AllNodesWithin}
@@ -22,77 +22,93 @@ use Rattle.scan_partition.specs.Dividing.{GroupsFit}
 use Rattle.scan_partition.specs.Items.{AtMost}
 use Rattle.scan_partition.proofs.Through.{through, same_item-sound}
 use Rattle.scan_partition.proofs.Parted.{NotOne, expanded_part, whole, item_seen, cuts_around, root_seen, append_first, append_second}
-use Rattle.scan_partition.specs.Bare.{bare}
 use Rattle.scan_partition.proofs.Grouping.{found_collected}
 use Rattle.scan_partition.proofs.Names.{bytes_eq-refl}
 use Rattle.scan_partition.proofs.Typed.{NodesTyped, AllNodesTyped, ThroughTyped, AllThroughTyped, step_typed}
-use Rattle.scan_partition.proofs.Depths.{as_deep, top_within, within_fits, step_into_within, through-bare}
+use Rattle.scan_partition.proofs.Depths.{top_within, within_fits, ThroughWithin, AllThroughWithin, through_within}
 
 -- ---- cuts that are not deep, each of its item alone
-abbrev pub CutOk : DataType → Reads → ℕ → Item → Expr → Type 0
-CutOk s r k i e = IsExpanded e × AtMost i (use_of e) × NodesWithin 64 s e × NodesTyped s e × ThroughTyped r k e
+abbrev pub StepOk : Reads → ℕ → Item → Expr → Type 0
+StepOk r k i e = IsExpanded e × AtMost i (use_of e) × ThroughWithin r k e × ThroughTyped r k e
 
-abbrev pub CutsOk : DataType → Reads → ℕ → List Cut → Type 0
-CutsOk s r k [] = Unit {0}
-CutsOk s r k (c ∷ cs) = CutOk s r k c.0 c.1 × CutsOk s r k cs
+abbrev pub KeepOk : DataType → Item → Expr → Type 0
+KeepOk s i e = NodesWithin 64 s e × NodesTyped s e
 
-oks_append : (s : DataType) (r : Reads) (k : ℕ) (cs ds : List Cut) → CutsOk s r k cs → CutsOk s r k ds → CutsOk s r k (cs ++ ds)
-oks_append s r k [] ds a b = b
-oks_append s r k (c ∷ cs) ds a b = (a.0, oks_append s r k cs ds a.1 b)
+abbrev pub CutsAll : (Item → Expr → Type 0) → List Cut → Type 0
+CutsAll P [] = Unit {0}
+CutsAll P (c ∷ cs) = P c.0 c.1 × CutsAll P cs
 
-oks_by : (s : DataType) (r : Reads) (k : ℕ) (w : Use) (e : Expr) (cs : List Cut) → w ≡ use_of e → IsExpanded e → NodesWithin 64 s e → NodesTyped s e → ThroughTyped r k e → (NotOne w → CutsOk s r k cs) → CutsOk s r k (cut_or w e cs)
-oks_by s r k no_use e cs u p h t g f = f tt
-oks_by s r k (one i) e cs u p h t g f = ((p, subst (AtMost i) u refl, h, t, g), tt)
-oks_by s r k many e cs u p h t g f = f tt
+pub all_append : (P : Item → Expr → Type 0) (cs ds : List Cut) → CutsAll P cs → CutsAll P ds → CutsAll P (cs ++ ds)
+all_append P [] ds a b = b
+all_append P (c ∷ cs) ds a b = (a.0, all_append P cs ds a.1 b)
+
+all_by : (P : Item → Expr → Type 0) (w : Use) (e : Expr) (cs : List Cut) → w ≡ use_of e → ((i : Item) → AtMost i (use_of e) → P i e) → (NotOne w → CutsAll P cs) → CutsAll P (cut_or w e cs)
+all_by P no_use e cs u p f = f tt
+all_by P (one i) e cs u p f = (p i (subst (AtMost i) u refl), tt)
+all_by P many e cs u p f = f tt
 
 mutual
-  pub cuts_ok : (s : DataType) (r : Reads) (k : ℕ) (e : Expr) → IsExpanded e → NodesWithin 64 s e → NodesTyped s e → ThroughTyped r k e → CutsOk s r k (cuts e)
-  cuts_ok s r k root p h t g = absurd p
-  cuts_ok s r k row_index p h t g = tt
-  cuts_ok s r k (literal d v) p h t g = tt
-  cuts_ok s r k (unary u e) p h t g =
-      oks_by s r k (use_of (unary u e)) (unary u e) (cuts e) refl p h t g
-      (λ n. cuts_ok s r k e (expanded_part (item_of u e) (use_of e) (IsExpanded e) n p) h.1 t.1 (expanded_part (item_of u e) (use_of e) ((unary_fault u (through r k e).0 ≡ None) × ThroughTyped r k e) n g).1)
-  cuts_ok s r k (binary b x y) p h t g =
-      oks_by s r k (use_of (binary b x y)) (binary b x y) (cuts x ++ cuts y) refl p h t g (λ _. oks_append s r k (cuts x) (cuts y) (cuts_ok s r k x p.0 h.1 t.1 g.1) (cuts_ok s r k y p.1 h.2 t.2 g.2))
-  cuts_ok s r k (pack ps n) p h t g = oks_by s r k (use_of (pack ps n)) (pack ps n) (all_cuts ps) refl p h t g (λ _. all_cuts_ok s r k ps p h.1 t g)
+  pub cuts_step : (r : Reads) (k : ℕ) (e : Expr) → IsExpanded e → ThroughWithin r k e → ThroughTyped r k e → CutsAll (StepOk r k) (cuts e)
+  cuts_step r k root p h g = absurd p
+  cuts_step r k row_index p h g = tt
+  cuts_step r k (literal d v) p h g = tt
+  cuts_step r k (unary u e) p h g =
+      all_by (StepOk r k) (use_of (unary u e)) (unary u e) (cuts e) refl (λ i a. (p, a, h, g))
+      (λ n. cuts_step r k e (expanded_part (item_of u e) (use_of e) (IsExpanded e) n p) (expanded_part (item_of u e) (use_of e) (ThroughWithin r k e) n h.1) (expanded_part (item_of u e) (use_of e) ((unary_fault u (through r k e).0 ≡ None) × ThroughTyped r k e) n g).1)
+  cuts_step r k (binary b x y) p h g =
+      all_by (StepOk r k) (use_of (binary b x y)) (binary b x y) (cuts x ++ cuts y) refl (λ i a. (p, a, h, g)) (λ _. all_append (StepOk r k) (cuts x) (cuts y) (cuts_step r k x p.0 h.1 g.1) (cuts_step r k y p.1 h.2 g.2))
+  cuts_step r k (pack ps n) p h g = all_by (StepOk r k) (use_of (pack ps n)) (pack ps n) (all_cuts ps) refl (λ i a. (p, a, h, g)) (λ _. all_cuts_step r k ps p h.1 g)
 
-  all_cuts_ok : (s : DataType) (r : Reads) (k : ℕ) (ps : Parts) → AreExpanded ps → AllNodesWithin 64 s ps → AllNodesTyped s ps → AllThroughTyped r k ps → CutsOk s r k (all_cuts ps)
-  all_cuts_ok s r k no_parts p h t g = tt
-  all_cuts_ok s r k (part n e ps) p h t g = oks_append s r k (cuts e) (all_cuts ps) (cuts_ok s r k e p.0 h.0 t.0 g.0) (all_cuts_ok s r k ps p.1 h.1 t.1 g.1)
+  all_cuts_step : (r : Reads) (k : ℕ) (ps : Parts) → AreExpanded ps → AllThroughWithin r k ps → AllThroughTyped r k ps → CutsAll (StepOk r k) (all_cuts ps)
+  all_cuts_step r k no_parts p h g = tt
+  all_cuts_step r k (part n e ps) p h g = all_append (StepOk r k) (cuts e) (all_cuts ps) (cuts_step r k e p.0 h.0 g.0) (all_cuts_step r k ps p.1 h.1 g.1)
+
+mutual
+  pub cuts_keep : (s : DataType) (e : Expr) → NodesWithin 64 s e → NodesTyped s e → CutsAll (KeepOk s) (cuts e)
+  cuts_keep s root h t = tt
+  cuts_keep s row_index h t = tt
+  cuts_keep s (literal d v) h t = tt
+  cuts_keep s (unary u e) h t = all_by (KeepOk s) (use_of (unary u e)) (unary u e) (cuts e) refl (λ i a. (h, t)) (λ n. cuts_keep s e h.1 t.1)
+  cuts_keep s (binary b x y) h t =
+      all_by (KeepOk s) (use_of (binary b x y)) (binary b x y) (cuts x ++ cuts y) refl (λ i a. (h, t)) (λ _. all_append (KeepOk s) (cuts x) (cuts y) (cuts_keep s x h.1 t.1) (cuts_keep s y h.2 t.2))
+  cuts_keep s (pack ps n) h t = all_by (KeepOk s) (use_of (pack ps n)) (pack ps n) (all_cuts ps) refl (λ i a. (h, t)) (λ _. all_cuts_keep s ps h.1 t)
+
+  all_cuts_keep : (s : DataType) (ps : Parts) → AllNodesWithin 64 s ps → AllNodesTyped s ps → CutsAll (KeepOk s) (all_cuts ps)
+  all_cuts_keep s no_parts h t = tt
+  all_cuts_keep s (part n e ps) h t = all_append (KeepOk s) (cuts e) (all_cuts ps) (cuts_keep s e h.0 t.0) (all_cuts_keep s ps h.1 t.1)
 
 -- ---- groups
-abbrev pub AllOk : DataType → Reads → ℕ → Item → List Expr → Type 0
-AllOk s r k i [] = Unit {0}
-AllOk s r k i (e ∷ es) = CutOk s r k i e × AllOk s r k i es
+abbrev pub AllOf : (Item → Expr → Type 0) → Item → List Expr → Type 0
+AllOf P i [] = Unit {0}
+AllOf P i (e ∷ es) = P i e × AllOf P i es
 
-abbrev pub SomeOk : DataType → Reads → ℕ → Item → List Expr → Type 0
-SomeOk s r k i [] = ⊥
-SomeOk s r k i (e ∷ es) = AllOk s r k i (e ∷ es)
+abbrev pub SomeOf : (Item → Expr → Type 0) → Item → List Expr → Type 0
+SomeOf P i [] = ⊥
+SomeOf P i (e ∷ es) = AllOf P i (e ∷ es)
 
-abbrev pub GroupsOk : DataType → Reads → ℕ → List Group → Type 0
-GroupsOk s r k [] = Unit {0}
-GroupsOk s r k (g ∷ gs) = SomeOk s r k g.0 g.1 × GroupsOk s r k gs
+abbrev pub GroupsAll : (Item → Expr → Type 0) → List Group → Type 0
+GroupsAll P [] = Unit {0}
+GroupsAll P (g ∷ gs) = SomeOf P g.0 g.1 × GroupsAll P gs
 
-all_more : (s : DataType) (r : Reads) (k : ℕ) (i : Item) (es : List Expr) (e : Expr) → AllOk s r k i es → CutOk s r k i e → AllOk s r k i (es ++ e ∷ [])
-all_more s r k i [] e a o = (o, tt)
-all_more s r k i (x ∷ xs) e a o = (a.0, all_more s r k i xs e a.1 o)
+all_more : (P : Item → Expr → Type 0) (i : Item) (es : List Expr) (e : Expr) → AllOf P i es → P i e → AllOf P i (es ++ e ∷ [])
+all_more P i [] e a o = (o, tt)
+all_more P i (x ∷ xs) e a o = (a.0, all_more P i xs e a.1 o)
 
-some_more : (s : DataType) (r : Reads) (k : ℕ) (i : Item) (es : List Expr) (e : Expr) → SomeOk s r k i es → CutOk s r k i e → SomeOk s r k i (es ++ e ∷ [])
-some_more s r k i [] e a o = absurd a
-some_more s r k i (x ∷ xs) e a o = (a.0, all_more s r k i xs e a.1 o)
+some_more : (P : Item → Expr → Type 0) (i : Item) (es : List Expr) (e : Expr) → SomeOf P i es → P i e → SomeOf P i (es ++ e ∷ [])
+some_more P i [] e a o = absurd a
+some_more P i (x ∷ xs) e a o = (a.0, all_more P i xs e a.1 o)
 
-added_ok : (s : DataType) (r : Reads) (k : ℕ) (i : Item) (e : Expr) (gs : List Group) → CutOk s r k i e → GroupsOk s r k gs → GroupsOk s r k (added i e gs)
-added_ok s r k i e [] o a = ((o, tt), tt)
-added_ok s r k i e (g ∷ gs) o a = go (same_item g.0 i) (same_item-sound g.0 i) (added_ok s r k i e gs o a.1)
+added_all : (P : Item → Expr → Type 0) (i : Item) (e : Expr) (gs : List Group) → P i e → GroupsAll P gs → GroupsAll P (added i e gs)
+added_all P i e [] o a = ((o, tt), tt)
+added_all P i e (g ∷ gs) o a = go (same_item g.0 i) (same_item-sound g.0 i) (added_all P i e gs o a.1)
   where
-    go : (b : Bool) → (b ≡ true → g.0 ≡ i) → GroupsOk s r k (added i e gs) → GroupsOk s r k (cond b ((g.0, g.1 ++ e ∷ []) ∷ gs) (g ∷ added i e gs))
-    go true h q = (some_more s r k g.0 g.1 e a.0 (subst (λ j. CutOk s r k j e) (sym (h refl)) o), a.1)
+    go : (b : Bool) → (b ≡ true → g.0 ≡ i) → GroupsAll P (added i e gs) → GroupsAll P (cond b ((g.0, g.1 ++ e ∷ []) ∷ gs) (g ∷ added i e gs))
+    go true h q = (some_more P g.0 g.1 e a.0 (subst (λ j. P j e) (sym (h refl)) o), a.1)
     go false h q = (a.0, q)
 
-pub collected_ok : (s : DataType) (r : Reads) (k : ℕ) (gs : List Group) (cs : List Cut) → GroupsOk s r k gs → CutsOk s r k cs → GroupsOk s r k (collected gs cs)
-collected_ok s r k gs [] g h = g
-collected_ok s r k gs (c ∷ cs) g h = collected_ok s r k (added c.0 c.1 gs) cs (added_ok s r k c.0 c.1 gs h.0 g) h.1
+pub collected_all : (P : Item → Expr → Type 0) (gs : List Group) (cs : List Cut) → GroupsAll P gs → CutsAll P cs → GroupsAll P (collected gs cs)
+collected_all P gs [] g h = g
+collected_all P gs (c ∷ cs) g h = collected_all P (added c.0 c.1 gs) cs (added_all P c.0 c.1 gs h.0 g) h.1
 
 -- ---- parts
 abbrev AllWithin : DataType → List Expr → Type 0
@@ -113,17 +129,17 @@ part_fits d e (f ∷ es) h =
     let deep : fields_depth (infer_all d (numbered 0 (e ∷ f ∷ es))) ≤ 64 = numbered_deep d 0 (e ∷ f ∷ es) h in
     ((omega arith, numbered_fits d 0 (e ∷ f ∷ es) h), omega arith)
 
-kept_within : (s : DataType) (r : Reads) (k : ℕ) (i : Item) (es : List Expr) → AllOk s r k i es → AllWithin s es
-kept_within s r k i [] a = tt
-kept_within s r k i (e ∷ es) a = ((a.0.2, a.0.3), kept_within s r k i es a.1)
+kept_within : (s : DataType) (i : Item) (es : List Expr) → AllOf (KeepOk s) i es → AllWithin s es
+kept_within s i [] a = tt
+kept_within s i (e ∷ es) a = (a.0, kept_within s i es a.1)
 
-pub kept_fit : (s : DataType) (r : Reads) (k : ℕ) (gs : List Group) → GroupsOk s r k gs → GroupsFit (kept s) gs
-kept_fit s r k [] a = tt
-kept_fit s r k (g ∷ gs) a = (go g.1 a.0, kept_fit s r k gs a.1)
+pub kept_fit : (s : DataType) (gs : List Group) → GroupsAll (KeepOk s) gs → GroupsFit (kept s) gs
+kept_fit s [] a = tt
+kept_fit s (g ∷ gs) a = (go g.1 a.0, kept_fit s gs a.1)
   where
-    go : (es : List Expr) → SomeOk s r k g.0 es → NodesHold s (part_of es) × (depth_of (infer s (part_of es)) ≤ 65)
+    go : (es : List Expr) → SomeOf (KeepOk s) g.0 es → NodesHold s (part_of es) × (depth_of (infer s (part_of es)) ≤ 65)
     go [] b = absurd b
-    go (e ∷ es) b = part_fits s e es (kept_within s r k g.0 (e ∷ es) b)
+    go (e ∷ es) b = part_fits s e es (kept_within s g.0 (e ∷ es) b)
 
 steps_numbered : (k : ℕ) (es : List Expr) → step_into_all (numbered k es) ≡ numbered k (map step_into es)
 steps_numbered k [] = refl
@@ -134,17 +150,17 @@ step_part [] = refl
 step_part (e ∷ []) = refl
 step_part (e ∷ f ∷ es) = ap (λ ps. pack ps NonNullable) (steps_numbered 0 (e ∷ f ∷ es))
 
-steps_within : (s : DataType) (r : Reads) (k : ℕ) (i : Item) → bare (r i).0 ≡ bare (infer s (spelled i)) → (es : List Expr) → AllOk s r k i es → AllWithin (r i).0 (map step_into es)
-steps_within s r k i h [] a = tt
-steps_within s r k i h (e ∷ es) a = ((step_into_within s (r i).0 i h e a.0.0 a.0.1 a.0.2, step_typed r k i e a.0.0 a.0.1 a.0.4), steps_within s r k i h es a.1)
+steps_within : (r : Reads) (k : ℕ) (i : Item) (es : List Expr) → AllOf (StepOk r k) i es → AllWithin (r i).0 (map step_into es)
+steps_within r k i [] a = tt
+steps_within r k i (e ∷ es) a = ((through_within r k i e a.0.0 a.0.1 a.0.2, step_typed r k i e a.0.0 a.0.1 a.0.3), steps_within r k i es a.1)
 
-pub step_fits : (s : DataType) (r : Reads) (k : ℕ) (i : Item) → bare (r i).0 ≡ bare (infer s (spelled i)) → (es : List Expr) → SomeOk s r k i es → NodesHold (r i).0 (step_into (part_of es)) × (depth_of (infer (r i).0 (step_into (part_of es))) ≤ 65)
-step_fits s r k i h [] a = absurd a
-step_fits s r k i h (e ∷ es) a = subst (λ x. NodesHold (r i).0 x × (depth_of (infer (r i).0 x) ≤ 65)) (sym (step_part (e ∷ es))) (part_fits (r i).0 (step_into e) (map step_into es) (steps_within s r k i h (e ∷ es) a))
+step_fits : (r : Reads) (k : ℕ) (i : Item) (es : List Expr) → SomeOf (StepOk r k) i es → NodesHold (r i).0 (step_into (part_of es)) × (depth_of (infer (r i).0 (step_into (part_of es))) ≤ 65)
+step_fits r k i [] a = absurd a
+step_fits r k i (e ∷ es) a = subst (λ x. NodesHold (r i).0 x × (depth_of (infer (r i).0 x) ≤ 65)) (sym (step_part (e ∷ es))) (part_fits (r i).0 (step_into e) (map step_into es) (steps_within r k i (e ∷ es) a))
 
-pub stepped_fit : (s : DataType) (w : Item → Marked) (k : ℕ) → ((i : Item) → bare (stepped s i root).scope ≡ bare (infer s (spelled i))) → (gs : List Group) → GroupsOk s (λ i. ((stepped s i root).scope, w i)) k gs → GroupsFit (stepped s) gs
-stepped_fit s w k same [] a = tt
-stepped_fit s w k same (g ∷ gs) a = (step_fits s (λ i. ((stepped s i root).scope, w i)) k g.0 (same g.0) g.1 a.0, stepped_fit s w k same gs a.1)
+pub stepped_fit : (s : DataType) (w : Item → Marked) (k : ℕ) (gs : List Group) → GroupsAll (StepOk (λ i. ((stepped s i root).scope, w i)) k) gs → GroupsFit (stepped s) gs
+stepped_fit s w k [] a = tt
+stepped_fit s w k (g ∷ gs) a = (step_fits (λ i. ((stepped s i root).scope, w i)) k g.0 g.1 a.0, stepped_fit s w k gs a.1)
 
 pub joined_deep : (b : Item → Expr → Bound) (gs : List Group) → GroupsFit b gs → fields_depth (joined_fields (type_of_part b) gs) ≤ 65
 joined_deep b [] a = omega arith
@@ -199,7 +215,7 @@ leaf_by d x i p (f ∷ g ∷ fs) qs rs m e em h here = (ap (unary_fault (GetItem
         (λ j. has_field (decimal (em j)) (infer_all x (step_into_all (numbered 0 (e j)))))
         ∙ subst (λ n. has_field (decimal n) (infer_all x (step_into_all (numbered 0 (qs ++ (p ∷ rs))))) ≡ true) zero_first (numbered_has x 0 p qs rs)
 
-module _ (s : DataType) (r : Reads) (k : ℕ) (same : (i : Item) → bare (r i).0 ≡ bare (infer s (spelled i))) (all : List Cut) (plain : AllPlain all) (few : length all < 2 ^ 64) where
+module _ (r : Reads) (k : ℕ) (all : List Cut) (plain : AllPlain all) (few : length all < 2 ^ 64) where
   leaf_holds : (i : Item) (e : Expr) (before after : List Cut) → all ≡ before ++ ((i, e) ∷ after) → NodesHold (whole r k all).0 (leaf_of (cuts_of i all) i (count_item i before))
   leaf_holds i e before after h =
       leaf_by (whole r k all).0 (r i).0 i e (cuts_of i all) (cuts_of i before) (cuts_of i after) (count_item i before) (cuts_around all i e before after h) refl
@@ -221,7 +237,7 @@ module _ (s : DataType) (r : Reads) (k : ℕ) (same : (i : Item) → bare (r i).
   at e before after p h = ap (λ x. x.0) (root_seen r k all plain few e before after p h)
 
   mutual
-    pub root_fits : (e : Expr) (before after : List Cut) → IsExpanded e → all ≡ (before ++ cuts e) ++ after → NodesWithin 64 s e → ThroughTyped r k e → NodesHold (whole r k all).0 (root_of all before e)
+    pub root_fits : (e : Expr) (before after : List Cut) → IsExpanded e → all ≡ (before ++ cuts e) ++ after → ThroughWithin r k e → ThroughTyped r k e → NodesHold (whole r k all).0 (root_of all before e)
     root_fits root before after p h w t = absurd p
     root_fits row_index before after p h w t = tt
     root_fits (literal d v) before after p h w t = t
@@ -229,7 +245,7 @@ module _ (s : DataType) (r : Reads) (k : ℕ) (same : (i : Item) → bare (r i).
         or_leaf_holds (use_of (unary u e)) (unary u e) (unary u (root_of all before e)) (cuts e) before after h
         (λ n q. let p1 = expanded_part (item_of u e) (use_of e) (IsExpanded e) n p in
         let t1 = expanded_part (item_of u e) (use_of e) ((unary_fault u (through r k e).0 ≡ None) × ThroughTyped r k e) n t in
-        (ap (unary_fault u) (at e before after p1 q) ∙ t1.0, root_fits e before after p1 q w.1 t1.1))
+        (ap (unary_fault u) (at e before after p1 q) ∙ t1.0, root_fits e before after p1 q (expanded_part (item_of u e) (use_of e) (ThroughWithin r k e) n w.1) t1.1))
     root_fits (binary b x y) before after p h w t =
         or_leaf_holds (use_of (binary b x y)) (binary b x y) (binary b (root_of all before x) (root_of all (before ++ cuts x) y)) (cuts x ++ cuts y) before after h
         (λ n q. let first = append_first all before (cuts x) (cuts y) after q in
@@ -241,11 +257,11 @@ module _ (s : DataType) (r : Reads) (k : ℕ) (same : (i : Item) → bare (r i).
     root_fits (pack ps n) before after p h w t =
         or_leaf_holds (use_of (pack ps n)) (pack ps n) (pack (roots_of all before ps) n) (all_cuts ps) before after h
         (λ m q. (
-          pack_shallow (use_of (pack ps n)) before (pack (roots_of all before ps) n) (through r k (pack ps n)).0 m (at (pack ps n) before after p h) (as_deep 64 (through r k (pack ps n)).0 (infer s (pack ps n)) (through-bare s r k same (pack ps n) p) w.0),
+          pack_shallow (use_of (pack ps n)) before (pack (roots_of all before ps) n) (through r k (pack ps n)).0 m (at (pack ps n) before after p h) w.0,
           roots_fit ps before after p q w.1 t,
         ))
 
-    roots_fit : (ps : Parts) (before after : List Cut) → AreExpanded ps → all ≡ (before ++ all_cuts ps) ++ after → AllNodesWithin 64 s ps → AllThroughTyped r k ps → AllNodesHold (whole r k all).0 (roots_of all before ps)
+    roots_fit : (ps : Parts) (before after : List Cut) → AreExpanded ps → all ≡ (before ++ all_cuts ps) ++ after → AllThroughWithin r k ps → AllThroughTyped r k ps → AllNodesHold (whole r k all).0 (roots_of all before ps)
     roots_fit no_parts before after p h w t = tt
     roots_fit (part n e ps) before after p h w t =
         (root_fits e before (all_cuts ps ++ after) p.0 (append_first all before (cuts e) (all_cuts ps) after h) w.0 t.0, roots_fit ps (before ++ cuts e) after p.1 (append_second all before (cuts e) (all_cuts ps) after h) w.1 t.1)

@@ -23,8 +23,9 @@ use Rattle.scan_partition.specs.Split.{part_values, KeptJoins}
 use Rattle.scan_partition.proofs.Through.{Seen, SeenAll, seen, seen_part, own_reads, through-seen}
 use Rattle.scan_partition.proofs.Parted.{joined, partition_seen}
 use Rattle.scan_partition.proofs.Names.{same_item-refl}
-use Rattle.scan_partition.proofs.Dividing.{SomeOk, AllOk, GroupsOk, cuts_ok, collected_ok, kept_fit, root_fits}
+use Rattle.scan_partition.proofs.Dividing.{StepOk, KeepOk, SomeOf, AllOf, GroupsAll, cuts_step, cuts_keep, collected_all, kept_fit, root_fits}
 use Rattle.scan_partition.proofs.Calls.{stepped_seen, any_value}
+use Rattle.scan_partition.proofs.Depths.{ThroughWithin, within_through}
 use Rattle.scan_expr.specs.Typing.{typing_fault}
 use Rattle.scan_partition.proofs.Typed.{NodesTyped, ThroughTyped, typed_nodes, own_typed}
 
@@ -111,23 +112,23 @@ both_at_most i (one j) (one l) p q = go (same_item j l) refl
 both_at_most i (one j) many p q = absurd q
 both_at_most i many w p q = absurd p
 
-numbered_alone : (s : DataType) (r : Reads) (j : ℕ) (i : Item) (k : ℕ) (es : List Expr) → AllOk s r j i es → AreExpanded (numbered k es) × AtMost i (uses_of (numbered k es))
-numbered_alone s r j i k [] a = (tt, tt)
-numbered_alone s r j i k (e ∷ es) a = let q = numbered_alone s r j i (k + 1) es a.1 in ((a.0.0, q.0), both_at_most i (use_of e) (uses_of (numbered (k + 1) es)) a.0.1 q.1)
+numbered_alone : (r : Reads) (j : ℕ) (i : Item) (k : ℕ) (es : List Expr) → AllOf (StepOk r j) i es → AreExpanded (numbered k es) × AtMost i (uses_of (numbered k es))
+numbered_alone r j i k [] a = (tt, tt)
+numbered_alone r j i k (e ∷ es) a = let q = numbered_alone r j i (k + 1) es a.1 in ((a.0.0, q.0), both_at_most i (use_of e) (uses_of (numbered (k + 1) es)) a.0.1 q.1)
 
-part_alone : (s : DataType) (r : Reads) (j : ℕ) (i : Item) (es : List Expr) → SomeOk s r j i es → IsExpanded (part_of es) × AtMost i (use_of (part_of es))
-part_alone s r j i [] a = absurd a
-part_alone s r j i (e ∷ []) a = (a.0.0, a.0.1)
-part_alone s r j i (e ∷ f ∷ es) a = numbered_alone s r j i 0 (e ∷ f ∷ es) a
+part_alone : (r : Reads) (j : ℕ) (i : Item) (es : List Expr) → SomeOf (StepOk r j) i es → IsExpanded (part_of es) × AtMost i (use_of (part_of es))
+part_alone r j i [] a = absurd a
+part_alone r j i (e ∷ []) a = (a.0.0, a.0.1)
+part_alone r j i (e ∷ f ∷ es) a = numbered_alone r j i 0 (e ∷ f ∷ es) a
 
 -- ---- kept parts are the parts stepped in, read of the struct itself
 abbrev kept_joined : DataType → Marked → ℕ → List Group → SeenAll
 kept_joined s v k gs = (joined_fields (type_of_part (kept s)) gs, part_values (λ i. v) k (map (λ (g : Group). g.0) gs) (map (group_part (kept s)) gs))
 
-kept_are : (s : DataType) (r : Reads) (j : ℕ) (v : Marked) (k : ℕ) (gs : List Group) → GroupsOk s r j gs → joined (own_reads s v k) k gs ≡ kept_joined s v k gs
+kept_are : (s : DataType) (r : Reads) (j : ℕ) (v : Marked) (k : ℕ) (gs : List Group) → GroupsAll (StepOk r j) gs → joined (own_reads s v k) k gs ≡ kept_joined s v k gs
 kept_are s r j v k [] a = refl
 kept_are s r j v k (g ∷ gs) a =
-    let p = part_alone s r j g.0 g.1 a.0 in
+    let p = part_alone r j g.0 g.1 a.0 in
     λ i. seen_part (item_name g.0) (stepped_seen s g.0 (part_of g.1) v k p.0 p.1 i) (kept_are s r j v k gs a.1 i)
 
 module _ (b : Bound) (o : IsOverStruct b) (x : IsExpanded b.expr) (typed : typing_fault b.scope b.expr ≡ None) where
@@ -140,8 +141,11 @@ module _ (b : Bound) (o : IsOverStruct b) (x : IsExpanded b.expr) (typed : typin
   through_nodes : ThroughTyped own 0 b.expr
   through_nodes = own_typed b.scope any_value 0 b.expr x nodes
 
-  groups_ok : GroupsOk b.scope own 0 (groups_of (cuts b.expr))
-  groups_ok = collected_ok b.scope own 0 [] (cuts b.expr) tt (cuts_ok b.scope own 0 b.expr x o.shallow nodes through_nodes)
+  within : ThroughWithin own 0 b.expr
+  within = within_through b.scope own 0 (λ i. refl) b.expr x o.shallow
+
+  groups_ok : GroupsAll (StepOk own 0) (groups_of (cuts b.expr))
+  groups_ok = collected_all (StepOk own 0) [] (cuts b.expr) tt (cuts_step own 0 b.expr x within through_nodes)
 
   plain : AllPlain (cuts b.expr)
   plain = plain_cuts (struct_fields b.scope) b.expr o.free o.found
@@ -159,9 +163,9 @@ module _ (b : Bound) (o : IsOverStruct b) (x : IsExpanded b.expr) (typed : typin
   }
 
   pub kept_parts_fit : GroupsFit (kept b.scope) (groups_of (cuts b.expr))
-  kept_parts_fit = kept_fit b.scope own 0 (groups_of (cuts b.expr)) groups_ok
+  kept_parts_fit = kept_fit b.scope (groups_of (cuts b.expr)) (collected_all (KeepOk b.scope) [] (cuts b.expr) tt (cuts_keep b.scope b.expr o.shallow nodes))
 
   pub kept_root_fits : length (cuts b.expr) < 2 ^ 64 → NodesHold (joined_type (type_of_part (kept b.scope)) (cuts b.expr)) (root_of (cuts b.expr) [] b.expr)
   kept_root_fits few =
       subst (λ (fs : SeenAll). NodesHold (struct_type fs.0 NonNullable) (root_of (cuts b.expr) [] b.expr)) (kept_are b.scope own 0 any_value 0 (groups_of (cuts b.expr)) groups_ok)
-      (root_fits b.scope (own_reads b.scope any_value 0) 0 (λ i. refl) (cuts b.expr) plain few b.expr [] [] x (sym (append-nil (cuts b.expr))) o.shallow through_nodes)
+      (root_fits own 0 (cuts b.expr) plain few b.expr [] [] x (sym (append-nil (cuts b.expr))) within through_nodes)

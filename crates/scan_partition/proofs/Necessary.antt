@@ -14,7 +14,7 @@ abbrev pub greatest : ListChildrenNeeded → List Expr → ListChildrenNeeded
 greatest c [] = c
 greatest c (e ∷ es) = greatest (greater_of c (necessary e)) es
 
-greater_assoc : (a b c : ListChildrenNeeded) → greater_of (greater_of a b) c ≡ greater_of a (greater_of b c)
+pub greater_assoc : (a b c : ListChildrenNeeded) → greater_of (greater_of a b) c ≡ greater_of a (greater_of b c)
 greater_assoc Validity b c = refl
 greater_assoc OffsetsAndValidity Validity c = refl
 greater_assoc OffsetsAndValidity OffsetsAndValidity Validity = refl
@@ -23,7 +23,7 @@ greater_assoc OffsetsAndValidity OffsetsAndValidity All = refl
 greater_assoc OffsetsAndValidity All c = refl
 greater_assoc All b c = refl
 
-greater_none : (a : ListChildrenNeeded) → greater_of a Validity ≡ a
+pub greater_none : (a : ListChildrenNeeded) → greater_of a Validity ≡ a
 greater_none Validity = refl
 greater_none OffsetsAndValidity = refl
 greater_none All = refl

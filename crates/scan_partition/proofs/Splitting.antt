@@ -26,11 +26,11 @@ use Rattle.scan_partition.proofs.Through.{Seen, seen, step_into-through}
 use Rattle.scan_partition.proofs.Expanded.{expand-expanded, expand_seen, struct_partition, blank, blank-even}
 use Rattle.scan_partition.proofs.Having.{cuts_plain, cuts_items, expand-items}
 use Rattle.scan_partition.proofs.Bare.{item-bare}
-use Rattle.scan_partition.proofs.Depths.{expand_within, within_fits, step_into_within}
-use Rattle.scan_partition.proofs.Dividing.{cuts_ok, collected_ok, stepped_fit, root_fits}
+use Rattle.scan_partition.proofs.Depths.{expand_within, within_fits, step_into_within, ThroughWithin, within_through}
+use Rattle.scan_partition.proofs.Dividing.{StepOk, cuts_step, collected_all, stepped_fit, root_fits}
 use Rattle.scan_expr.specs.Typing.{typing_fault}
 use Rattle.scan_partition.proofs.Typed.{NodesTyped, ThroughTyped, typed_nodes, step_typed}
-use Rattle.scan_partition.proofs.ExpandTyped.{expand_typed, expand_through}
+use Rattle.scan_partition.proofs.ExpandTyped.{expand_through}
 
 -- ---- what is read of a struct, to speak of dtypes alone
 abbrev some_reads : Fields → Item → Marked
@@ -73,14 +73,18 @@ module _ (fs : Fields) (n : Nullability) (e : Expr) (d : Distinct fs) (free : No
   through_nodes : NodesTyped (struct_type fs n) e → ThroughTyped (λ i. (item_type fs i, some_reads fs i)) 0 (expand (struct_type fs n) e)
   through_nodes t = expand_through fs (some_reads fs) 0 n (struct (blank fs)) d (blank-even fs) (reads_agree fs) e t
 
+  within_items : NodesWithin 64 (struct_type fs n) e → ThroughWithin (λ i. (item_type fs i, some_reads fs i)) 0 (expand (struct_type fs n) e)
+  within_items h = within_through (struct_type fs n) (λ i. (item_type fs i, some_reads fs i)) 0 (item-bare fs n) (expand (struct_type fs n) e) (expand-expanded (struct_type fs n) e) (expand_within fs n d e h)
+
   parts_fit : NodesWithin 64 (struct_type fs n) e → NodesTyped (struct_type fs n) e → GroupsFit (stepped (struct_type fs n)) (groups_of (cuts (expand (struct_type fs n) e)))
   parts_fit h t =
-      stepped_fit (struct_type fs n) (some_reads fs) 0 (item-bare fs n) (groups_of (cuts (expand (struct_type fs n) e)))
-      (collected_ok (struct_type fs n) (λ i. (item_type fs i, some_reads fs i)) 0 [] (cuts (expand (struct_type fs n) e)) tt (cuts_ok (struct_type fs n) (λ i. (item_type fs i, some_reads fs i)) 0 (expand (struct_type fs n) e) (expand-expanded (struct_type fs n) e) (expand_within fs n d e h) (expand_typed fs n d e t) (through_nodes t)))
+      stepped_fit (struct_type fs n) (some_reads fs) 0 (groups_of (cuts (expand (struct_type fs n) e)))
+      (collected_all (StepOk (λ i. (item_type fs i, some_reads fs i)) 0) [] (cuts (expand (struct_type fs n) e)) tt (cuts_step (λ i. (item_type fs i, some_reads fs i)) 0 (expand (struct_type fs n) e) (expand-expanded (struct_type fs n) e) (within_items h) (through_nodes t)))
 
   root_fit : NodesWithin 64 (struct_type fs n) e → NodesTyped (struct_type fs n) e → length (cuts (expand (struct_type fs n) e)) < 2 ^ 64 → NodesHold (joined_type (type_of_part (stepped (struct_type fs n))) (cuts (expand (struct_type fs n) e))) (root_of (cuts (expand (struct_type fs n) e)) [] (expand (struct_type fs n) e))
   root_fit h t few =
-      root_fits (struct_type fs n) (λ i. (item_type fs i, some_reads fs i)) 0 (item-bare fs n) (cuts (expand (struct_type fs n) e)) plain few (expand (struct_type fs n) e) [] [] (expand-expanded (struct_type fs n) e) (sym (append-nil (cuts (expand (struct_type fs n) e)))) (expand_within fs n d e h) (through_nodes t)
+      root_fits (λ i. (item_type fs i, some_reads fs i)) 0 (cuts (expand (struct_type fs n) e)) plain few (expand (struct_type fs n) e) [] [] (expand-expanded (struct_type fs n) e) (sym (append-nil (cuts (expand (struct_type fs n) e))))
+      (within_items h) (through_nodes t)
 
   alone_fits : (i : Item) → use_of (expand (struct_type fs n) e) ≡ one i → NodesWithin 64 (struct_type fs n) e → NodesTyped (struct_type fs n) e → NodesHold (item_type fs i) (step_into (expand (struct_type fs n) e))
   alone_fits i u h t = within_fits 64 (item_type fs i) (step_into (expand (struct_type fs n) e)) (lit≤ tt) (step_into_within (struct_type fs n) (item_type fs i) i (item-bare fs n i) (expand (struct_type fs n) e) (expand-expanded (struct_type fs n) e) (subst (AtMost i) (sym u) refl) (expand_within fs n d e h)) (step_typed (λ j. (item_type fs j, some_reads fs j)) 0 i (expand (struct_type fs n) e) (expand-expanded (struct_type fs n) e) (subst (AtMost i) (sym u) refl) (through_nodes t))

@@ -148,7 +148,7 @@ pub unary_fault-same : (u : Unary) (d e : DataType) → bare d ≡ bare e → un
 unary_fault-same u d e h = sym (unary_fault-bare u d) ∙ ap (unary_fault u) h ∙ unary_fault-bare u e
 
 module _ (d e f g : DataType) (h : bare d ≡ bare e) (k : bare f ≡ bare g) where
-  bools : (d e : DataType) → bare d ≡ bare e → is_bool_type d ≡ is_bool_type e
+  pub bools : (d e : DataType) → bare d ≡ bare e → is_bool_type d ≡ is_bool_type e
   bools d e h = sym (bool-bare d) ∙ ap is_bool_type h ∙ bool-bare e
 
   utf8s : (d e : DataType) → bare d ≡ bare e → is_utf8_type d ≡ is_utf8_type e
@@ -157,10 +157,10 @@ module _ (d e f g : DataType) (h : bare d ≡ bare e) (k : bare f ≡ bare g) wh
   ptypes : (d e : DataType) → bare d ≡ bare e → ptype_of d ≡ ptype_of e
   ptypes d e h = sym (ptype-bare d) ∙ ap ptype_of h ∙ ptype-bare e
 
-  logics : or_fault (unless (is_bool_type d) NotBool) (unless (is_bool_type f) NotBool) ≡ or_fault (unless (is_bool_type e) NotBool) (unless (is_bool_type g) NotBool)
+  pub logics : or_fault (unless (is_bool_type d) NotBool) (unless (is_bool_type f) NotBool) ≡ or_fault (unless (is_bool_type e) NotBool) (unless (is_bool_type g) NotBool)
   logics = λ i. or_fault (unless (bools d e h i) NotBool) (unless (bools f g k i) NotBool)
 
-  operands : unless (cond (is_bool_type d) (is_bool_type f) (cond (is_utf8_type d) (is_utf8_type f) (same_ptypes (ptype_of d) (ptype_of f)))) Operands
+  pub operands : unless (cond (is_bool_type d) (is_bool_type f) (cond (is_utf8_type d) (is_utf8_type f) (same_ptypes (ptype_of d) (ptype_of f)))) Operands
       ≡ unless (cond (is_bool_type e) (is_bool_type g) (cond (is_utf8_type e) (is_utf8_type g) (same_ptypes (ptype_of e) (ptype_of g)))) Operands
   operands = λ i. unless (cond (bools d e h i) (bools f g k i) (cond (utf8s d e h i) (utf8s f g k i) (same_ptypes (ptypes d e h i) (ptypes f g k i)))) Operands
 

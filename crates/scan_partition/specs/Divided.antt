@@ -1,12 +1,14 @@
 -- An expression taken apart: its items, a part for each, and the root over them.
-use Rattle.std.specs.Prelude.{◌≡◌, List, [], map, Option, Some, None, refl}
+use Rattle.std.specs.Prelude.{◌≡◌, List, [], map, zip, length, Option, Some, None, refl}
 use Rattle.std.specs.Coded.{Coded, code_by, coded×, coded_list, coded_option, coded_ℕ}
-use Rattle.scan_values.specs.DataType.{DataType, Name}
+use Rattle.scan_values.specs.DataType.{DataType, Name, struct_type, fields_of}
+use Rattle.scan_values.specs.declared.ptype.Nullability.TheVariants.{NonNullable}
 use Rattle.scan_expr.specs.Bound.{Bound, bound_code, bound_of}
 use Rattle.scan_expr.specs.Infer.{struct_fields, infer}
 use Rattle.scan_expr.specs.Expr.{Expr}
 use Rattle.scan_partition.specs.declared.item.Item.{Item}
 use Rattle.scan_partition.specs.declared.item.Item.TheVariants.{Field, Validity}
+use Rattle.scan_partition.specs.Items.{item_name}
 use Rattle.scan_partition.specs.Rows.{item_type}
 use Rattle.scan_partition.specs.Partition.{Group, cuts, groups_of, part_of, root_of, joined_type, step_into}
 
@@ -33,6 +35,14 @@ item_code = code_by (Option Name) (coded_option (coded_list coded_ℕ)) item_tre
 abbrev pub divided_code : Coded Divided
 divided_code =
     code_by (List Item × (List Bound × Bound)) (coded× (coded_list item_code) (coded× (coded_list bound_code) bound_code)) (λ d. (d.items, (d.parts, d.root))) (λ p. record { items = p.0; parts = p.1.0; root = p.1.1 }) (λ _. refl)
+
+-- the struct that the root reads: under each item's name a value of its part
+abbrev pub scope_of : List Item → List Bound → DataType
+scope_of is ps = struct_type (fields_of (zip (map item_name is) (map (λ (p : Bound). infer p.scope p.expr) ps))) NonNullable
+
+pub record IsDivided (is : List Item) (ps : List Bound) (root : Bound) : Type 0 where
+  pub even : length ps ≡ length is
+  pub scope : root.scope ≡ scope_of is ps
 
 -- ---- what becomes of the part of an item: kept over the struct, or stepped into the item
 abbrev pub kept : DataType → Item → Expr → Bound

@@ -15,6 +15,7 @@ use Rattle.scan_partition.specs.Partition.{cuts, root_of, step_into, joined_type
 use Rattle.scan_partition.specs.Rows.{Distinct, Even, IsRow, Agrees, item_type, AllPlain}
 use Rattle.scan_partition.specs.Found.{NamesFound, NoneReserved}
 use Rattle.scan_partition.specs.Clean.{NodesKnown, NodesSound}
+use Rattle.scan_partition.specs.Tighter.{IsTighter}
 use Rattle.scan_partition.specs.Lift.{lift, row_item_type, row_item_value}
 use Rattle.scan_partition.specs.Lists.{necessary, rewrite_validity, rewrite_offsets, IsClass, IsListRow}
 use Rattle.scan_partition.specs.declared.list_.ListChildrenNeeded.TheVariants.{Validity, OffsetsAndValidity}
@@ -50,6 +51,10 @@ OnePartIsTheWhole = (fs : Fields) (n : Nullability) (e : Expr) (v : Marked) (w :
 abbrev pub SteppingInKeepsKnownValues : Type 0
 SteppingInKeepsKnownValues = (fs : Fields) (n : Nullability) (i : Item) (e : Expr) (v : Marked) (k : ℕ)
     → let s = struct_type fs n in let w = eval s (spelled i) v k in IsExpanded e → use_of e ≡ one i → NodesKnown s e v k → NodesSound (item_type fs i) (step_into e) w k → eval (item_type fs i) (step_into e) w k ≡ eval s e v k
+
+-- an item's own dtype, and its dtype over the struct, are null at no more places than that
+abbrev pub OwnDTypesAreTighter : Type 0
+OwnDTypesAreTighter = (fs : Fields) (n : Nullability) (i : Item) → let d = infer (struct_type fs n) (spelled i) in IsTighter (item_type fs i) d × IsTighter d d
 
 -- a typed expression, over what the item is
 abbrev pub SteppingInKeepsTheTyping : Type 0

@@ -19,4 +19,12 @@ pub mod Dividing
 pub mod Conditions
 pub mod Bare
 pub mod Split
+pub mod Joining
 pub mod Binding
+pub mod ListUses
+pub mod Needing
+pub mod Tighter
+pub mod RowDivided
+pub mod RowSplit
+pub mod Places
+pub mod RowJoining

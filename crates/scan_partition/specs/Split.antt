@@ -1,16 +1,21 @@
 -- An expression over a struct by its items, and what the parts give together.
-use Rattle.std.specs.Prelude.{◌≡◌, ℕ, List, [], ◌∷◌}
-use Rattle.scan_values.specs.DataType.{DataType, nullability_of}
-use Rattle.scan_values.specs.Marked.{Marked, struct, Markeds, none, more}
+use Rattle.std.specs.Prelude.{◌≡◌, ℕ, ◌<◌, List, [], ◌∷◌, length, map, zip, slice_index_or, All, Option, Some, None}
+use Rattle.scan_values.specs.DataType.{DataType, bool_type, struct_type, nullability_of, Name, Fields, field_list, fields_of}
+use Rattle.scan_values.specs.FieldLists.{dtypes_of}
+use Rattle.scan_values.specs.NameFaults.{field_names}
+use Rattle.scan_values.specs.declared.ptype.Nullability.TheVariants.{NonNullable, Nullable}
+use Rattle.scan_values.specs.Marked.{Marked, struct, Markeds, none, more, chained}
 use Rattle.scan_expr.specs.Bound.{Bound}
 use Rattle.scan_expr.specs.Infer.{struct_fields, infer}
 use Rattle.scan_expr.specs.Eval.{eval}
 use Rattle.scan_expr.specs.Expr.{Expr}
 use Rattle.scan_partition.specs.declared.item.Item.{Item}
+use Rattle.scan_partition.specs.declared.item.Item.TheVariants.{Field}
 use Rattle.scan_partition.specs.declared.struct_.Partitioned.{Partitioned}
-use Rattle.scan_partition.specs.declared.struct_.Partitioned.TheVariants.{Single, Multi}
+use Rattle.scan_partition.specs.declared.struct_.Partitioned.TheVariants.{Direct, Single, Multi}
 use Rattle.scan_partition.specs.Items.{Use, no_use, one, many, use_of}
 use Rattle.scan_partition.specs.Expand.{expand}
+use Rattle.scan_partition.specs.Direct.{Choice, chosen_directly, Projection, projected}
 use Rattle.scan_partition.specs.Rows.{IsRow, Agrees}
 use Rattle.scan_partition.specs.Divided.{Divided, divided, stepped}
 
@@ -20,8 +25,16 @@ split_by no_use s x = Multi (divided (stepped s) x)
 split_by (one i) s x = Single i (stepped s i x)
 split_by many s x = Multi (divided (stepped s) x)
 
+abbrev pub split_by_items : DataType → Expr → Partitioned
+split_by_items s x = split_by (use_of x) s x
+
+abbrev pub direct_or : Option Choice → DataType → Expr → Partitioned
+direct_or None s e = split_by_items s (expand s e)
+direct_or (Some c) s e = Direct (projected (struct_fields s) c)
+
+-- of any expression: by the fields that it chooses where it does no more, else by its items
 abbrev pub split : DataType → Expr → Partitioned
-split s e = split_by (use_of (expand s e)) s (expand s e)
+split s e = direct_or (chosen_directly s e) s e
 
 -- the value of each part, on what is read of its item
 abbrev pub part_values : (Item → Marked) → ℕ → List Item → List Bound → Markeds
@@ -42,7 +55,24 @@ pub record Keeps (b : Bound) (d : DataType) (f : (Item → Marked) → ℕ → M
   pub dtype : d ≡ infer b.scope b.expr
   pub values : KeepsValues b f
 
+-- ---- the fields at places
+abbrev pub name_at : Fields → ℕ → Name
+name_at fs i = slice_index_or (field_names fs) i []
+
+abbrev pub type_at : Fields → ℕ → DataType
+type_at fs i = slice_index_or (dtypes_of (field_list fs)) i (bool_type Nullable)
+
+-- those of a projection, under its names
+abbrev pub projected_type : Fields → Projection → DataType
+projected_type fs p = struct_type (fields_of (zip p.names (map (type_at fs) p.fields))) NonNullable
+
+-- what is read of them
+abbrev pub projected_value : Fields → Projection → (Item → Marked) → Marked
+projected_value fs p w = struct (chained (map (λ i. w (Field (name_at fs i))) p.fields))
+
 abbrev pub KeepsWhole : Bound → Partitioned → Type 0
+KeepsWhole b (Direct p) =
+    All (λ i. i < length (field_names (struct_fields b.scope))) p.fields × Keeps b (projected_type (struct_fields b.scope) p) (λ w k. projected_value (struct_fields b.scope) p w)
 KeepsWhole b (Single i p) = Keeps b (infer p.scope p.expr) (λ w k. eval p.scope p.expr (w i) k)
 KeepsWhole b (Multi d) = Keeps b (infer d.root.scope d.root.expr) (joined_value_of d)
 

@@ -13,11 +13,12 @@ ghost use Rattle.scan_partition.specs.Soles.{item_seen};
 use crate::cuts::{ItemRef, add_cuts};
 use crate::groups::{Group, planned};
 use crate::item::Item;
+use crate::join::joined;
 use crate::parts::{item_dtype, part_over};
 use crate::rewrite::Rewriting;
 use crate::root::{name_of, plant};
 use scan_expr::BoundExpression;
-use scan_values::{DType, FieldName, NoMemory, Nullability, StructFields};
+use scan_values::{Array, DType, FieldName, NoMemory, Nullability, StructFields};
 use std::alloc::Global;
 use std::marker::Model;
 use std::sync::Arc;
@@ -41,8 +42,7 @@ pub struct PartitionedExpr {
 }
 
 impl Model for PartitionedExpr {
-    ghost use Rattle.std.specs.Prelude.{◌≡◌, length};
-    ghost use Rattle.scan_partition.specs.Divided.{Divided, divided_code};
+    ghost use Rattle.scan_partition.specs.Divided.{Divided, divided_code, IsDivided};
 
     ghost Value = { Divided };
 
@@ -50,15 +50,20 @@ impl Model for PartitionedExpr {
 
     ghost view = { λ a. record { items = a.items.items; parts = a.parts.items; root = a.root } };
 
-    ghost invariant = { λ a. length a.parts.items ≡ length a.items.items };
+    ghost invariant = { λ a. IsDivided a.items.items a.parts.items a.root };
 }
 
 impl PartitionedExpr {
-    ghost use Rattle.std.specs.Prelude.{◌≡◌, ◌<◌, length, Some, slice_get};
+    ghost use Rattle.std.specs.Prelude.{◌≡◌, ◌<◌, length, map, IfOk, Some, slice_get};
+    ghost use Rattle.std.specs.List.{range_with_len};
+    ghost use Rattle.scan_values.specs.Val.{marked};
+    ghost use Rattle.scan_expr.specs.Infer.{infer};
+    ghost use Rattle.scan_partition.specs.Joining.{AreOfParts, joined_at, JoinsParts, JoinsWhole};
 
-    /// The items, in order of first appearance.
+    /// The items, in order of first appearance. There is a part for each.
     pub fn items(&self) -> &[Item]
-        ensures { result.now ≡ self.now.items }
+        ensures items { result.now ≡ self.now.items }
+        ensures even { length self.now.parts ≡ length result.now }
     {
         &self.items
     }
@@ -76,6 +81,19 @@ impl PartitionedExpr {
         ensures { result.now ≡ self.now.root }
     {
         &self.root
+    }
+
+    /// For each row the root's value, over the struct of the parts' values in that row. Where the parts keep the whole
+    /// of an expression, and each was evaluated on what is read of its item, these are the expression's values.
+    /// Condition: one array for each item, of its part's dtype and of this length.
+    pub fn join(&self, alloc: Global, parts: Vec<Array>, len: usize) -> Result<Array, NoMemory>
+        requires { AreOfParts len self.now.parts parts.items }
+        ensures dtype { IfOk result (λ a. a.dtype ≡ infer self.now.root.scope self.now.root.expr) }
+        ensures items { IfOk result (λ a. map marked a.items ≡ map (joined_at self.now.root parts.items) (range_with_len 0 len)) }
+        ensures parts { IfOk result (λ a. JoinsParts self.now parts.items len a.items) }
+        ensures whole { IfOk result (λ a. JoinsWhole self.now parts.items len a.items) }
+    {
+        joined(alloc, &self.root, parts, len)
     }
 }
 
@@ -153,7 +171,7 @@ fn pieces_of(
 }
 
 /// A struct that is known not to be too deep.
-fn struct_within(names: Vec<FieldName>, dtypes: Vec<DType>) -> DType
+pub(crate) fn struct_within(names: Vec<FieldName>, dtypes: Vec<DType>) -> DType
     requires even { length names.items ≡ length dtypes.items }
     requires shallow { fields_depth (fields_of (zip names.items dtypes.items)) ≤ 65 }
     ensures { result ≡ struct_type (fields_of (zip names.items dtypes.items)) Nullability.NonNullable }

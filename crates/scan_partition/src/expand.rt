@@ -111,7 +111,7 @@ fn unnamed(alloc: Global, others: &[FieldName], names: &[FieldName]) -> Result<N
 }
 
 /// The names of a struct's fields.
-fn struct_names(alloc: Global, dtype: &DType) -> Result<Names, NoMemory>
+pub(crate) fn struct_names(alloc: Global, dtype: &DType) -> Result<Names, NoMemory>
     ensures { IfOk result (λ ns. ns ≡ field_names (struct_fields dtype.now)) }
 {
     match dtype.as_struct_fields_opt() {

@@ -1,12 +1,13 @@
 // Cuts by their items.
-ghost use Rattle.std.specs.Prelude.{◌≡◌, IfOk, map, length, position, nat_le, []};
-ghost use Rattle.scan_partition.specs.Items.{same_item};
+ghost use Rattle.std.specs.Prelude.{◌≡◌, IfOk, map, length, nat_le, []};
 ghost use Rattle.scan_partition.specs.Partition.{added, groups_of, found};
 ghost use Rattle.scan_partition.specs.Soles.{item_seen, cut_seen};
 ghost use Rattle.scan_partition.specs.Planted.{numbered_cuts};
 ghost use Rattle.scan_partition.specs.Plans.{group_seen, leaf_seen};
+ghost use Rattle.scan_partition.specs.Places.{ArePlaced};
 
-use crate::cuts::{Cut, ItemRef, is_same_item};
+use crate::cuts::{Cut, ItemRef};
+use crate::places::Places;
 use scan_expr::BoundExpression;
 use scan_values::NoMemory;
 use std::alloc::Global;
@@ -25,26 +26,28 @@ pub(crate) struct Leaf<'a> {
     pub(crate) number: usize,
 }
 
-/// The groups of an expression's parts, and its leaves from left to right.
+/// The groups of an expression's parts, where each item's stands, and the leaves from left to right.
 #[derive(Drop)]
 pub(crate) struct Plan<'a> {
     pub(crate) groups: Vec<Group<'a>>,
     pub(crate) leaves: Vec<Leaf<'a>>,
-}
-
-/// Where an item's group stands.
-fn place(groups: &[Group], item: ItemRef) -> Option<usize>
-    ensures { result ≡ position (λ g. same_item (item_seen g.item) (item_seen item.entry)) groups.now }
-{
-    groups.iter().position(|g| is_same_item(g.item, item))
+    places: Places<'a>,
+    ghost placed: { ArePlaced places (map group_seen groups.items) },
 }
 
 /// Puts a cut into its item's group, or begins one. Gives the number of the cuts that were there.
-fn add<'a>(alloc: Global, groups: &mut Vec<Group<'a>>, cut: Cut<'a>) -> Result<usize, NoMemory>
+fn add<'a>(
+    alloc: Global,
+    groups: &mut Vec<Group<'a>>,
+    places: &mut Places<'a>,
+    cut: Cut<'a>,
+) -> Result<usize, NoMemory>
+    requires { ArePlaced places.old (map group_seen groups.old.items) }
+    ensures placed { IfOk result (λ _. ArePlaced places.new (map group_seen groups.new.items)) }
     ensures groups { IfOk result (λ _. map group_seen groups.new.items ≡ added (item_seen cut.entry.item) cut.entry.expr.now.expr (map group_seen groups.old.items)) }
     ensures number { IfOk result (λ n. n ≡ length (found (item_seen cut.entry.item) (map group_seen groups.old.items))) }
 {
-    match place(groups, cut.item) {
+    match places.get(cut.item) {
         Some(k) => {
             let number = groups[k].parts.len();
             groups[k].parts.push(cut.expr)?;
@@ -53,6 +56,7 @@ fn add<'a>(alloc: Global, groups: &mut Vec<Group<'a>>, cut: Cut<'a>) -> Result<u
         None => {
             let mut parts = Vec::with_capacity(alloc, 1)?;
             parts.push(cut.expr)?;
+            places.set(cut.item, groups.len())?;
             groups.push(Group {
                 item: cut.item,
                 parts,
@@ -68,23 +72,28 @@ pub(crate) fn planned<'a>(alloc: Global, cuts: &[Cut<'a>]) -> Result<Plan<'a>, N
     ensures leaves { IfOk result (λ p. map leaf_seen p.leaves.items ≡ numbered_cuts [] (map cut_seen cuts.now)) }
 {
     let mut groups = Vec::new(alloc);
+    let mut places = Places::new(alloc);
     let mut leaves = Vec::with_capacity(alloc, cuts.len())?;
     for cut in cuts {
-        let number = add(alloc, &mut groups, *cut)?;
+        let number = add(alloc, &mut groups, &mut places, *cut)?;
         leaves.push(Leaf {
             item: cut.item,
             number,
         })?;
     }
-    Ok(Plan { groups, leaves })
+    Ok(Plan {
+        groups,
+        leaves,
+        places,
+    })
 }
 
 /// Whether an item has one part at most.
-pub(crate) fn is_alone(groups: &[Group], item: ItemRef) -> bool
-    ensures { result ≡ nat_le (length (found (item_seen item.entry) (map group_seen groups.now))) 1 }
+pub(crate) fn is_alone(plan: &Plan, item: ItemRef) -> bool
+    ensures { result ≡ nat_le (length (found (item_seen item.entry) (map group_seen plan.now.groups.items))) 1 }
 {
-    match place(groups, item) {
-        Some(k) => groups[k].parts.len() <= 1,
+    match plan.places.get(item) {
+        Some(k) => plan.groups[k].parts.len() <= 1,
         None => true,
     }
 }

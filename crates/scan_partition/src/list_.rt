@@ -1,11 +1,12 @@
 // What an expression needs of a list, after the crate's `layouts/list/expr.rs`.
 ghost use Rattle.std.specs.Prelude.{◌≡◌, IfOk};
-ghost use Rattle.scan_partition.specs.Lists.{necessary, greater_of, children_at};
+ghost use Rattle.scan_partition.specs.Lists.{necessary, children_at};
+ghost use Rattle.scan_partition.specs.ListUses.{greatest_use};
 
 use scan_expr::{BoundExpression, BoundNode, Unary};
 
 /// The children of a list that an expression reads.
-#[derive(Clone, Copy, Debug, PartialEq, Eq)]
+#[derive(Clone, Copy, Debug, PartialEq, Eq, PartialOrd, Ord)]
 pub enum ListChildrenNeeded {
     /// The validity.
     Validity,
@@ -13,20 +14,6 @@ pub enum ListChildrenNeeded {
     OffsetsAndValidity,
     /// The elements too.
     All,
-}
-
-/// The greater class.
-fn greater_of(x: ListChildrenNeeded, y: ListChildrenNeeded) -> ListChildrenNeeded
-    ensures { result ≡ greater_of x y }
-{
-    match x {
-        ListChildrenNeeded::Validity => y,
-        ListChildrenNeeded::OffsetsAndValidity => match y {
-            ListChildrenNeeded::All => ListChildrenNeeded::All,
-            _ => ListChildrenNeeded::OffsetsAndValidity,
-        },
-        ListChildrenNeeded::All => ListChildrenNeeded::All,
-    }
 }
 
 /// What an operator on `$` needs.
@@ -43,7 +30,8 @@ fn needed_at_root(op: &Unary) -> ListChildrenNeeded
 /// The children of a list that an expression over it reads: for null tests of `$` the validity, for its length the
 /// offsets too, for `$` itself all; else the greatest that a part reads.
 pub fn necessary_children(expr: &BoundExpression) -> ListChildrenNeeded
-    ensures { result ≡ necessary expr.now.expr }
+    ensures exact { result ≡ necessary expr.now.expr }
+    ensures greatest { result ≡ greatest_use expr.now.scope expr.now.expr }
 {
     match expr.node() {
         BoundNode::Root => ListChildrenNeeded::All,
@@ -54,11 +42,11 @@ pub fn necessary_children(expr: &BoundExpression) -> ListChildrenNeeded
                 necessary_children(part)
             }
         }
-        BoundNode::Binary(_, x, y) => greater_of(necessary_children(x), necessary_children(y)),
+        BoundNode::Binary(_, x, y) => necessary_children(x).max(necessary_children(y)),
         BoundNode::Pack(_, parts, _) => {
             let mut needed = ListChildrenNeeded::Validity;
             for part in parts {
-                needed = greater_of(needed, necessary_children(part));
+                needed = needed.max(necessary_children(part));
             }
             needed
         }

@@ -1,18 +1,19 @@
 // The public rewritings of expressions, after the crate's `layouts/struct_.rs` and `layouts/list/expr.rs`.
-ghost use Rattle.std.specs.Prelude.{◌≡◌, ◌≤◌, ℕ, IfOk, None};
+ghost use Rattle.std.specs.Prelude.{◌≡◌, ◌≤◌, ◌<◌, ◌^◌, ℕ, IfOk, true};
 ghost use Rattle.scan_values.specs.DataType.{bool_type, int_type, nullability_of, is_nullable};
 ghost use Rattle.scan_values.specs.Marked.{Marked};
+ghost use Rattle.scan_values.specs.Fits.{fits};
 ghost use Rattle.scan_expr.specs.Bound.{bound_of};
 ghost use Rattle.scan_expr.specs.Infer.{struct_fields, infer};
 ghost use Rattle.scan_expr.specs.Eval.{eval};
-ghost use Rattle.scan_expr.specs.Typing.{typing_fault};
 ghost use Rattle.scan_expr.specs.Expr.{root, unary};
-ghost use Rattle.scan_partition.specs.Bare.{bare};
+ghost use Rattle.scan_partition.specs.Clean.{NodesKnown};
 ghost use Rattle.scan_partition.specs.Items.{spelled, AtMost, use_of, IsExpanded};
 ghost use Rattle.scan_partition.specs.Expand.{expanded_struct_root, expand};
 ghost use Rattle.scan_partition.specs.Partition.{step_into};
 ghost use Rattle.scan_partition.specs.Conditions.{IsStruct, IsOverStruct};
 ghost use Rattle.scan_partition.specs.Shallow.{IsShallow};
+ghost use Rattle.scan_partition.specs.Tighter.{IsTighter};
 ghost use Rattle.scan_partition.specs.Rows.{Distinct, IsRow};
 ghost use Rattle.scan_partition.specs.Lists.{IsClass, IsListRow, necessary, rewrite_validity, rewrite_offsets};
 
@@ -52,9 +53,10 @@ pub fn expand_struct_root(
     rewritten(alloc, Rewriting::Expand, expr, expr.shared_scope())
 }
 
-/// The same over what its one item is: `$.f`, or `is_not_null($)`, becomes `$`. Condition: `$` stands in that item
-/// alone, and the dtype is the item's but for what may be null. Where the dtype is what the item has over the struct,
-/// the value is the same on every value.
+/// The same over what its one item is: `$.f`, or `is_not_null($)`, becomes `$`. Conditions: `$` stands in that item
+/// alone, and the dtype is what the item has over the struct, or one that is null at fewer places, as a field's own.
+/// The result's dtype is then the expression's, or null at fewer places. The value is the same on every value where the
+/// dtype is the item's over the struct, and else on every value of the dtype where each node's value is known.
 pub fn step_into(
     alloc: Global,
     expr: &BoundExpression,
@@ -63,13 +65,15 @@ pub fn step_into(
 ) -> Result<BoundExpression, NoMemory>
     requires expanded { IsExpanded expr.now.expr }
     requires alone { AtMost item.now (use_of expr.now.expr) }
-    requires dtype { bare field_dtype.now ≡ bare (infer expr.now.scope (spelled item.now)) }
-    requires typed { typing_fault field_dtype.now (step_into expr.now.expr) ≡ None }
+    requires dtype { IsTighter field_dtype.now (infer expr.now.scope (spelled item.now)) }
     requires shallow { IsShallow expr.now.scope expr.now.expr }
     ensures exact { IfOk result (λ b. b ≡ bound_of field_dtype.now (step_into expr.now.expr)) }
+    ensures tighter { IfOk result (λ b. IsTighter (infer b.scope b.expr) (infer expr.now.scope expr.now.expr)) }
+    ensures known { IfOk result (λ b. (v : Marked) (k : ℕ) → k < 2 ^ 64 → fits (eval expr.now.scope (spelled item.now) v k) field_dtype.now ≡ true → NodesKnown expr.now.scope expr.now.expr v k → eval b.scope b.expr (eval expr.now.scope (spelled item.now) v k) k ≡ eval expr.now.scope expr.now.expr v k) }
     ensures values { field_dtype.now ≡ infer expr.now.scope (spelled item.now) → IfOk result (λ b. (v : Marked) (k : ℕ) → eval b.scope b.expr (eval expr.now.scope (spelled item.now) v k) k ≡ eval expr.now.scope expr.now.expr v k) }
     ensures dtypes { field_dtype.now ≡ infer expr.now.scope (spelled item.now) → IfOk result (λ b. infer b.scope b.expr ≡ infer expr.now.scope expr.now.expr) }
 {
+    let _typed = expr.dtype();
     let copy = field_dtype.try_clone(alloc)?;
     let scope = Arc::new(alloc, copy)?;
     rewritten(alloc, Rewriting::StepIn, expr, &scope)

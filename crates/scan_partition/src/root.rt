@@ -47,7 +47,7 @@ fn leaf_root(
     ensures { IfOk result (λ b. b ≡ bound_of scope.now.value (leaf_of (found (item_seen leaf.entry.item) (map group_seen plan.now.groups.items)) (item_seen leaf.entry.item) leaf.entry.number)) }
 {
     let part = field_root(alloc, scope, name_of(alloc, leaf.item)?)?;
-    if is_alone(&plan.groups, leaf.item) {
+    if is_alone(plan, leaf.item) {
         Ok(part)
     } else {
         let name = number_name(alloc, leaf.number)?;

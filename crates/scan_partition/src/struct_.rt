@@ -8,12 +8,14 @@ ghost use Rattle.scan_partition.specs.Items.{IsExpanded};
 ghost use Rattle.scan_partition.specs.Conditions.{IsOverStruct};
 ghost use Rattle.scan_partition.specs.Divided.{divided, kept, stepped, type_of_part};
 ghost use Rattle.scan_partition.specs.Dividing.{GroupsFit};
+ghost use Rattle.scan_partition.specs.Expand.{expand};
 ghost use Rattle.scan_partition.specs.Partition.{cuts, groups_of, root_of, joined_type};
 ghost use Rattle.scan_partition.specs.Rewrite.{NodesHold};
 ghost use Rattle.scan_partition.specs.Soles.{item_seen};
-ghost use Rattle.scan_partition.specs.Split.{split, KeepsWhole, KeptJoins};
+ghost use Rattle.scan_partition.specs.Split.{split, split_by_items, KeepsWhole, KeptJoins};
 
 use crate::cuts::{ItemRef, Sole, items_used};
+use crate::direct::{DirectProjection, direct_projection};
 use crate::divide::{Parting, PartitionedExpr, divide, own_item};
 use crate::item::Item;
 use crate::parts::item_dtype;
@@ -27,6 +29,8 @@ use std::sync::Arc;
 /// An expression over a struct, by the struct's items.
 #[derive(Drop)]
 pub enum Partitioned {
+    /// It only chooses fields, of a struct that is not nullable.
+    Direct(DirectProjection),
     /// It uses one item: the item, and the expression over it.
     Single(Item, BoundExpression),
     /// It uses none or several: a part for each, over the item, and the root over the parts.
@@ -68,11 +72,10 @@ pub fn partition(alloc: Global, expr: &BoundExpression) -> Result<PartitionedExp
     divide(alloc, Parting::Kept, expr)
 }
 
-/// An expression over a struct, by the struct's items, each part over its item. Whatever is read of the fields where
-/// the struct is null or lost, the parts joined by the root give the expression's value, and its dtype.
-pub fn partition_struct(alloc: Global, expr: &BoundExpression) -> Result<Partitioned, NoMemory>
+/// An expression over a struct, by the items that it uses.
+fn by_items(alloc: Global, expr: &BoundExpression) -> Result<Partitioned, NoMemory>
     requires { IsOverStruct expr.now }
-    ensures exact { IfOk result (λ p. p ≡ split expr.now.scope expr.now.expr) }
+    ensures exact { IfOk result (λ p. p ≡ split_by_items expr.now.scope (expand expr.now.scope expr.now.expr)) }
     ensures joined { IfOk result (λ p. KeepsWhole expr.now p) }
 {
     let _typed = expr.dtype();
@@ -81,5 +84,19 @@ pub fn partition_struct(alloc: Global, expr: &BoundExpression) -> Result<Partiti
         Sole::One(item) => single(alloc, item, &expanded),
         Sole::Nothing => several(alloc, &expanded),
         Sole::Many => several(alloc, &expanded),
+    }
+}
+
+/// An expression over a struct, by the fields that it chooses where it does no more, else by the struct's items, each
+/// part over its item. Whatever is read of the fields where the struct is null or lost, the chosen fields, or the
+/// parts joined by the root, give the expression's value, and its dtype.
+pub fn partition_struct(alloc: Global, expr: &BoundExpression) -> Result<Partitioned, NoMemory>
+    requires { IsOverStruct expr.now }
+    ensures exact { IfOk result (λ p. p ≡ split expr.now.scope expr.now.expr) }
+    ensures joined { IfOk result (λ p. KeepsWhole expr.now p) }
+{
+    match direct_projection(alloc, expr)? {
+        Some(projection) => Ok(Partitioned::Direct(projection)),
+        None => by_items(alloc, expr),
     }
 }

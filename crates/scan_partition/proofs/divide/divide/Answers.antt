@@ -1,14 +1,14 @@
 use Rattle.std.proofs.Common.{arith, ◌≡◌, ◌≤◌, ◌<◌, ◌^◌, length, [], map, ap, sym, subst, ◌∙◌}
 use Rattle.scan_values.specs.DataType.{Fields, struct_type, fields_depth}
 use Rattle.scan_values.specs.declared.ptype.Nullability.TheVariants.{NonNullable}
-use Rattle.scan_expr.specs.Bound.{bound_of}
+use Rattle.scan_expr.specs.Bound.{Bound, bound_of}
 use Rattle.scan_partition.specs.Partition.{Group, cuts, groups_of, joined_type}
 use Rattle.scan_partition.specs.Planted.{numbered_cuts}
 use Rattle.scan_partition.specs.Plans.{group_seen}
 use Rattle.scan_partition.specs.Divided.{type_of_part, group_part}
 use Rattle.scan_partition.specs.Dividing.{parting}
 use Rattle.scan_partition.proofs.Dividing.{joined_deep}
-use Rattle.scan_partition.proofs.Assembling.{found_cuts, few_cuts, assembled, root_planted, root_requires, same_divided}
+use Rattle.scan_partition.proofs.Assembling.{found_cuts, few_cuts, assembled, root_planted, root_requires, same_divided, pieces_divided}
 use Rattle.scan_partition.proofs.divide.divide.Goals as goal
 
 pub struct_within-requires-clause-shallow : goal.struct_within-requires-clause-shallow
@@ -32,6 +32,12 @@ plant-requires c =
     c.in_ok-scope.ensures.ok ∙ c.struct_within.ensures
     ∙ ap (λ (fs : Fields). struct_type fs NonNullable) (assembled c.args.how s c.shared_scope.result.now.value e _ _ _ c.shared_scope.ensures groups c.in_ok-pieces.ensures.names c.in_ok-pieces.ensures.dtypes) in
     root_requires c.in_ok-scope.scope.value _ e _ _ scope (c.in_ok-plan.ensures.groups ∙ ap groups_of found) (c.in_ok-plan.ensures.leaves ∙ ap (numbered_cuts []) found) (c.requires.root (few_cuts e c.deref.result.now found small))
+
+pub invariant_of-result : goal.invariant_of-result
+invariant_of-result c =
+    pieces_divided (parting c.args.how c.shared_scope.result.now.value) (map group_seen c.deref-2.result.now) c.in_ok-pieces.pieces.items.items c.in_ok-pieces.pieces.names.items c.in_ok-pieces.pieces.dtypes.items c.in_ok-pieces.pieces.parts.items c.in_ok-root.root
+    c.in_ok-pieces.ensures.items c.in_ok-pieces.ensures.names c.in_ok-pieces.ensures.dtypes c.in_ok-pieces.ensures.parts
+    (ap (λ (b : Bound). b.scope) c.in_ok-root.ensures.expr ∙ c.in_ok-scope.ensures.ok ∙ c.struct_within.ensures)
 
 pub returns-clause-exact : goal.returns-clause-exact
 returns-clause-exact c =

@@ -1,0 +1,25 @@
+-- Where each item's group stands.
+use Rattle.std.specs.Prelude.{◌≡◌, ℕ, suc, cond, bytes_eq, List, [], ◌∷◌, Option, Some, None}
+use Rattle.std.specs.HashMap.{get_by}
+use Rattle.scan_partition.specs.declared.item.Item.{Item}
+use Rattle.scan_partition.specs.declared.item.Item.TheVariants.{Field, Validity}
+use Rattle.scan_partition.specs.declared.places.Places.{Places}
+use Rattle.scan_partition.specs.Items.{same_item}
+use Rattle.scan_partition.specs.Partition.{Group}
+
+abbrev pub place_of : Places → Item → Option ℕ
+place_of p (Field n) = get_by (λ k. bytes_eq n k.now) p.fields
+place_of p Validity = p.validity
+
+abbrev pub one_later : Option ℕ → Option ℕ
+one_later None = None
+one_later (Some k) = Some (suc k)
+
+-- the number of an item's group
+abbrev pub index_of : Item → List Group → Option ℕ
+index_of i [] = None
+index_of i (g ∷ gs) = cond (same_item g.0 i) (Some 0) (one_later (index_of i gs))
+
+-- each item's number is that of its group
+abbrev pub ArePlaced : Places → List Group → Type 0
+ArePlaced p gs = (i : Item) → place_of p i ≡ index_of i gs
