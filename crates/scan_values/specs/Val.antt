@@ -64,9 +64,6 @@ abbrev mutual
   are_clean none = true
   are_clean (more m ms) = is_clean m && are_clean ms
 
-abbrev pub IsClean : Marked → Type 0
-IsClean m = is_clean m ≡ true
-
 -- a clean marked value, read as a value; of a damaged part null
 abbrev mutual
   pub read_marked : Marked → Val

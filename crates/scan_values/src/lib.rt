@@ -9,6 +9,7 @@ mod memory;
 mod ptype;
 mod selection;
 mod text;
+mod threads;
 mod value;
 
 pub use array::{Array, ArrayFault};
@@ -19,7 +20,5 @@ pub use memory::NoMemory;
 pub use ptype::{Nullability, PType};
 pub use selection::{Selection, StrictSorted, StrictSortedFault};
 pub use text::{FieldName, NameFault, Names, Text, has_name, names_fault};
+pub use threads::values_cross_threads;
 pub use value::{Value, Values};
-
-#[cfg(test)]
-mod tests;
