@@ -1,10 +1,15 @@
 -- Evaluation on clean values, row numbers and conjuncts.
-use Rattle.std.proofs.Common.{◌≡◌, ℕ, Bool, true, false, cond, not, ◌&&◌, ◌||◌, List, [], ◌∷◌, ◌++◌, bytes_eq, refl, ap}
+use Rattle.std.proofs.Common.{◌≡◌, ℕ, ℤ, pos, Option, Some, None, Bool, true, false, cond, not, ◌&&◌, ◌||◌, List, [], ◌∷◌, ◌++◌, bytes_eq, refl, ap}
 use Rattle.std.specs.Prelude.{◌↔◌}
 use Rattle.std.specs.List.{All, AllByRecursion}
 use Rattle.std.proofs.lemmas.List.Elements.{recursion_from_All, All-from_recursion}
 use Rattle.scan_values.specs.DataType.{DataType, Fields, no_fields, field, Name, nullability_of, is_nullable}
 use Rattle.scan_values.specs.NameFaults.{has_name}
+use Rattle.scan_values.specs.Fits.{fits_int}
+use Rattle.scan_values.specs.Kinds.{ptype_of}
+use Rattle.scan_values.specs.Ranges.{in_range}
+use Rattle.scan_values.specs.declared.ptype.PType.{PType}
+use Rattle.scan_values.specs.declared.ptype.PType.TheVariants.{U8, U16, U32, U64, I8, I16, I32, I64}
 use Rattle.scan_values.specs.Damage.{damaged}
 use Rattle.scan_values.specs.Marked.{Marked, lost, null, gone, boolean, integer, text, list, struct, Markeds, none, more}
 use Rattle.scan_values.specs.Val.{is_clean, are_clean, is_clean-marked}
@@ -13,10 +18,11 @@ use Rattle.scan_values.specs.declared.ptype.Nullability.TheVariants.{NonNullable
 use Rattle.scan_expr.specs.declared.op.Unary.{Unary}
 use Rattle.scan_expr.specs.declared.op.Unary.TheVariants.{GetItem, Select, Exclude, Not, IsNull, IsNotNull, ListLength}
 use Rattle.scan_expr.specs.declared.op.Binary.{Binary}
-use Rattle.scan_expr.specs.declared.op.Binary.TheVariants.{Mask, And, Or, Equal, NotEqual, Less, LessOrEqual, Greater, GreaterOrEqual}
+use Rattle.scan_expr.specs.declared.op.Binary.TheVariants.{Mask, And, Or, Equal, NotEqual, Less, LessOrEqual, Greater, GreaterOrEqual, CheckedAdd, CheckedSub}
 use Rattle.scan_expr.specs.Expr.{Expr, root, row_index, literal, unary, binary, pack, Parts, no_parts, part, uses_row_index, any_uses_row_index, conjuncts_of}
-use Rattle.scan_expr.specs.Infer.{infer, struct_fields, binary_type}
-use Rattle.scan_expr.specs.Eval.{not_value, null_test, length_value, of_struct, pick, pick_all, leave, is_nothing, is_damaged, is_truth, holds, order, unary_value, binary_value, mask_value, logic_value, comparison_value, eval, eval_all}
+use Rattle.scan_expr.specs.Infer.{infer, struct_fields, either, ptype_or_u64, sum_type, binary_type}
+use Rattle.scan_expr.specs.Overflow.{outside, spills, overflows, any_overflows}
+use Rattle.scan_expr.specs.Eval.{not_value, null_test, length_value, of_struct, pick, pick_all, leave, is_nothing, is_damaged, is_truth, holds, order, unary_value, binary_value, mask_value, logic_value, comparison_value, integer_of, combine, sum_of, checked, arithmetic_value, eval, eval_all}
 use Rattle.scan_expr.proofs.Fitting.{and_left, and_right}
 
 -- ---- clean values
@@ -128,35 +134,75 @@ comparison_clean o n x y g h = rw (undamaged x g, undamaged y h) (go (is_nothing
     go true = refl
     go false = refl
 
-binary_clean : (o : Binary) (d : DataType) (x y : Marked) → is_clean x ≡ true → is_clean y ≡ true → is_clean (binary_value o d x y) ≡ true
-binary_clean Mask d x y g h = mask_clean x y g h
-binary_clean And d x y g h = logic_clean false (nullability_of d) x y g h
-binary_clean Or d x y g h = logic_clean true (nullability_of d) x y g h
-binary_clean Equal d x y g h = comparison_clean Equal (nullability_of d) x y g h
-binary_clean NotEqual d x y g h = comparison_clean NotEqual (nullability_of d) x y g h
-binary_clean Less d x y g h = comparison_clean Less (nullability_of d) x y g h
-binary_clean LessOrEqual d x y g h = comparison_clean LessOrEqual (nullability_of d) x y g h
-binary_clean Greater d x y g h = comparison_clean Greater (nullability_of d) x y g h
-binary_clean GreaterOrEqual d x y g h = comparison_clean GreaterOrEqual (nullability_of d) x y g h
+zero_in_range : (p : PType) → in_range p (pos 0) ≡ true
+zero_in_range U8 = refl
+zero_in_range U16 = refl
+zero_in_range U32 = refl
+zero_in_range U64 = refl
+zero_in_range I8 = refl
+zero_in_range I16 = refl
+zero_in_range I32 = refl
+zero_in_range I64 = refl
 
-mutual
-  pub eval_clean : (s : DataType) (e : Expr) (v : Marked) (i : ℕ) → is_clean v ≡ true → is_clean (eval s e v i) ≡ true
-  eval_clean s root v i h = h
-  eval_clean s row_index v i h = refl
-  eval_clean s (literal d w) v i h = is_clean-marked w
-  eval_clean s (unary u e) v i h = unary_clean u (infer s e) (eval s e v i) (eval_clean s e v i h)
-  eval_clean s (binary b x y) v i h = binary_clean b (binary_type b (infer s x) (infer s y)) (eval s x v i) (eval s y v i) (eval_clean s x v i h) (eval_clean s y v i h)
-  eval_clean s (pack ps n) v i h = eval_all_clean s ps v i h
+-- 0 is a number of the dtype of each sum
+pub zero_fits : (d e : DataType) → fits_int (sum_type d e) (pos 0) ≡ true
+zero_fits d e = zero_in_range (ptype_or_u64 (ptype_of d))
 
-  pub eval_all_clean : (s : DataType) (ps : Parts) (v : Marked) (i : ℕ) → is_clean v ≡ true → are_clean (eval_all s ps v i) ≡ true
-  eval_all_clean s no_parts v i h = refl
-  eval_all_clean s (part n e ps) v i h = rw (eval_clean s e v i h) (eval_all_clean s ps v i h)
+checked_clean : (o : Binary) (d : DataType) (p q : Option ℤ) → fits_int d (pos 0) ≡ true → outside o d p q ≡ false → is_clean (checked d (sum_of o p q)) ≡ true
+checked_clean o d None q z h = rw z refl
+checked_clean o d (Some x) None z h = rw z refl
+checked_clean o d (Some x) (Some y) z h = go (fits_int d (combine o x y)) h
+  where
+    go : (b : Bool) → not b ≡ false → is_clean (cond b (integer (combine o x y)) gone) ≡ true
+    go true g = refl
+    go false g = cc
 
--- ---- row numbers
+arithmetic_clean : (o : Binary) (d : DataType) (x y : Marked) → fits_int d (pos 0) ≡ true → is_clean x ≡ true → is_clean y ≡ true → outside o d (integer_of x) (integer_of y) ≡ false
+    → is_clean (arithmetic_value o d x y) ≡ true
+arithmetic_clean o d x y z g h w = rw (undamaged x g, undamaged y h) (go (is_nothing x || is_nothing y))
+  where
+    go : (a : Bool) → is_clean (cond a null (checked d (sum_of o (integer_of x) (integer_of y)))) ≡ true
+    go true = refl
+    go false = checked_clean o d (integer_of x) (integer_of y) z w
+
+binary_clean : (o : Binary) (d e : DataType) (x y : Marked) → is_clean x ≡ true → is_clean y ≡ true → spills o (binary_type o d e) x y ≡ false
+    → is_clean (binary_value o (binary_type o d e) x y) ≡ true
+binary_clean Mask d e x y g h w = mask_clean x y g h
+binary_clean And d e x y g h w = logic_clean false (either (nullability_of d) (nullability_of e)) x y g h
+binary_clean Or d e x y g h w = logic_clean true (either (nullability_of d) (nullability_of e)) x y g h
+binary_clean Equal d e x y g h w = comparison_clean Equal (either (nullability_of d) (nullability_of e)) x y g h
+binary_clean NotEqual d e x y g h w = comparison_clean NotEqual (either (nullability_of d) (nullability_of e)) x y g h
+binary_clean Less d e x y g h w = comparison_clean Less (either (nullability_of d) (nullability_of e)) x y g h
+binary_clean LessOrEqual d e x y g h w = comparison_clean LessOrEqual (either (nullability_of d) (nullability_of e)) x y g h
+binary_clean Greater d e x y g h w = comparison_clean Greater (either (nullability_of d) (nullability_of e)) x y g h
+binary_clean GreaterOrEqual d e x y g h w = comparison_clean GreaterOrEqual (either (nullability_of d) (nullability_of e)) x y g h
+binary_clean CheckedAdd d e x y g h w = arithmetic_clean CheckedAdd (sum_type d e) x y (zero_fits d e) g h w
+binary_clean CheckedSub d e x y g h w = arithmetic_clean CheckedSub (sum_type d e) x y (zero_fits d e) g h w
+
 or_none : (a b : Bool) → (a || b) ≡ false → (a ≡ false) × (b ≡ false)
 or_none true b h = cc
 or_none false b h = (refl, h)
 
+mutual
+  pub eval_clean : (s : DataType) (e : Expr) (v : Marked) (i : ℕ) → is_clean v ≡ true → overflows s e v i ≡ false → is_clean (eval s e v i) ≡ true
+  eval_clean s root v i h w = h
+  eval_clean s row_index v i h w = refl
+  eval_clean s (literal d m) v i h w = is_clean-marked m
+  eval_clean s (unary u e) v i h w = unary_clean u (infer s e) (eval s e v i) (eval_clean s e v i h w)
+  eval_clean s (binary b x y) v i h w =
+      let spilt = spills b (binary_type b (infer s x) (infer s y)) (eval s x v i) (eval s y v i) in
+      let p = or_none (overflows s x v i) (overflows s y v i || spilt) w in
+      let q = or_none (overflows s y v i) spilt p.1 in
+      binary_clean b (infer s x) (infer s y) (eval s x v i) (eval s y v i) (eval_clean s x v i h p.0) (eval_clean s y v i h q.0) q.1
+  eval_clean s (pack ps n) v i h w = eval_all_clean s ps v i h w
+
+  pub eval_all_clean : (s : DataType) (ps : Parts) (v : Marked) (i : ℕ) → is_clean v ≡ true → any_overflows s ps v i ≡ false → are_clean (eval_all s ps v i) ≡ true
+  eval_all_clean s no_parts v i h w = refl
+  eval_all_clean s (part n e ps) v i h w =
+      let p = or_none (overflows s e v i) (any_overflows s ps v i) w in
+      rw (eval_clean s e v i h p.0) (eval_all_clean s ps v i h p.1)
+
+-- ---- row numbers
 mutual
   pub any_row : (s : DataType) (e : Expr) (v : Marked) (i j : ℕ) → uses_row_index e ≡ false → eval s e v i ≡ eval s e v j
   any_row s root v i j h = refl
@@ -228,6 +274,8 @@ from_true s (binary Less x y) v i h = (h, tt)
 from_true s (binary LessOrEqual x y) v i h = (h, tt)
 from_true s (binary Greater x y) v i h = (h, tt)
 from_true s (binary GreaterOrEqual x y) v i h = (h, tt)
+from_true s (binary CheckedAdd x y) v i h = (h, tt)
+from_true s (binary CheckedSub x y) v i h = (h, tt)
 from_true s (pack ps n) v i h = (h, tt)
 
 to_true : (s : DataType) (e : Expr) (v : Marked) (i : ℕ) → AreTrue s v i (conjuncts_of e) → eval s e v i ≡ boolean true
@@ -246,6 +294,8 @@ to_true s (binary Less x y) v i h = h.0
 to_true s (binary LessOrEqual x y) v i h = h.0
 to_true s (binary Greater x y) v i h = h.0
 to_true s (binary GreaterOrEqual x y) v i h = h.0
+to_true s (binary CheckedAdd x y) v i h = h.0
+to_true s (binary CheckedSub x y) v i h = h.0
 to_true s (pack ps n) v i h = h.0
 
 pub conjuncts_true : (s : DataType) (e : Expr) (v : Marked) (i : ℕ) → (eval s e v i ≡ boolean true) ↔ All (λ c. eval s c v i ≡ boolean true) (conjuncts_of e)

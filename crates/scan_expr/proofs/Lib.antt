@@ -5,8 +5,11 @@ pub mod Evals
 pub mod Fitting
 pub mod Sound
 pub mod Clean
+pub mod Overflowing
 pub mod Reading
 pub mod Binding
 pub mod Choices
 pub mod Binds
 pub mod Sames
+pub mod Feeding
+pub mod Placing

@@ -20,13 +20,13 @@ list-parts_of ns [] = refl
 list-parts_of [] (e ∷ es) = ap (λ xs. e ∷ xs) (list-parts_of [] es)
 list-parts_of (n ∷ ns) (e ∷ es) = ap (λ xs. e ∷ xs) (list-parts_of ns es)
 
-names-parts_of : (ns : List Name) (es : List Expr) → length es ≡ length ns → part_names (parts_of ns es) ≡ ns
+pub names-parts_of : (ns : List Name) (es : List Expr) → length es ≡ length ns → part_names (parts_of ns es) ≡ ns
 names-parts_of [] [] h = refl
 names-parts_of [] (e ∷ es) h = absurd (omega arith)
 names-parts_of (n ∷ ns) [] h = absurd (omega arith)
 names-parts_of (n ∷ ns) (e ∷ es) h = ap (λ xs. n ∷ xs) (names-parts_of ns es (omega arith))
 
-length-exprs : (bs : List Bound) → length (exprs_of bs) ≡ length bs
+pub length-exprs : (bs : List Bound) → length (exprs_of bs) ≡ length bs
 length-exprs [] = refl
 length-exprs (b ∷ bs) = ap suc (length-exprs bs)
 

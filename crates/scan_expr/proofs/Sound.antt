@@ -1,5 +1,5 @@
 -- The value of an expression is one of its dtype.
-use Rattle.std.proofs.Common.{◌≡◌, ℕ, ◌<◌, ◌^◌, Bool, true, false, cond, not, ◌&&◌, ◌||◌, Option, Some, None, List, [], ◌∷◌, map, refl, arith}
+use Rattle.std.proofs.Common.{◌≡◌, ℕ, ℤ, ◌<◌, ◌^◌, Bool, true, false, cond, not, ◌&&◌, ◌||◌, Option, Some, None, List, [], ◌∷◌, map, refl, arith}
 use Rattle.std.specs.Prelude.{is_some}
 use Rattle.std.proofs.lemmas.Bool.Decides.{nat_tests}
 use Rattle.scan_values.specs.DataType.{DataType, bool_type, int_type, utf8_type, list_type, struct_type, Fields, no_fields, field, Name, nullability_of, is_nullable, is_null_kind, with_nullability}
@@ -9,19 +9,22 @@ use Rattle.scan_values.specs.Damage.{damaged}
 use Rattle.scan_values.specs.Val.{Val, vals_of, marked, marked_all}
 use Rattle.scan_values.specs.declared.ptype.Nullability.{Nullability}
 use Rattle.scan_values.specs.declared.ptype.Nullability.TheVariants.{NonNullable, Nullable}
+use Rattle.scan_values.specs.declared.ptype.PType.{PType}
 use Rattle.scan_values.specs.declared.ptype.PType.TheVariants.{U64}
+use Rattle.scan_values.specs.Ranges.{in_range}
+use Rattle.scan_values.specs.Kinds.{ptype_of}
 use Rattle.scan_values.specs.NameFaults.{has_name}
 use Rattle.scan_values.specs.Fits.{fits, fits_all, fits_fields, is_short, is_bool_type}
 use Rattle.scan_values.specs.Marked.{Marked, lost, null, gone, boolean, integer, text, list, struct, Markeds, none, more, chained}
 use Rattle.scan_expr.specs.declared.op.Unary.{Unary}
 use Rattle.scan_expr.specs.declared.op.Unary.TheVariants.{GetItem, Select, Exclude, Not, IsNull, IsNotNull, ListLength}
 use Rattle.scan_expr.specs.declared.op.Binary.{Binary}
-use Rattle.scan_expr.specs.declared.op.Binary.TheVariants.{Mask, And, Or, Equal, NotEqual, Less, LessOrEqual, Greater, GreaterOrEqual}
+use Rattle.scan_expr.specs.declared.op.Binary.TheVariants.{Mask, And, Or, Equal, NotEqual, Less, LessOrEqual, Greater, GreaterOrEqual, CheckedAdd, CheckedSub}
 use Rattle.scan_expr.specs.declared.op.BindFault.{BindFault}
 use Rattle.scan_expr.specs.declared.op.BindFault.TheVariants.{NoField, NotBool, RepeatedName, Literal}
-use Rattle.scan_expr.specs.Infer.{either, raised, chosen, without, type_or_bool, unary_type, binary_type, infer, infer_all}
+use Rattle.scan_expr.specs.Infer.{either, raised, chosen, without, type_or_bool, ptype_or_u64, sum_type, unary_type, binary_type, infer, infer_all}
 use Rattle.scan_expr.specs.Typing.{Fault, or_fault, unless, has_field, have_fields, repeats, unary_fault, binary_fault, typing_fault, parts_typing_fault}
-use Rattle.scan_expr.specs.Eval.{not_value, null_test, length_value, of_struct, pick, pick_all, leave, is_nothing, is_damaged, is_truth, holds, order, unary_value, binary_value, mask_value, logic_value, comparison_value, eval, eval_all}
+use Rattle.scan_expr.specs.Eval.{not_value, null_test, length_value, of_struct, pick, pick_all, leave, is_nothing, is_damaged, is_truth, holds, order, unary_value, binary_value, mask_value, logic_value, comparison_value, integer_of, sum_of, checked, arithmetic_value, eval, eval_all}
 use Rattle.scan_expr.specs.Expr.{Expr, root, row_index, literal, unary, binary, pack, Parts, no_parts, part}
 use Rattle.scan_expr.proofs.Fitting.{fits-nullable, fits-either, pick_fits, and_left, and_right, is_nullable-with}
 
@@ -275,6 +278,23 @@ comparison_sound : (o : Binary) (x y : Marked) (d e : DataType) → fits x d ≡
 comparison_sound o x y d e g h =
     comparison_fits (is_nothing x || is_nothing y) (is_damaged x || is_damaged y) (holds o (order x y)) (either (nullability_of d) (nullability_of e)) (one_nothing x y d e g h)
 
+checked_fits : (z : ℤ) (p : PType) (n : Nullability) → fits (checked (int_type p n) z) (int_type p n) ≡ true
+checked_fits z p n = go (in_range p z) refl
+  where
+    go : (b : Bool) → in_range p z ≡ b → fits (cond b (integer z) gone) (int_type p n) ≡ true
+    go true is = is
+    go false is = refl
+
+arithmetic_fits : (a c : Bool) (z : ℤ) (p : PType) (n : Nullability) → (a ≡ true → is_null_kind n ≡ true) → fits (cond a null (cond c (damaged n) (checked (int_type p n) z))) (int_type p n) ≡ true
+arithmetic_fits true c z p n h = h refl
+arithmetic_fits false true z p NonNullable h = refl
+arithmetic_fits false true z p Nullable h = refl
+arithmetic_fits false false z p n h = checked_fits z p n
+
+arithmetic_sound : (o : Binary) (x y : Marked) (d e : DataType) → fits x d ≡ true → fits y e ≡ true → fits (arithmetic_value o (sum_type d e) x y) (sum_type d e) ≡ true
+arithmetic_sound o x y d e g h =
+    arithmetic_fits (is_nothing x || is_nothing y) (is_damaged x || is_damaged y) (sum_of o (integer_of x) (integer_of y)) (ptype_or_u64 (ptype_of d)) (either (nullability_of d) (nullability_of e)) (one_nothing x y d e g h)
+
 pub binary_sound : (o : Binary) (x y : Marked) (d e : DataType) → fits x d ≡ true → fits y e ≡ true → binary_fault o d e ≡ None → fits (binary_value o (binary_type o d e) x y) (binary_type o d e) ≡ true
 binary_sound Mask x y d e g h t = mask_fits x y d g
 binary_sound And x y d e g h t = let b = both_bool d e t in logic_sound false x y d e g h b.0 b.1
@@ -285,6 +305,8 @@ binary_sound Less x y d e g h t = comparison_sound Less x y d e g h
 binary_sound LessOrEqual x y d e g h t = comparison_sound LessOrEqual x y d e g h
 binary_sound Greater x y d e g h t = comparison_sound Greater x y d e g h
 binary_sound GreaterOrEqual x y d e g h t = comparison_sound GreaterOrEqual x y d e g h
+binary_sound CheckedAdd x y d e g h t = arithmetic_sound CheckedAdd x y d e g h
+binary_sound CheckedSub x y d e g h t = arithmetic_sound CheckedSub x y d e g h
 
 -- ---- the whole
 mutual

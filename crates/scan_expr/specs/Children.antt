@@ -2,7 +2,7 @@
 use Rattle.std.specs.Prelude.{◌≡◌, ℕ, Bool, true, false, List, [], ◌∷◌, map}
 use Rattle.scan_expr.specs.Expr.{Expr, root, row_index, literal, unary, binary, pack, Parts, no_parts, part}
 use Rattle.scan_expr.specs.Bound.{Bound, bound_of}
-use Rattle.scan_expr.specs.Ops.{apply_op, HasArity}
+use Rattle.scan_expr.specs.Ops.{apply_op, HasArity, node_places}
 use Rattle.scan_expr.specs.declared.bound.Op.{Op}
 use Rattle.scan_expr.specs.declared.bound.Op.TheVariants.{Root, RowIdx, Literal, Unary, Binary, Pack}
 
@@ -35,3 +35,4 @@ is_row_op (Pack ns n) = false
 pub record IsLike (p q : Op) : Type 0 where
   pub same : (es : List Expr) → apply_op p es ≡ apply_op q es
   pub arity : (k : ℕ) → HasArity q k → HasArity p k
+  pub places : (bs : List Bound) → node_places bs p ≡ node_places bs q

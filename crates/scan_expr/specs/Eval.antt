@@ -1,5 +1,5 @@
 -- The value of an expression on one row, of which parts may be lost.
-use Rattle.std.specs.Prelude.{ℕ, pos, Bool, true, false, cond, not, ◌&&◌, ◌||◌, List, [], ◌∷◌, length, bytes_eq}
+use Rattle.std.specs.Prelude.{ℕ, ℤ, pos, ◌+ℤ◌, ◌-ℤ◌, Bool, true, false, cond, not, ◌&&◌, ◌||◌, List, [], ◌∷◌, Option, Some, None, length, bytes_eq}
 use Rattle.std.specs.Ordering.{int_cmp, nat_cmp, is_eq, is_lt, is_gt}
 use Rattle.std.specs.declared.cmp.Ordering.{Ordering}
 use Rattle.std.specs.declared.cmp.Ordering.TheVariants as orders
@@ -8,12 +8,13 @@ use Rattle.scan_values.specs.Marked.{Marked, lost, null, gone, boolean, integer,
 use Rattle.scan_values.specs.Val.{marked}
 use Rattle.scan_values.specs.Damage.{damaged}
 use Rattle.scan_values.specs.DataType.{DataType, Fields, no_fields, field, Name, nullability_of, is_nullable}
+use Rattle.scan_values.specs.Fits.{fits_int}
 use Rattle.scan_values.specs.NameFaults.{has_name}
 use Rattle.scan_values.specs.declared.ptype.Nullability.{Nullability}
 use Rattle.scan_expr.specs.declared.op.Unary.{Unary}
 use Rattle.scan_expr.specs.declared.op.Unary.TheVariants.{GetItem, Select, Exclude, Not, IsNull, IsNotNull, ListLength}
 use Rattle.scan_expr.specs.declared.op.Binary.{Binary}
-use Rattle.scan_expr.specs.declared.op.Binary.TheVariants.{Mask, And, Or, Equal, NotEqual, Less, LessOrEqual, Greater, GreaterOrEqual}
+use Rattle.scan_expr.specs.declared.op.Binary.TheVariants.{Mask, And, Or, Equal, NotEqual, Less, LessOrEqual, Greater, GreaterOrEqual, CheckedAdd, CheckedSub}
 use Rattle.scan_expr.specs.Expr.{Expr, root, row_index, literal, unary, binary, pack, Parts, no_parts, part}
 use Rattle.scan_expr.specs.Infer.{struct_fields, infer, binary_type}
 
@@ -160,11 +161,53 @@ holds Less o = is_lt o
 holds LessOrEqual o = not (is_gt o)
 holds Greater o = is_gt o
 holds GreaterOrEqual o = not (is_lt o)
+holds CheckedAdd o = false
+holds CheckedSub o = false
 
 -- null where one side is null, else damaged where one side is so, else whether it holds
 abbrev pub comparison_value : Binary → Nullability → Marked → Marked → Marked
 comparison_value b n x y =
     cond (is_nothing x || is_nothing y) null (cond (is_damaged x || is_damaged y) (damaged n) (boolean (holds b (order x y))))
+
+-- the integer that a value is
+abbrev pub integer_of : Marked → Option ℤ
+integer_of lost = None
+integer_of null = None
+integer_of gone = None
+integer_of (boolean b) = None
+integer_of (integer z) = Some z
+integer_of (text s) = None
+integer_of (list ms) = None
+integer_of (struct ms) = None
+
+-- the sum or the difference
+abbrev pub combine : Binary → ℤ → ℤ → ℤ
+combine Mask x y = pos 0
+combine And x y = pos 0
+combine Or x y = pos 0
+combine Equal x y = pos 0
+combine NotEqual x y = pos 0
+combine Less x y = pos 0
+combine LessOrEqual x y = pos 0
+combine Greater x y = pos 0
+combine GreaterOrEqual x y = pos 0
+combine CheckedAdd x y = x +ℤ y
+combine CheckedSub x y = x -ℤ y
+
+-- of two integers; 0 of anything else
+abbrev pub sum_of : Binary → Option ℤ → Option ℤ → ℤ
+sum_of b None q = pos 0
+sum_of b (Some x) None = pos 0
+sum_of b (Some x) (Some y) = combine b x y
+
+-- an integer where it is one of the dtype, else gone
+abbrev pub checked : DataType → ℤ → Marked
+checked d z = cond (fits_int d z) (integer z) gone
+
+-- null where one side is null, else damaged where one side is so, else the sum or difference where it lies in the dtype
+abbrev pub arithmetic_value : Binary → DataType → Marked → Marked → Marked
+arithmetic_value b d x y =
+    cond (is_nothing x || is_nothing y) null (cond (is_damaged x || is_damaged y) (damaged (nullability_of d)) (checked d (sum_of b (integer_of x) (integer_of y))))
 
 -- the value of an operator whose result has the dtype d
 abbrev pub binary_value : Binary → DataType → Marked → Marked → Marked
@@ -177,6 +220,8 @@ binary_value Less d x y = comparison_value Less (nullability_of d) x y
 binary_value LessOrEqual d x y = comparison_value LessOrEqual (nullability_of d) x y
 binary_value Greater d x y = comparison_value Greater (nullability_of d) x y
 binary_value GreaterOrEqual d x y = comparison_value GreaterOrEqual (nullability_of d) x y
+binary_value CheckedAdd d x y = arithmetic_value CheckedAdd d x y
+binary_value CheckedSub d x y = arithmetic_value CheckedSub d x y
 
 -- ---- the whole: over a scope, on the scope's value v, in the row of number i
 abbrev mutual

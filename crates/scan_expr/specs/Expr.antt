@@ -5,7 +5,7 @@ use Rattle.scan_values.specs.Val.{Val}
 use Rattle.scan_values.specs.declared.ptype.Nullability.{Nullability}
 use Rattle.scan_expr.specs.declared.op.Unary.{Unary}
 use Rattle.scan_expr.specs.declared.op.Binary.{Binary}
-use Rattle.scan_expr.specs.declared.op.Binary.TheVariants.{Mask, And, Or, Equal, NotEqual, Less, LessOrEqual, Greater, GreaterOrEqual}
+use Rattle.scan_expr.specs.declared.op.Binary.TheVariants.{Mask, And, Or, Equal, NotEqual, Less, LessOrEqual, Greater, GreaterOrEqual, CheckedAdd, CheckedSub}
 
 mutual
   -- the scope's value, the row's number, a literal, an operator on one or on two expressions, and a struct of expressions
@@ -87,6 +87,8 @@ is_and Less = false
 is_and LessOrEqual = false
 is_and Greater = false
 is_and GreaterOrEqual = false
+is_and CheckedAdd = false
+is_and CheckedSub = false
 
 -- what top-level `and`s join, from left to right
 abbrev pub conjuncts_of : Expr → List Expr

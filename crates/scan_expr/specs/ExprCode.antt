@@ -11,7 +11,7 @@ use Rattle.scan_values.specs.Val.{Val, marked, read_marked, read-marked}
 use Rattle.scan_expr.specs.declared.op.Unary.{Unary}
 use Rattle.scan_expr.specs.declared.op.Unary.TheVariants.{GetItem, Select, Exclude, Not, IsNull, IsNotNull, ListLength}
 use Rattle.scan_expr.specs.declared.op.Binary.{Binary}
-use Rattle.scan_expr.specs.declared.op.Binary.TheVariants.{Mask, And, Or, Equal, NotEqual, Less, LessOrEqual, Greater, GreaterOrEqual}
+use Rattle.scan_expr.specs.declared.op.Binary.TheVariants.{Mask, And, Or, Equal, NotEqual, Less, LessOrEqual, Greater, GreaterOrEqual, CheckedAdd, CheckedSub}
 use Rattle.scan_expr.specs.Expr.{Expr, root, row_index, literal, unary, binary, pack, Parts, no_parts, part}
 
 abbrev pub names_tree : List Name → Gv
@@ -67,6 +67,8 @@ binary_tree Less = 5
 binary_tree LessOrEqual = 6
 binary_tree Greater = 7
 binary_tree GreaterOrEqual = 8
+binary_tree CheckedAdd = 9
+binary_tree CheckedSub = 10
 
 abbrev pub tree_binary : ℕ → Binary
 tree_binary zero = Mask
@@ -77,7 +79,9 @@ tree_binary (suc (suc (suc (suc zero)))) = NotEqual
 tree_binary (suc (suc (suc (suc (suc zero))))) = Less
 tree_binary (suc (suc (suc (suc (suc (suc zero)))))) = LessOrEqual
 tree_binary (suc (suc (suc (suc (suc (suc (suc zero))))))) = Greater
-tree_binary (suc (suc (suc (suc (suc (suc (suc (suc k)))))))) = GreaterOrEqual
+tree_binary (suc (suc (suc (suc (suc (suc (suc (suc zero)))))))) = GreaterOrEqual
+tree_binary (suc (suc (suc (suc (suc (suc (suc (suc (suc zero))))))))) = CheckedAdd
+tree_binary (suc (suc (suc (suc (suc (suc (suc (suc (suc (suc k)))))))))) = CheckedSub
 
 pub tree_binary-binary_tree : (b : Binary) → tree_binary (binary_tree b) ≡ b
 tree_binary-binary_tree Mask = refl
@@ -89,6 +93,8 @@ tree_binary-binary_tree Less = refl
 tree_binary-binary_tree LessOrEqual = refl
 tree_binary-binary_tree Greater = refl
 tree_binary-binary_tree GreaterOrEqual = refl
+tree_binary-binary_tree CheckedAdd = refl
+tree_binary-binary_tree CheckedSub = refl
 
 abbrev pub val_tree : Val → Gv
 val_tree v = marks.tree (marked v)

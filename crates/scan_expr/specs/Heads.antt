@@ -57,4 +57,4 @@ head_number row_head = 1
 head_number (literal_head d v) = 2
 head_number (unary_head u) = 3 + unary_number u
 head_number (binary_head b) = 10 + binary_number b
-head_number (pack_head ns n) = 19
+head_number (pack_head ns n) = 21

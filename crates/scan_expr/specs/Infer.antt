@@ -2,15 +2,16 @@
 use Rattle.std.specs.Prelude.{cond, List, [], ◌∷◌, Option, Some, None}
 use Rattle.scan_values.specs.DataType.{DataType, bool_type, int_type, struct_type, Fields, no_fields, field, Name, nullability_of, with_nullability}
 use Rattle.scan_values.specs.FieldLists.{dtype_named}
-use Rattle.scan_values.specs.Kinds.{struct_fields_of}
+use Rattle.scan_values.specs.Kinds.{struct_fields_of, ptype_of}
 use Rattle.scan_values.specs.NameFaults.{has_name}
+use Rattle.scan_values.specs.declared.ptype.PType.{PType}
 use Rattle.scan_values.specs.declared.ptype.PType.TheVariants.{U64}
 use Rattle.scan_values.specs.declared.ptype.Nullability.{Nullability}
 use Rattle.scan_values.specs.declared.ptype.Nullability.TheVariants.{NonNullable, Nullable}
 use Rattle.scan_expr.specs.declared.op.Unary.{Unary}
 use Rattle.scan_expr.specs.declared.op.Unary.TheVariants.{GetItem, Select, Exclude, Not, IsNull, IsNotNull, ListLength}
 use Rattle.scan_expr.specs.declared.op.Binary.{Binary}
-use Rattle.scan_expr.specs.declared.op.Binary.TheVariants.{Mask, And, Or, Equal, NotEqual, Less, LessOrEqual, Greater, GreaterOrEqual}
+use Rattle.scan_expr.specs.declared.op.Binary.TheVariants.{Mask, And, Or, Equal, NotEqual, Less, LessOrEqual, Greater, GreaterOrEqual, CheckedAdd, CheckedSub}
 use Rattle.scan_expr.specs.Expr.{Expr, root, row_index, literal, unary, binary, pack, Parts, no_parts, part}
 
 -- nullable by either
@@ -61,6 +62,14 @@ unary_type ListLength d = int_type U64 (nullability_of d)
 abbrev pub joint_bool : DataType → DataType → DataType
 joint_bool d e = bool_type (either (nullability_of d) (nullability_of e))
 
+abbrev pub ptype_or_u64 : Option PType → PType
+ptype_or_u64 None = U64
+ptype_or_u64 (Some p) = p
+
+-- the integer type of the left side, nullable by both
+abbrev pub sum_type : DataType → DataType → DataType
+sum_type d e = int_type (ptype_or_u64 (ptype_of d)) (either (nullability_of d) (nullability_of e))
+
 abbrev pub binary_type : Binary → DataType → DataType → DataType
 binary_type Mask d e = with_nullability Nullable d
 binary_type And d e = joint_bool d e
@@ -71,6 +80,8 @@ binary_type Less d e = joint_bool d e
 binary_type LessOrEqual d e = joint_bool d e
 binary_type Greater d e = joint_bool d e
 binary_type GreaterOrEqual d e = joint_bool d e
+binary_type CheckedAdd d e = sum_type d e
+binary_type CheckedSub d e = sum_type d e
 
 abbrev mutual
   pub infer : DataType → Expr → DataType

@@ -5,8 +5,10 @@ pub mod NodesFall
 pub mod Infer
 pub mod Typing
 pub mod Eval
+pub mod Overflow
 pub mod Needs
 pub mod Bound
+pub mod Places
 pub mod Ops
 pub mod OpsFall
 pub mod BoundNodes
@@ -16,4 +18,3 @@ pub mod Children
 pub mod Same
 pub mod Heads
 pub mod Hashes
-pub mod Requests

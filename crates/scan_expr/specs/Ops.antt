@@ -3,7 +3,8 @@ use Rattle.std.specs.Prelude.{◌≡◌, ℕ, List, [], ◌∷◌, length, None,
 use Rattle.scan_values.specs.Values.{val_of}
 use Rattle.scan_values.specs.DataType.{DataType}
 use Rattle.scan_expr.specs.Expr.{Expr, root, row_index, literal, unary, binary, pack, parts_of}
-use Rattle.scan_expr.specs.Infer.{infer}
+use Rattle.scan_expr.specs.Infer.{infer, struct_fields}
+use Rattle.scan_expr.specs.Places.{unary_places}
 use Rattle.scan_expr.specs.Typing.{typing_fault}
 use Rattle.scan_expr.specs.Bound.{Bound, exprs_of}
 use Rattle.scan_expr.specs.declared.bound.Op.{Op}
@@ -29,8 +30,19 @@ HasArity (Unary u) k = k ≡ 1
 HasArity (Binary b) k = k ≡ 2
 HasArity (Pack ns n) k = k ≡ length ns
 
-pub record IsBound (op : Op) (parts : List Bound) (scope dtype : DataType) : Type 0 where
+-- where the fields stand that an operator takes of its part's values
+abbrev pub node_places : List Bound → Op → List ℕ
+node_places [] op = []
+node_places (b ∷ bs) Root = []
+node_places (b ∷ bs) RowIdx = []
+node_places (b ∷ bs) (Literal d v) = []
+node_places (b ∷ bs) (Unary u) = unary_places u (struct_fields (infer b.scope b.expr))
+node_places (b ∷ bs) (Binary o) = []
+node_places (b ∷ bs) (Pack ns n) = []
+
+pub record IsBound (op : Op) (parts : List Bound) (scope dtype : DataType) (places : List ℕ) : Type 0 where
   pub arity : HasArity op (length parts)
   pub scopes : All (λ b. b.scope ≡ scope) parts
   pub typed : infer scope (apply_op op (exprs_of parts)) ≡ dtype
   pub faultless : typing_fault scope (apply_op op (exprs_of parts)) ≡ None
+  pub placed : places ≡ node_places parts op

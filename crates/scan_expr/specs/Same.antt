@@ -11,7 +11,7 @@ use Rattle.scan_values.specs.declared.ptype.Nullability.TheVariants.{NonNullable
 use Rattle.scan_expr.specs.declared.op.Unary.{Unary}
 use Rattle.scan_expr.specs.declared.op.Unary.TheVariants.{GetItem, Select, Exclude, Not, IsNull, IsNotNull, ListLength}
 use Rattle.scan_expr.specs.declared.op.Binary.{Binary}
-use Rattle.scan_expr.specs.declared.op.Binary.TheVariants.{Mask, And, Or, Equal, NotEqual, Less, LessOrEqual, Greater, GreaterOrEqual}
+use Rattle.scan_expr.specs.declared.op.Binary.TheVariants.{Mask, And, Or, Equal, NotEqual, Less, LessOrEqual, Greater, GreaterOrEqual, CheckedAdd, CheckedSub}
 use Rattle.scan_expr.specs.Expr.{Expr, root, row_index, literal, unary, binary, pack, Parts, no_parts, part}
 use Rattle.scan_expr.specs.Bound.{Bound}
 
@@ -83,6 +83,8 @@ same_binary Less Less = true
 same_binary LessOrEqual LessOrEqual = true
 same_binary Greater Greater = true
 same_binary GreaterOrEqual GreaterOrEqual = true
+same_binary CheckedAdd CheckedAdd = true
+same_binary CheckedSub CheckedSub = true
 same_binary _ _ = false
 
 same_binary-is : (b c : Binary) → same_binary b c ≡ true → b ≡ c
@@ -95,6 +97,8 @@ same_binary-is Less Less h = refl
 same_binary-is LessOrEqual LessOrEqual h = refl
 same_binary-is Greater Greater h = refl
 same_binary-is GreaterOrEqual GreaterOrEqual h = refl
+same_binary-is CheckedAdd CheckedAdd h = refl
+same_binary-is CheckedSub CheckedSub h = refl
 same_binary-is b c h = absurd cc
 
 same_binary-self : (b : Binary) → same_binary b b ≡ true
@@ -107,6 +111,8 @@ same_binary-self Less = refl
 same_binary-self LessOrEqual = refl
 same_binary-self Greater = refl
 same_binary-self GreaterOrEqual = refl
+same_binary-self CheckedAdd = refl
+same_binary-self CheckedSub = refl
 
 -- ---- expressions
 abbrev mutual
@@ -164,14 +170,14 @@ same_expr-Decides x y = (same_expr-is x y, λ p. let P : Expr → Type 0 = λ z.
 
 -- ---- bound expressions
 abbrev pub same_bound : Bound → Bound → Bool
-same_bound a b = same_type a.scope b.scope && same_expr a.expr b.expr
+same_bound a b = same_expr a.expr b.expr && same_type a.scope b.scope
 
 same_bound-is : (a b : Bound) → same_bound a b ≡ true → a ≡ b
 same_bound-is a b h =
-    λ i. record { scope = (same_type-Decides a.scope b.scope).0 (and_left (same_type a.scope b.scope) (same_expr a.expr b.expr) h) i; expr = same_expr-is a.expr b.expr (and_right (same_type a.scope b.scope) (same_expr a.expr b.expr) h) i }
+    λ i. record { scope = (same_type-Decides a.scope b.scope).0 (and_right (same_expr a.expr b.expr) (same_type a.scope b.scope) h) i; expr = same_expr-is a.expr b.expr (and_left (same_expr a.expr b.expr) (same_type a.scope b.scope) h) i }
 
 same_bound-self : (a : Bound) → same_bound a a ≡ true
-same_bound-self a = rw ((same_type-Decides a.scope a.scope).1 refl) (same_expr-self a.expr)
+same_bound-self a = rw (same_expr-self a.expr) ((same_type-Decides a.scope a.scope).1 refl)
 
 pub same_bound-Decides : (a b : Bound) → Decides (same_bound a b) (a ≡ b)
 same_bound-Decides a b = (same_bound-is a b, λ p. let P : Bound → Type 0 = λ z. same_bound a z ≡ true in subst P p (same_bound-self a))
@@ -181,12 +187,6 @@ same_bound-equivalence = decided same_bound same_bound-Decides
 
 pub same_bound-partial : IsPartialEquivalence same_bound
 same_bound-partial = partial_equiv_from_equiv same_bound-equivalence
-
-pub same_expr-equivalence : IsEquivalence same_expr
-same_expr-equivalence = decided same_expr same_expr-Decides
-
-pub same_expr-partial : IsPartialEquivalence same_expr
-same_expr-partial = partial_equiv_from_equiv same_expr-equivalence
 
 abbrev pub unary_number : Unary → ℕ
 unary_number (GetItem n) = 0
@@ -207,3 +207,5 @@ binary_number Less = 5
 binary_number LessOrEqual = 6
 binary_number Greater = 7
 binary_number GreaterOrEqual = 8
+binary_number CheckedAdd = 9
+binary_number CheckedSub = 10

@@ -13,7 +13,7 @@ use Rattle.scan_values.specs.declared.ptype.PType.TheVariants.{U8, U16, U32, U64
 use Rattle.scan_expr.specs.declared.op.Unary.{Unary}
 use Rattle.scan_expr.specs.declared.op.Unary.TheVariants.{GetItem, Select, Exclude, Not, IsNull, IsNotNull, ListLength}
 use Rattle.scan_expr.specs.declared.op.Binary.{Binary}
-use Rattle.scan_expr.specs.declared.op.Binary.TheVariants.{Mask, And, Or, Equal, NotEqual, Less, LessOrEqual, Greater, GreaterOrEqual}
+use Rattle.scan_expr.specs.declared.op.Binary.TheVariants.{Mask, And, Or, Equal, NotEqual, Less, LessOrEqual, Greater, GreaterOrEqual, CheckedAdd, CheckedSub}
 use Rattle.scan_expr.specs.declared.op.BindFault.{BindFault}
 use Rattle.scan_expr.specs.declared.op.BindFault.TheVariants.{NoField, NotStruct, NotList, NotBool, Operands, RepeatedName, ReservedName, Literal, Deep}
 use Rattle.scan_expr.specs.Expr.{Expr, root, row_index, literal, unary, binary, pack, Parts, no_parts, part, expr_depth}
@@ -100,6 +100,10 @@ logic_fault d e = or_fault (unless (is_bool_type d) NotBool) (unless (is_bool_ty
 abbrev pub comparison_fault : DataType → DataType → Fault
 comparison_fault d e = unless (are_operands d e) Operands
 
+-- both of one integer type
+abbrev pub sum_fault : DataType → DataType → Fault
+sum_fault d e = unless (same_ptypes (ptype_of d) (ptype_of e)) Operands
+
 abbrev pub binary_fault : Binary → DataType → DataType → Fault
 binary_fault Mask d e = unless (is_bool_type e && not (is_null_kind (nullability_of e))) NotBool
 binary_fault And d e = logic_fault d e
@@ -110,6 +114,8 @@ binary_fault Less d e = comparison_fault d e
 binary_fault LessOrEqual d e = comparison_fault d e
 binary_fault Greater d e = comparison_fault d e
 binary_fault GreaterOrEqual d e = comparison_fault d e
+binary_fault CheckedAdd d e = sum_fault d e
+binary_fault CheckedSub d e = sum_fault d e
 
 abbrev pub pack_fault : Fields → Fault
 pack_fault fs = of_names (names_fault [] (field_names fs))

@@ -85,7 +85,7 @@ pub(crate) fn bind_pack(
     let dtype = struct_of(pack_fields(alloc, names, &children)?, n)?;
     let dtype = Arc::new(alloc, dtype)?;
     let names = names.try_clone(alloc)?;
-    Ok(BoundExpression::over_many(names, n, children, scope.clone()?, dtype))
+    Ok(BoundExpression::over_many(alloc, names, n, children, scope.clone()?, dtype))
 }
 
 /// The fields of a struct of bound parts.

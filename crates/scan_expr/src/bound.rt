@@ -2,6 +2,7 @@
 ghost use Rattle.std.specs.Prelude.{◌≡◌};
 
 use crate::bind::pack_fields;
+use crate::index::places_of;
 use crate::op::{Binary, Unary};
 use crate::typing::{binary_type, struct_within, unary_type};
 use scan_values::{DType, Names, NoMemory, Nullability, PType, Value};
@@ -40,6 +41,8 @@ pub struct BoundExpression {
     pub(crate) children: Vec<BoundExpression>,
     pub(crate) scope: Arc<DType>,
     pub(crate) dtype: Arc<DType>,
+    /// Where the fields stand that a field access, a select or an exclude takes of its part's values.
+    pub(crate) places: Vec<usize>,
 }
 
 /// What a bound expression is at its top, with its parts.
@@ -66,7 +69,7 @@ impl Model for BoundExpression {
 
     ghost view = { λ a. record { scope = a.scope.value; expr = apply_op a.op (exprs_of a.children.items) } };
 
-    ghost invariant = { λ a. IsBound a.op a.children.items a.scope.value a.dtype.value };
+    ghost invariant = { λ a. IsBound a.op a.children.items a.scope.value a.dtype.value a.places.items };
 
     ghost size = { λ b. expr_size b.expr };
 
@@ -100,6 +103,7 @@ impl BoundExpression {
             children: Vec::new(alloc),
             scope,
             dtype,
+            places: Vec::new(alloc),
         }
     }
 
@@ -113,6 +117,7 @@ impl BoundExpression {
         requires faultless { unary_fault op (infer child.scope child.expr) ≡ None }
         ensures { IfOk result (λ b. b ≡ bound_of child.scope (unary op child.expr)) }
     {
+        let places = places_of(alloc, &op, child.dtype())?;
         let scope = child.scope.clone()?;
         let dtype = Arc::new(alloc, dtype)?;
         let mut children = Vec::with_capacity(alloc, 1)?;
@@ -122,6 +127,7 @@ impl BoundExpression {
             children,
             scope,
             dtype,
+            places,
         })
     }
 
@@ -147,10 +153,12 @@ impl BoundExpression {
             children,
             scope,
             dtype,
+            places: Vec::new(alloc),
         })
     }
 
     pub(crate) fn over_many(
+        alloc: Global,
         names: Names,
         nullability: Nullability,
         children: Vec<BoundExpression>,
@@ -168,6 +176,7 @@ impl BoundExpression {
             children,
             scope,
             dtype,
+            places: Vec::new(alloc),
         }
     }
 }
@@ -384,6 +393,6 @@ impl BoundExpression {
     {
         let fields = pack_fields(alloc, &names, &children)?;
         let dtype = Arc::new(alloc, struct_within(fields, n))?;
-        Ok(BoundExpression::over_many(names, n, children, scope.clone()?, dtype))
+        Ok(BoundExpression::over_many(alloc, names, n, children, scope.clone()?, dtype))
     }
 }

@@ -1,6 +1,8 @@
 // Equality, hash and copies of bound expressions.
-ghost use Rattle.std.specs.Prelude.{◌≡◌};
+ghost use Rattle.std.specs.Prelude.{◌≡◌, IfOk};
+ghost use Rattle.std.specs.List.{fold};
 ghost use Rattle.scan_expr.specs.Same.{same_unary, unary_number, binary_number};
+ghost use Rattle.scan_expr.specs.Hashes.{unary_fed};
 
 use crate::bound::{BoundExpression, Op};
 use crate::op::{Binary, Unary};
@@ -37,6 +39,18 @@ fn unary_number(op: &Unary) -> u8
     }
 }
 
+/// Feeds the names that an operator writes.
+fn feed_names<H: Hasher>(op: &Unary, state: &mut H)
+    ensures { state.new ≡ fold H.write state.old (unary_fed op.now) }
+{
+    match op {
+        Unary::GetItem(name) => name.hash(state),
+        Unary::Select(names) => names.hash(state),
+        Unary::Exclude(names) => names.hash(state),
+        _ => {}
+    }
+}
+
 fn binary_number(op: Binary) -> u8
     ensures { result ≡ binary_number op }
 {
@@ -50,13 +64,27 @@ fn binary_number(op: Binary) -> u8
         Binary::LessOrEqual => 6,
         Binary::Greater => 7,
         Binary::GreaterOrEqual => 8,
+        Binary::CheckedAdd => 9,
+        Binary::CheckedSub => 10,
     }
+}
+
+fn copied(alloc: Global, places: &[usize]) -> Result<Vec<usize>, NoMemory>
+    ensures { IfOk result (λ v. v.items ≡ places.now) }
+{
+    let mut copy = Vec::with_capacity(alloc, places.len())?;
+    for place in places {
+        copy.push(*place)?;
+    }
+    Ok(copy)
 }
 
 impl Op {
     ghost use Rattle.std.specs.Prelude.{◌≡◌, IfOk};
     ghost use Rattle.scan_expr.specs.Children.{IsLike};
+    ghost use Rattle.std.specs.List.{fold};
     ghost use Rattle.scan_expr.specs.Heads.{op_head, same_head, head_number};
+    ghost use Rattle.scan_expr.specs.Hashes.{head_fed};
 
     fn try_clone(&self, alloc: Global) -> Result<Op, NoMemory>
         ensures { IfOk result (λ op. IsLike op self.now) }
@@ -97,7 +125,26 @@ impl Op {
             Op::Literal(_, _) => 2,
             Op::Unary(op) => 3 + unary_number(op),
             Op::Binary(op) => 10 + binary_number(*op),
-            Op::Pack(_, _) => 19,
+            Op::Pack(_, _) => 21,
+        }
+    }
+
+    /// Feeds the node without its parts.
+    fn feed<H: Hasher>(&self, state: &mut H)
+        ensures { state.new ≡ fold H.write state.old (head_fed (op_head self.now)) }
+    {
+        self.number().hash(state);
+        match self {
+            Op::Literal(dtype, value) => {
+                dtype.hash(state);
+                value.hash(state);
+            }
+            Op::Unary(op) => feed_names(op, state),
+            Op::Pack(names, n) => {
+                names.hash(state);
+                n.is_nullable().hash(state);
+            }
+            _ => {}
         }
     }
 }
@@ -105,6 +152,8 @@ impl Op {
 impl BoundExpression {
     ghost use Rattle.std.specs.Prelude.{◌≡◌, IfOk};
     ghost use Rattle.scan_expr.specs.Same.{same_expr};
+    ghost use Rattle.std.specs.List.{fold};
+    ghost use Rattle.scan_expr.specs.Hashes.{expr_fed};
 
     pub fn try_clone(&self, alloc: Global) -> Result<BoundExpression, NoMemory>
         ensures { IfOk result (λ b. b ≡ self.now) }
@@ -114,11 +163,13 @@ impl BoundExpression {
         for child in &self.children {
             children.push(child.try_clone(alloc)?)?;
         }
+        let places = copied(alloc, self.places.as_slice())?;
         Ok(BoundExpression {
             op,
             children,
             scope: self.scope.clone()?,
             dtype: self.dtype.clone()?,
+            places,
         })
     }
 
@@ -142,6 +193,16 @@ impl BoundExpression {
         }
         true
     }
+
+    /// Feeds each node, before its parts.
+    fn feed<H: Hasher>(&self, state: &mut H)
+        ensures { state.new ≡ fold H.write state.old (expr_fed self.now.expr) }
+    {
+        self.op.feed(state);
+        for child in &self.children {
+            child.feed(state);
+        }
+    }
 }
 
 impl PartialEq for BoundExpression {
@@ -152,7 +213,7 @@ impl PartialEq for BoundExpression {
     ghost laws = { same_bound-partial };
 
     fn eq(&self, other: &BoundExpression) -> bool {
-        *self.scope() == *other.scope() && self.same_expr(other)
+        self.same_expr(other) && *self.scope() == *other.scope()
     }
 }
 
@@ -170,7 +231,7 @@ impl Hash for BoundExpression {
     ghost respects_eq = { bound_Alike.fed };
 
     fn hash<H: Hasher>(&self, state: &mut H) {
-        self.op.number().hash(state);
+        self.feed(state);
         self.scope().hash(state);
     }
 }

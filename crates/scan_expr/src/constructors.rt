@@ -127,4 +127,18 @@ impl Expression {
     {
         Expression::binary(alloc, Binary::GreaterOrEqual, a, b)
     }
+
+    /// The sum of two integers of one type; a row where it is none of that type has no value.
+    pub fn checked_add(alloc: Global, a: Expression, b: Expression) -> Result<Expression, NoMemory>
+        ensures { IfOk result (λ x. x ≡ binary Binary.CheckedAdd a b) }
+    {
+        Expression::binary(alloc, Binary::CheckedAdd, a, b)
+    }
+
+    /// The difference of two integers of one type; a row where it is none of that type has no value.
+    pub fn checked_sub(alloc: Global, a: Expression, b: Expression) -> Result<Expression, NoMemory>
+        ensures { IfOk result (λ x. x ≡ binary Binary.CheckedSub a b) }
+    {
+        Expression::binary(alloc, Binary::CheckedSub, a, b)
+    }
 }

@@ -1,16 +1,20 @@
 // The operators on values.
-ghost use Rattle.std.specs.Prelude.{◌≡◌, ◌<◌, IfOk, map, if◌then◌else◌, not, length, slice_index_or, IfSome, IfNone};
+ghost use Rattle.std.specs.Prelude.{◌≡◌, pos, Err, None, true, false, IfOk, if◌then◌else◌, not, IfSome, IfNone};
 ghost use Rattle.scan_values.specs.Values.{val_of};
-ghost use Rattle.scan_values.specs.Val.{vals_of, marked, marked_all, null_val};
-ghost use Rattle.scan_values.specs.Marked.{null, struct, boolean};
-ghost use Rattle.scan_values.specs.DataType.{DataType, is_nullable, fields_of};
+ghost use Rattle.scan_values.specs.Val.{vals_of, marked, marked_all};
+ghost use Rattle.scan_values.specs.Marked.{struct, boolean};
+ghost use Rattle.scan_values.specs.DataType.{DataType, is_nullable};
+ghost use Rattle.scan_values.specs.Fits.{fits_int};
 ghost use Rattle.scan_values.specs.declared.ptype.Nullability.{Nullability};
-ghost use Rattle.scan_expr.specs.Infer.{struct_fields};
+ghost use Rattle.scan_expr.specs.Infer.{struct_fields, binary_type};
 ghost use Rattle.scan_expr.specs.Lending.{lent_val};
-ghost use Rattle.scan_expr.specs.Eval.{unary_value, binary_value, pick, pick_all, leave, of_struct, not_value, null_test, length_value, mask_value, logic_value, comparison_value, order, holds, is_truth, is_nothing};
+ghost use Rattle.scan_expr.specs.Eval.{unary_value, binary_value, of_struct, not_value, null_test, length_value, mask_value, logic_value, comparison_value, arithmetic_value, integer_of, combine, order, holds, is_truth, is_nothing};
+ghost use Rattle.scan_expr.specs.Overflow.{outside, spills};
+ghost use Rattle.scan_expr.specs.Typing.{unary_fault};
+ghost use Rattle.scan_expr.specs.Places.{unary_places, nth, all_at, there_at};
 
-use crate::op::{Binary, Unary};
-use scan_values::{DType, FieldName, Names, NoMemory, StructFields, Value, Values, has_name};
+use crate::op::{ApplyFault, Binary, Unary};
+use scan_values::{DType, NoMemory, Value, Values};
 use std::alloc::Global;
 use std::cmp::Ordering;
 
@@ -42,133 +46,93 @@ impl<'a> Lent<'a> {
     }
 }
 
-/// The place of a field among these values.
-fn place_of(name: &FieldName, dtype: &DType, values: &Values) -> Option<usize>
-    ensures place { IfSome result (λ i. (i < length values.now) × (pick name.now (struct_fields dtype.now) (marked_all (vals_of values.now)) ≡ marked (slice_index_or values.now i null_val))) }
-    ensures none { IfNone result (pick name.now (struct_fields dtype.now) (marked_all (vals_of values.now)) ≡ null) }
-{
-    match dtype.as_struct_fields_opt() {
-        Some(fields) => match fields.find(name) {
-            Some(i) => { if i < values.len() { Some(i) } else { None } }
-            None => None,
-        },
-        None => None,
-    }
-}
-
-/// The field of this name, lent by the struct.
-fn field_lent<'a>(name: &FieldName, dtype: &DType, value: &'a Value) -> Lent<'a>
-    ensures { marked (lent_val result) ≡ of_struct (pick name.now (struct_fields dtype.now)) (marked (val_of value.entry.now)) }
+/// The field at a place, lent by the struct.
+fn field_lent<'a>(place: usize, value: &'a Value) -> Lent<'a>
+    ensures { marked (lent_val result) ≡ of_struct (λ ms. nth ms place) (marked (val_of value.entry.now)) }
 {
     match value {
-        Value::Struct(values) => match place_of(name, dtype, values) {
-            Some(i) => Lent::Held(&values.as_slice()[i]),
+        Value::Struct(values) => match values.as_slice().get(place) {
+            Some(field) => Lent::Held(field),
             None => Lent::Made(Value::Null),
         },
         _ => Lent::Made(Value::Null),
     }
 }
 
-/// The field of this name, taken out of the struct.
-fn field_taken(name: &FieldName, dtype: &DType, value: Value) -> Value
-    ensures { marked (val_of result) ≡ of_struct (pick name.now (struct_fields dtype.now)) (marked (val_of value)) }
+/// The field at a place, taken out of the struct.
+fn field_taken(place: usize, value: Value) -> Value
+    ensures { marked (val_of result) ≡ of_struct (λ ms. nth ms place) (marked (val_of value)) }
 {
     match value {
-        Value::Struct(values) => match place_of(name, dtype, &values) {
-            Some(i) => values.into_vec().swap_remove(i),
-            None => Value::Null,
-        },
+        Value::Struct(values) => {
+            if place < values.len() {
+                values.into_vec().swap_remove(place)
+            } else {
+                Value::Null
+            }
+        }
         _ => Value::Null,
     }
 }
 
-fn get_item_of<'a>(name: &FieldName, dtype: &DType, value: Lent<'a>) -> Lent<'a>
-    ensures { marked (lent_val result) ≡ of_struct (pick name.now (struct_fields dtype.now)) (marked (lent_val value.entry)) }
+fn get_item_of<'a>(place: usize, value: Lent<'a>) -> Lent<'a>
+    ensures { marked (lent_val result) ≡ of_struct (λ ms. nth ms place) (marked (lent_val value.entry)) }
 {
     match value {
-        Lent::Held(v) => field_lent(name, dtype, v),
-        Lent::Made(v) => Lent::Made(field_taken(name, dtype, v)),
+        Lent::Held(v) => field_lent(place, v),
+        Lent::Made(v) => Lent::Made(field_taken(place, v)),
     }
 }
 
-/// A copy of the field of this name.
-fn field_copy(
-    alloc: Global,
-    name: &FieldName,
-    dtype: &DType,
-    values: &Values,
-) -> Result<Value, NoMemory>
-    ensures { IfOk result (λ v. marked (val_of v) ≡ pick name.now (struct_fields dtype.now) (marked_all (vals_of values.now))) }
+/// A copy of the field at a place.
+fn field_copy(alloc: Global, place: usize, values: &Values) -> Result<Value, NoMemory>
+    ensures { IfOk result (λ v. marked (val_of v) ≡ nth (marked_all (vals_of values.now)) place) }
 {
-    match place_of(name, dtype, values) {
-        Some(i) => values.as_slice()[i].try_clone(alloc),
+    match values.as_slice().get(place) {
+        Some(field) => field.try_clone(alloc),
         None => Ok(Value::Null),
     }
 }
 
-/// The fields of these names, in the order written.
-fn select_fields(
-    alloc: Global,
-    names: &Names,
-    dtype: &DType,
-    values: &Values,
-) -> Result<Values, NoMemory>
-    ensures { IfOk result (λ vs. marked_all (vals_of vs) ≡ pick_all names.now (struct_fields dtype.now) (marked_all (vals_of values.now))) }
+/// The fields at these places.
+fn select_fields(alloc: Global, places: &[usize], values: &Values) -> Result<Values, NoMemory>
+    ensures { IfOk result (λ vs. marked_all (vals_of vs) ≡ all_at (marked_all (vals_of values.now)) places.now) }
 {
-    let mut picked = Vec::with_capacity(alloc, names.as_slice().len())?;
-    for name in names.as_slice() {
-        picked.push(field_copy(alloc, name, dtype, values)?)?;
+    let mut picked = Vec::with_capacity(alloc, places.len())?;
+    for place in places {
+        picked.push(field_copy(alloc, *place, values)?)?;
     }
     Ok(Values::new(picked))
 }
 
-/// The fields of other names, in their order.
-fn left_fields(
-    alloc: Global,
-    names: &Names,
-    fields: &StructFields,
-    values: &Values,
-) -> Result<Values, NoMemory>
-    ensures { IfOk result (λ vs. marked_all (vals_of vs) ≡ leave names.now (fields_of fields.now) (marked_all (vals_of values.now))) }
+/// Those of the fields at these places that are there.
+fn left_fields(alloc: Global, places: &[usize], values: &Values) -> Result<Values, NoMemory>
+    ensures { IfOk result (λ vs. marked_all (vals_of vs) ≡ there_at (marked_all (vals_of values.now)) places.now) }
 {
     let items = values.as_slice();
-    let mut left = Vec::new(alloc);
-    for (i, name) in fields.names().iter().enumerate() {
-        if i < items.len() && !has_name(name, names.as_slice()) {
-            left.push(items[i].try_clone(alloc)?)?;
+    let mut left = Vec::with_capacity(alloc, places.len())?;
+    for place in places {
+        if *place < items.len() {
+            left.push(items[*place].try_clone(alloc)?)?;
         }
     }
     Ok(Values::new(left))
 }
 
-fn exclude_fields(
-    alloc: Global,
-    names: &Names,
-    dtype: &DType,
-    values: &Values,
-) -> Result<Values, NoMemory>
-    ensures { IfOk result (λ vs. marked_all (vals_of vs) ≡ leave names.now (struct_fields dtype.now) (marked_all (vals_of values.now))) }
-{
-    match dtype.as_struct_fields_opt() {
-        Some(fields) => left_fields(alloc, names, fields, values),
-        None => Ok(Values::new(Vec::new(alloc))),
-    }
-}
-
-fn select_of(alloc: Global, names: &Names, dtype: &DType, value: &Value) -> Result<Value, NoMemory>
-    ensures { IfOk result (λ v. marked (val_of v) ≡ of_struct (λ ms. struct (pick_all names.now (struct_fields dtype.now) ms)) (marked (val_of value.now))) }
+fn select_of(alloc: Global, places: &[usize], value: &Value) -> Result<Value, NoMemory>
+    ensures { IfOk result (λ v. marked (val_of v) ≡ of_struct (λ ms. struct (all_at ms places.now)) (marked (val_of value.now))) }
 {
     match value {
-        Value::Struct(values) => Ok(Value::Struct(select_fields(alloc, names, dtype, values)?)),
+        Value::Struct(values) => Ok(Value::Struct(select_fields(alloc, places, values)?)),
         _ => Ok(Value::Null),
     }
 }
 
-fn exclude_of(alloc: Global, names: &Names, dtype: &DType, value: &Value) -> Result<Value, NoMemory>
-    ensures { IfOk result (λ v. marked (val_of v) ≡ of_struct (λ ms. struct (leave names.now (struct_fields dtype.now) ms)) (marked (val_of value.now))) }
+fn exclude_of(alloc: Global, places: &[usize], value: &Value) -> Result<Value, NoMemory>
+    ensures { IfOk result (λ v. marked (val_of v) ≡ of_struct (λ ms. struct (there_at ms places.now)) (marked (val_of value.now))) }
 {
     match value {
-        Value::Struct(values) => Ok(Value::Struct(exclude_fields(alloc, names, dtype, values)?)),
+        Value::Struct(values) => Ok(Value::Struct(left_fields(alloc, places, values)?)),
         _ => Ok(Value::Null),
     }
 }
@@ -201,19 +165,22 @@ fn length_of(value: &Value) -> Value
     }
 }
 
-/// The value of an operator on one value of this dtype.
+/// The value of an operator on one value of this dtype, which takes the fields at these places.
 pub(crate) fn unary_of<'a>(
     alloc: Global,
     op: &Unary,
+    places: &[usize],
     dtype: &DType,
     value: Lent<'a>,
 ) -> Result<Lent<'a>, NoMemory>
+    requires faultless { unary_fault op.now dtype.now ≡ None }
+    requires placed { places.now ≡ unary_places op.now (struct_fields dtype.now) }
     ensures { IfOk result (λ v. marked (lent_val v) ≡ unary_value op.now dtype.now (marked (lent_val value.entry))) }
 {
     match op {
-        Unary::GetItem(name) => Ok(get_item_of(name, dtype, value)),
-        Unary::Select(names) => Ok(Lent::Made(select_of(alloc, names, dtype, value.as_value())?)),
-        Unary::Exclude(names) => Ok(Lent::Made(exclude_of(alloc, names, dtype, value.as_value())?)),
+        Unary::GetItem(_) => Ok(get_item_of(places[0], value)),
+        Unary::Select(_) => Ok(Lent::Made(select_of(alloc, places, value.as_value())?)),
+        Unary::Exclude(_) => Ok(Lent::Made(exclude_of(alloc, places, value.as_value())?)),
         Unary::Not => Ok(Lent::Made(not_of(value.as_value()))),
         Unary::IsNull => Ok(Lent::Made(test_null(true, dtype, value.as_value()))),
         Unary::IsNotNull => Ok(Lent::Made(test_null(false, dtype, value.as_value()))),
@@ -301,14 +268,58 @@ fn comparison_of(op: Binary, x: &Value, y: &Value) -> Value
     }
 }
 
-/// The value of an operator on two values.
-pub(crate) fn binary_of<'a>(op: Binary, x: Lent<'a>, y: Lent<'a>) -> Lent<'a>
-    ensures { (d : DataType) → marked (lent_val result) ≡ binary_value op d (marked (lent_val x.entry)) (marked (lent_val y.entry)) }
+/// The sum or difference of two integers, where it is one of this dtype.
+fn checked_of(op: Binary, dtype: &DType, a: i128, b: i128) -> Option<i128>
+    ensures value { IfSome result (λ z. (z ≡ combine op a b) × (fits_int dtype.now (combine op a b) ≡ true)) }
+    ensures none { IfNone result (fits_int dtype.now (combine op a b) ≡ false) }
+{
+    let sum = match op {
+        Binary::CheckedAdd => a.checked_add(b),
+        Binary::CheckedSub => a.checked_sub(b),
+        _ => Some(0),
+    };
+    match sum {
+        Some(z) => { if dtype.holds(z) { Some(z) } else { None } }
+        None => None,
+    }
+}
+
+/// The sum or difference of two values, whose dtype is an integer type.
+fn arithmetic_of(op: Binary, dtype: &DType, x: &Value, y: &Value) -> Result<Value, ApplyFault>
+    ensures value { fits_int dtype.now (pos 0) ≡ true → IfOk result (λ v. marked (val_of v) ≡ arithmetic_value op dtype.now (marked (val_of x.now)) (marked (val_of y.now))) }
+    ensures within { IfOk result (λ _. outside op dtype.now (integer_of (marked (val_of x.now))) (integer_of (marked (val_of y.now))) ≡ false) }
+    ensures overflow { result ≡ Err ApplyFault.Overflow → outside op dtype.now (integer_of (marked (val_of x.now))) (integer_of (marked (val_of y.now))) ≡ true }
+{
+    if is_null(x) || is_null(y) {
+        return Ok(Value::Null);
+    }
+    match (x, y) {
+        (Value::Int(a), Value::Int(b)) => match checked_of(op, dtype, *a, *b) {
+            Some(z) => Ok(Value::Int(z)),
+            None => Err(ApplyFault::Overflow),
+        },
+        _ => Ok(Value::Int(0)),
+    }
+}
+
+/// The value of an operator on two values; the dtype is that of its result.
+pub(crate) fn binary_of<'a>(
+    op: Binary,
+    dtype: &DType,
+    x: Lent<'a>,
+    y: Lent<'a>,
+) -> Result<Lent<'a>, ApplyFault>
+    ensures value { (a b : DataType) → dtype.now ≡ binary_type op a b → IfOk result (λ v. marked (lent_val v) ≡ binary_value op dtype.now (marked (lent_val x.entry)) (marked (lent_val y.entry))) }
+    ensures within { IfOk result (λ _. spills op dtype.now (marked (lent_val x.entry)) (marked (lent_val y.entry)) ≡ false) }
+    ensures overflow { result ≡ Err ApplyFault.Overflow → spills op dtype.now (marked (lent_val x.entry)) (marked (lent_val y.entry)) ≡ true }
 {
     match op {
-        Binary::Mask => mask_of(x, y.as_value()),
-        Binary::And => Lent::Made(logic_of(false, x.as_value(), y.as_value())),
-        Binary::Or => Lent::Made(logic_of(true, x.as_value(), y.as_value())),
-        _ => Lent::Made(comparison_of(op, x.as_value(), y.as_value())),
+        Binary::Mask => Ok(mask_of(x, y.as_value())),
+        Binary::And => Ok(Lent::Made(logic_of(false, x.as_value(), y.as_value()))),
+        Binary::Or => Ok(Lent::Made(logic_of(true, x.as_value(), y.as_value()))),
+        Binary::CheckedAdd | Binary::CheckedSub => {
+            Ok(Lent::Made(arithmetic_of(op, dtype, x.as_value(), y.as_value())?))
+        }
+        _ => Ok(Lent::Made(comparison_of(op, x.as_value(), y.as_value()))),
     }
 }

@@ -8,11 +8,10 @@ mod compare;
 mod constructors;
 mod evaluate;
 mod expression;
+mod index;
 mod laws;
 mod op;
 mod request;
-#[cfg(test)]
-mod tests;
 mod threads;
 mod typing;
 
@@ -20,9 +19,10 @@ pub use bound::{BoundExpression, BoundNode};
 pub use evaluate::Lent;
 pub use expression::Expression;
 pub use laws::{
-    clean_values_stay_clean, conjuncts_are_all_true, needs_are_those_of_the_uses,
-    row_numbers_play_no_part, values_fit_the_dtype, what_binds_has_the_inferred_dtype,
+    a_filter_overflows_where_a_conjunct_does, clean_values_stay_clean, conjuncts_are_all_true,
+    needs_are_those_of_the_uses, row_numbers_play_no_part, row_numbers_play_no_part_in_overflows,
+    values_fit_the_dtype, what_binds_has_the_inferred_dtype,
 };
-pub use op::{Binary, BindFault, Unary};
+pub use op::{ApplyFault, Binary, BindFault, Unary};
 pub use request::ScanRequest;
 pub use threads::expressions_cross_threads;

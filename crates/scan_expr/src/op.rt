@@ -1,6 +1,7 @@
 // The operators of an expression.
 ghost use Rattle.std.specs.Prelude.{◌≡◌, IfOk};
 ghost use Rattle.scan_expr.specs.declared.op.BindFault.TheVariants.{NoMemory as OutOfMemory};
+ghost use Rattle.scan_expr.specs.declared.op.ApplyFault.TheVariants.{NoMemory as NoMemoryLeft};
 
 use scan_values::{FieldName, Names, NoMemory};
 use std::alloc::{AllocError, AllocFailed, Global};
@@ -30,6 +31,8 @@ pub enum Binary {
     LessOrEqual,
     Greater,
     GreaterOrEqual,
+    CheckedAdd,
+    CheckedSub,
 }
 
 /// Why an expression does not bind over a dtype.
@@ -43,7 +46,7 @@ pub enum BindFault {
     NotList,
     #[error("not a boolean of the nullability that is wanted")]
     NotBool,
-    #[error("the operands cannot be compared")]
+    #[error("the operands cannot be compared or added")]
     Operands,
     #[error("a name is repeated")]
     RepeatedName,
@@ -78,6 +81,39 @@ impl<T: Drop> From<AllocFailed<T>> for BindFault {
 
     fn from(_: AllocFailed<T>) -> BindFault {
         BindFault::NoMemory
+    }
+}
+
+/// Why an expression has no value on a row.
+#[derive(Clone, Copy, PartialEq, Eq, Debug, Error)]
+pub enum ApplyFault {
+    #[error("a sum or difference lies outside its type")]
+    Overflow,
+    #[error("out of memory")]
+    NoMemory,
+}
+
+impl From<NoMemory> for ApplyFault {
+    ghost from_gives = { λ _ e. e ≡ NoMemoryLeft };
+
+    fn from(_: NoMemory) -> ApplyFault {
+        ApplyFault::NoMemory
+    }
+}
+
+impl From<AllocError> for ApplyFault {
+    ghost from_gives = { λ _ e. e ≡ NoMemoryLeft };
+
+    fn from(_: AllocError) -> ApplyFault {
+        ApplyFault::NoMemory
+    }
+}
+
+impl<T: Drop> From<AllocFailed<T>> for ApplyFault {
+    ghost from_gives = { λ _ e. e ≡ NoMemoryLeft };
+
+    fn from(_: AllocFailed<T>) -> ApplyFault {
+        ApplyFault::NoMemory
     }
 }
 

@@ -2,12 +2,14 @@
 ghost use Rattle.std.specs.Prelude.{◌≡◌, ◌≢◌, ◌≤◌, Err, Some, IfOk, IfErr, [], true, false};
 ghost use Rattle.scan_values.specs.Values.{val_of};
 ghost use Rattle.scan_values.specs.DataType.{struct_type, fields_of, fields_depth};
-ghost use Rattle.scan_expr.specs.Infer.{either, struct_fields, field_type, raised, chosen, without, unary_type, binary_type};
-ghost use Rattle.scan_expr.specs.Typing.{typed, depth_fault, of_names, repeats, have_fields, unless, literal_fault, unary_fault, binary_fault, are_operands, logic_fault, choice_fault};
+ghost use Rattle.scan_values.specs.Kinds.{ptype_of};
+ghost use Rattle.scan_expr.specs.Infer.{either, struct_fields, field_type, raised, chosen, without, unary_type, sum_type, binary_type};
+ghost use Rattle.scan_expr.specs.Typing.{typed, depth_fault, of_names, repeats, have_fields, unless, literal_fault, unary_fault, binary_fault, same_ptypes, are_operands, logic_fault, choice_fault};
 
+use crate::index::{FieldIndex, NameSet};
 use crate::op::{Binary, BindFault, Unary};
 use scan_values::{
-    DType, FieldName, NameFault, Names, NoMemory, Nullability, PType, StructFields, Value, has_name,
+    DType, FieldName, NameFault, Names, NoMemory, Nullability, PType, StructFields, Value,
 };
 use std::alloc::Global;
 use std::collections::HashSet;
@@ -91,10 +93,11 @@ fn chosen_or_bool(alloc: Global, names: &Names, dtype: &DType) -> Result<StructF
 fn others(alloc: Global, names: &Names, fields: &StructFields) -> Result<StructFields, NoMemory>
     ensures { IfOk result (λ fs. fields_of fs ≡ without names.now (fields_of fields.now)) }
 {
+    let taken = NameSet::of(alloc, names)?;
     let mut left = Vec::new(alloc);
     let mut dtypes = Vec::new(alloc);
     for (i, name) in fields.names().iter().enumerate() {
-        if !has_name(name, names.as_slice()) {
+        if !taken.has(name) {
             if let Some(dtype) = fields.field_by_index(i) {
                 left.push(name.try_clone(alloc)?)?;
                 dtypes.push(dtype.try_clone(alloc)?)?;
@@ -130,6 +133,17 @@ pub(crate) fn unary_type(alloc: Global, op: &Unary, dtype: &DType) -> Result<DTy
     }
 }
 
+/// The integer type of the left side, nullable by both.
+fn sum_type(a: &DType, b: &DType) -> DType
+    ensures { result ≡ sum_type a.now b.now }
+{
+    let ptype = match a.as_ptype_opt() {
+        Some(p) => p,
+        None => PType::U64,
+    };
+    DType::primitive(ptype, either(a.nullability(), b.nullability()))
+}
+
 /// The dtype of an operator on parts of these dtypes.
 pub(crate) fn binary_type(
     alloc: Global,
@@ -141,6 +155,7 @@ pub(crate) fn binary_type(
 {
     match op {
         Binary::Mask => Ok(a.try_clone(alloc)?.with_nullability(Nullability::Nullable)),
+        Binary::CheckedAdd | Binary::CheckedSub => Ok(sum_type(a, b)),
         _ => Ok(DType::bool(either(a.nullability(), b.nullability()))),
     }
 }
@@ -182,9 +197,10 @@ fn chosen_typed(
     ensures ok { IfOk result (λ fs. (have_fields names.now (fields_of fields.now) ≡ true) × (fields_of fs ≡ chosen names.now (fields_of fields.now))) }
     ensures err { IfErr result (λ f. f ≢ BindFault.NoMemory → (f ≡ BindFault.NoField) × (have_fields names.now (fields_of fields.now) ≡ false)) }
 {
+    let index = FieldIndex::of(alloc, fields)?;
     let mut dtypes = Vec::with_capacity(alloc, names.as_slice().len())?;
     for name in names.as_slice() {
-        let Some(field) = fields.field(name) else {
+        let Some(field) = index.field(name) else {
             return Err(BindFault::NoField);
         };
         dtypes.push(field.try_clone(alloc)?)?;
@@ -207,11 +223,11 @@ fn select_typed(alloc: Global, names: &Names, dtype: &DType) -> Result<DType, Bi
 }
 
 /// Whether each of these names is a field's.
-fn have_fields(names: &[FieldName], fields: &StructFields) -> bool
-    ensures { result ≡ have_fields names.now (fields_of fields.now) }
+fn have_fields(names: &[FieldName], index: &FieldIndex) -> bool
+    ensures { result ≡ have_fields names.now (fields_of index.now.fields.now) }
 {
     for name in names {
-        if fields.field(name).is_none() {
+        if index.field(name).is_none() {
             return false;
         }
     }
@@ -228,7 +244,8 @@ fn exclude_typed(alloc: Global, names: &Names, dtype: &DType) -> Result<DType, B
     if repeats(alloc, names.as_slice())? {
         return Err(BindFault::RepeatedName);
     }
-    if !have_fields(names.as_slice(), fields) {
+    let index = FieldIndex::of(alloc, fields)?;
+    if !have_fields(names.as_slice(), &index) {
         return Err(BindFault::NoField);
     }
     let left = others(alloc, names, fields)?;
@@ -262,6 +279,19 @@ pub(crate) fn unary_typed(alloc: Global, op: &Unary, dtype: &DType) -> Result<DT
     }
 }
 
+/// Both of one integer type.
+fn same_ptypes(a: &DType, b: &DType) -> bool
+    ensures { result ≡ same_ptypes (ptype_of a.now) (ptype_of b.now) }
+{
+    match a.as_ptype_opt() {
+        Some(p) => match b.as_ptype_opt() {
+            Some(q) => p == q,
+            None => false,
+        },
+        None => false,
+    }
+}
+
 fn are_operands(a: &DType, b: &DType) -> bool
     ensures { result ≡ are_operands a.now b.now }
 {
@@ -270,13 +300,7 @@ fn are_operands(a: &DType, b: &DType) -> bool
     } else if a.is_utf8() {
         b.is_utf8()
     } else {
-        match a.as_ptype_opt() {
-            Some(p) => match b.as_ptype_opt() {
-                Some(q) => p == q,
-                None => false,
-            },
-            None => false,
-        }
+        same_ptypes(a, b)
     }
 }
 
@@ -287,6 +311,7 @@ fn binary_fault(op: Binary, a: &DType, b: &DType) -> Option<BindFault>
     let holds = match op {
         Binary::Mask => b.is_bool() && !b.is_nullable(),
         Binary::And | Binary::Or => a.is_bool() && b.is_bool(),
+        Binary::CheckedAdd | Binary::CheckedSub => same_ptypes(a, b),
         _ => are_operands(a, b),
     };
     if holds {

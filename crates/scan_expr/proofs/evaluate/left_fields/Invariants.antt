@@ -1,7 +1,7 @@
 use Rattle.std.proofs.Common.{◌≡◌, map, drop, ◌++◌}
-use Rattle.scan_values.specs.Values.{val_of}
-use Rattle.scan_expr.proofs.Choices.{left_vals}
+use Rattle.scan_expr.proofs.Evals.{mark}
+use Rattle.scan_expr.proofs.Placing.{marks_there}
 use Rattle.scan_expr.proofs.evaluate.left_fields.Given as goal
 
-abbrev pub invariant-loop-i : goal.invariant-loop-i
-invariant-loop-i l = left_vals l.names l.fields l.values ≡ map val_of l.left.items ++ left_vals l.names (drop l.i l.fields) (drop l.i l.values)
+abbrev pub invariant-loop-place : goal.invariant-loop-place
+invariant-loop-place l = map mark l.left.items ++ marks_there l.items (drop l.place-index l.places) ≡ marks_there l.items l.places

@@ -1,4 +1,7 @@
-use Rattle.std.proofs.Common.{◌≡◌, ap, ◌∙◌, subst, map, take, arith, List, ℕ, true}
+use borrow.Author.Rules.{rules}
+use Rattle.std.proofs.Common.{◌≡◌, ◌<◌, refl, ap, ◌∙◌, subst, map, take, length, arith, List, ℕ, true}
+use Rattle.std.proofs.Math.Seq.{drop-cons}
+use Rattle.std.proofs.Math.ListN.{drop_of_length-le}
 use Rattle.std.proofs.lemmas.Grind.{common_steps}
 use Rattle.scan_values.specs.DataType.{DataType}
 use Rattle.scan_values.specs.Marked.{Marked}
@@ -8,7 +11,8 @@ use Rattle.scan_values.specs.Values.{val_of}
 use Rattle.scan_values.specs.declared.value.Value.{Value}
 use Rattle.scan_expr.specs.Expr.{Expr}
 use Rattle.scan_expr.specs.Eval.{eval}
-use Rattle.scan_expr.proofs.Evals.{mark, marks, marks-map, map-rows}
+use Rattle.scan_expr.specs.Overflow.{overflows}
+use Rattle.scan_expr.proofs.Evals.{mark, marks, marks-map, map-rows, row_overflows, rows_overflow}
 use Rattle.scan_expr.proofs.Sound.{all_fit}
 use Rattle.scan_expr.proofs.bound.BoundExpression.apply.Goals as goal
 
@@ -21,7 +25,7 @@ pub of_fitting-requires : goal.of_fitting-requires
 of_fitting-requires c =
     let s = c.args.self.now.scope in
     let e = c.args.self.now.expr in
-    let done = all_rows s e c.as_slice-rows.result.now (map mark c.loop-row.items.items) c.args.scope.now.items c.loop-row.row-index c.loop-row.invariant (grind (arith, common_steps)) c.as_slice-rows.ensures.items in
+    let done = all_rows s e c.as_slice-rows.result.now (map mark c.loop-row.items.items) c.args.scope.now.items c.loop-row.row-index c.loop-row.invariant.values (grind (arith, common_steps)) c.as_slice-rows.ensures.items in
     let fit = subst (λ d. fits_all (marked_all (vals_of c.args.scope.now.items)) d ≡ true) c.requires.scope c.as_slice-rows.ensures.fit in
     rw (marks c.loop-row.items.items) (rw done (rw (c.in_ok-dtype.ensures, c.dtype.ensures.dtype) (all_fit s e c.args.scope.now.items fit c.dtype.ensures.faultless)))
 
@@ -30,4 +34,21 @@ returns-clause-items c =
     let s = c.args.self.now.scope in
     let e = c.args.self.now.expr in
     ap (λ a. map marked a.items) c.of_fitting.ensures ∙ marks-map c.loop-row.items.items
-    ∙ all_rows s e c.as_slice-rows.result.now (map mark c.loop-row.items.items) c.args.scope.now.items c.loop-row.row-index c.loop-row.invariant (grind (arith, common_steps)) c.as_slice-rows.ensures.items
+    ∙ all_rows s e c.as_slice-rows.result.now (map mark c.loop-row.items.items) c.args.scope.now.items c.loop-row.row-index c.loop-row.invariant.values (grind (arith, common_steps)) c.as_slice-rows.ensures.items
+
+pub returns-clause-within : goal.returns-clause-within
+returns-clause-within c =
+    let s = c.args.self.now.scope in
+    let e = c.args.self.now.expr in
+    let rows = c.as_slice-rows.result.now in
+    rw (← c.as_slice-rows.ensures.items, ← rows_overflow s e rows) (c.loop-row.invariant.within ∙ ap (row_overflows s e) (drop_of_length-le rows c.loop-row-test.false))
+
+pub returns-in_err-value_at-clause-overflow : goal.returns-in_err-value_at-clause-overflow
+returns-in_err-value_at-clause-overflow c = λ h.
+    let s = c.args.self.now.scope in
+    let e = c.args.self.now.expr in
+    let rows = c.as_slice-rows.result.now in
+    let i = c.loop-row.row-index in
+    let below : i < length rows = c.loop-row-test.true in
+    let here : overflows s e (mark c.row-item.result) 0 ≡ true = search (rules, h) in
+    rw (← c.as_slice-rows.ensures.items, ← rows_overflow s e rows) (c.loop-row.invariant.within ∙ rw (drop-cons rows i c.row-item.result, ← c.row-item.is, here) refl)

@@ -1,3 +1,7 @@
+use borrow.Author.Rules.{rules}
+use Rattle.std.proofs.Common.{refl}
+use Rattle.scan_expr.specs.declared.bound.Op.TheVariants.{Pack}
+use Rattle.scan_expr.proofs.Placing.{pack_places}
 use Rattle.scan_expr.proofs.Faultless.{pack_faultless}
 use Rattle.scan_expr.proofs.bound.BoundExpression.over_many.Goals as goal
 
@@ -8,4 +12,5 @@ invariant_of-result c =
       scopes = c.requires.scopes;
       typed = c.requires.typed;
       faultless = pack_faultless c.args.scope.value c.args.names c.args.children.items c.args.nullability c.requires.scopes c.requires.faultless;
+      placed = pack_places c.args.children.items (Pack c.args.names c.args.nullability) _ (search rules) (λ b cs. refl);
     }
