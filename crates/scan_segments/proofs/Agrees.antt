@@ -1,8 +1,8 @@
 -- The live requests stay those of the table.
-use Rattle.std.proofs.Common.{◌≡◌, ℕ, zero, suc, ◌<◌, List, [], ◌∷◌, ◌++◌, length, Bool, true, false, ◌||◌, cond, eqb, Option, Some, None, is_some, is_none, Result, Ok, Err, OnOk, OnErr, refl, sym, ap, ◌∙◌, subst, arith}
-use Rattle.std.specs.List.{Contains, slice_index_or}
+use Rattle.std.proofs.Common.{◌≡◌, ℕ, suc, List, [], ◌∷◌, ◌++◌, Bool, true, false, ◌||◌, cond, eqb, Option, Some, None, is_some, is_none, Result, Ok, Err, OnOk, OnErr, refl, sym, ap, ◌∙◌, subst, arith}
+use Rattle.std.specs.List.{Contains}
 use Rattle.std.proofs.lemmas.Bool.Decides.{nat_tests}
-use Rattle.scan_segments.specs.Source.{SourceState, without, Begins, Stays}
+use Rattle.scan_segments.specs.Source.{SourceState, without, with_live, without_live, Begins, Stays}
 use Rattle.scan_segments.specs.Sharing.{Held, Table, has, joined, kept, left, answered, with_holder, with_answer, without_holder, is_live, entry_at, Same, Agree}
 
 neither : (a b : Bool) → (a || b) ≡ false → (a ≡ false) × (b ≡ false)
@@ -54,9 +54,9 @@ pub always_ok : {U N : Type 0} (r : Result U N) (P : Type 0) → P → OnOk r P
 always_ok (Ok x) P p = p
 always_ok (Err e) P p = tt
 
-off_where_dead : (live : List ℕ) (id i : ℕ) (b : Bool) → has id live ≡ b → has i (cond b (without id live) live) ≡ cond (eqb i id) false (has i live)
-off_where_dead live id i true is = has_without id i live
-off_where_dead live id i false is = sym (if_at i id (λ k. has k live) false (sym is))
+off_where_dead : (live : ℕ → Bool) (id i : ℕ) (b : Bool) → live id ≡ b → cond b (without_live id live) live i ≡ cond (eqb i id) false (live i)
+off_where_dead live id i true is = refl
+off_where_dead live id i false is = sym (if_at i id live false (sym is))
 
 module _ {A : Type 0} where
   live_put : (b : Bool) (e f : Option (Held A)) → is_live (cond b e f) ≡ cond b (is_live e) (is_live f)
@@ -71,22 +71,22 @@ module _ {A : Type 0} where
   live_answered a None = refl
   live_answered a (Some e) = refl
 
-  pub agrees_join : (live : List ℕ) (t u : Table A) (n id : ℕ) → Agree live t → is_some (t id) ≡ true → Same u (with_holder n id t) → Agree live u
+  pub agrees_join : (live : ℕ → Bool) (t u : Table A) (n id : ℕ) → Agree live t → is_some (t id) ≡ true → Same u (with_holder n id t) → Agree live u
   agrees_join live t u n id h there same i =
       h i ∙ sym (ap is_live (same i) ∙ live_put (eqb i id) (Some (joined n (t id))) (t i) ∙ if_at i id (λ k. is_live (t k)) (is_live (Some (joined n (t id)))) (live_joined n (t id) there))
 
-  pub agrees_ask : (live : List ℕ) (t u : Table A) (n id : ℕ) → Agree live t → t id ≡ None → Same u (with_holder n id t) → Agree (live ++ id ∷ []) u
+  pub agrees_ask : (live : ℕ → Bool) (t u : Table A) (n id : ℕ) → Agree live t → t id ≡ None → Same u (with_holder n id t) → Agree (with_live id live) u
   agrees_ask live t u n id h none same i =
-      has_snoc i live id ∙ ap (cond (eqb i id) true) (h i)
+      ap (cond (eqb i id) true) (h i)
       ∙ sym (ap is_live (same i) ∙ live_put (eqb i id) (Some (joined n (t id))) (t i) ∙ ap (λ e. cond (eqb i id) (is_live (Some (joined n e))) (is_live (t i))) none)
 
-  pub agrees_answer : (live : List ℕ) (t u : Table A) (id : ℕ) (a : A) → Agree live t → Same u (with_answer id a t) → Agree (without id live) u
+  pub agrees_answer : (live : ℕ → Bool) (t u : Table A) (id : ℕ) (a : A) → Agree live t → Same u (with_answer id a t) → Agree (without_live id live) u
   agrees_answer live t u id a h same i =
-      has_without id i live ∙ ap (cond (eqb i id) false) (h i)
+      ap (cond (eqb i id) false) (h i)
       ∙ sym (ap is_live (same i) ∙ live_put (eqb i id) (answered a (t id)) (t i) ∙ ap (λ b. cond (eqb i id) b (is_live (t i))) (live_answered a (t id)))
 
   module _ {U N : Type 0} where
-    pub enters_there : (r : Result U N) (live : List ℕ) (es es' : List (ℕ × Held A)) (n id : ℕ) → Agree live (entry_at es) → is_some (entry_at es id) ≡ true
+    pub enters_there : (r : Result U N) (live : ℕ → Bool) (es es' : List (ℕ × Held A)) (n id : ℕ) → Agree live (entry_at es) → is_some (entry_at es id) ≡ true
         → OnOk r (Same (entry_at es') (with_holder n id (entry_at es))) → OnErr r (es' ≡ es) → Agree live (entry_at es')
     enters_there (Ok x) live es es' n id h there ok err = agrees_join live (entry_at es) (entry_at es') n id h there ok
     enters_there (Err e) live es es' n id h there ok err = subst (λ xs. Agree live (entry_at xs)) (sym err) h
@@ -94,12 +94,12 @@ module _ {A : Type 0} where
     pub enters_new : (r : Result U N) (old new : SourceState) (es es' : List (ℕ × Held A)) (n id : ℕ) → Agree old.live (entry_at es) → entry_at es id ≡ None
         → OnOk r (Same (entry_at es') (with_holder n id (entry_at es))) → OnErr r (es' ≡ es) → OnOk r (Begins id old new) → OnErr r (Stays old new) → Agree new.live (entry_at es')
     enters_new (Ok x) old new es es' n id h none ok err begins stays = subst (λ l. Agree l (entry_at es')) (sym begins.live) (agrees_ask old.live (entry_at es) (entry_at es') n id h none ok)
-    enters_new (Err e) old new es es' n id h none ok err begins stays = subst (λ (p : List ℕ × List (ℕ × Held A)). Agree p.0 (entry_at p.1)) (λ i. (sym stays.live i, sym err i)) h
+    enters_new (Err e) old new es es' n id h none ok err begins stays = subst (λ (p : (ℕ → Bool) × List (ℕ × Held A)). Agree p.0 (entry_at p.1)) (λ i. (sym stays.live i, sym err i)) h
 
-  pub placed_live : (live : List ℕ) (t : Table A) (id : ℕ) (e : Held A) → Agree live t → t id ≡ Some e → has id live ≡ is_none e.answer
+  pub placed_live : (live : ℕ → Bool) (t : Table A) (id : ℕ) (e : Held A) → Agree live t → t id ≡ Some e → live id ≡ is_none e.answer
   placed_live live t id e h there = h id ∙ ap is_live there
 
-  pub agrees_ended : (live live' : List ℕ) (t u : Table A) (id : ℕ) (a : A) → live' ≡ without id live → Agree live t → Same u (with_answer id a t) → Agree live' u
+  pub agrees_ended : (live live' : ℕ → Bool) (t u : Table A) (id : ℕ) (a : A) → live' ≡ without_live id live → Agree live t → Same u (with_answer id a t) → Agree live' u
   agrees_ended live live' t u id a is h same = subst (λ l. Agree l u) (sym is) (agrees_answer live t u id a h same)
 
   live_kept : (ns : List ℕ) (a : Option A) → is_live (kept ns a) ≡ cond (is_some (kept ns a)) (is_none a) false
@@ -107,7 +107,7 @@ module _ {A : Type 0} where
   live_kept (n ∷ ns) a = refl
 
   -- other holders are left
-  pub agrees_stay : (live : List ℕ) (t u : Table A) (n id : ℕ) (e : Held A) → Agree live t → t id ≡ Some e → is_some (kept (without n e.holders) e.answer) ≡ true → Same u (without_holder n id t) → Agree live u
+  pub agrees_stay : (live : ℕ → Bool) (t u : Table A) (n id : ℕ) (e : Held A) → Agree live t → t id ≡ Some e → is_some (kept (without n e.holders) e.answer) ≡ true → Same u (without_holder n id t) → Agree live u
   agrees_stay live t u n id e h there some same i =
       h i
       ∙ sym
@@ -115,41 +115,16 @@ module _ {A : Type 0} where
       ∙ if_at i id (λ k. is_live (t k)) (is_live (left n (t id))) (ap (λ x. is_live (left n x)) there ∙ live_kept (without n e.holders) e.answer ∙ ap (λ b. cond b (is_none e.answer) false) some ∙ sym (ap is_live there)))
 
   -- the last holder ends the request, where it is live
-  pub agrees_last : (live live' : List ℕ) (t u : Table A) (n id : ℕ) (e : Held A) → Agree live t → t id ≡ Some e → kept (without n e.holders) e.answer ≡ None → Same u (without_holder n id t) → live' ≡ cond (is_none e.answer) (without id live) live → Agree live' u
+  pub agrees_last : (live live' : ℕ → Bool) (t u : Table A) (n id : ℕ) (e : Held A) → Agree live t → t id ≡ Some e → kept (without n e.holders) e.answer ≡ None → Same u (without_holder n id t) → live' ≡ cond (is_none e.answer) (without_live id live) live → Agree live' u
   agrees_last live live' t u n id e h there none same is i =
-      ap (has i) is ∙ off_where_dead live id i (is_none e.answer) (h id ∙ ap is_live there) ∙ ap (cond (eqb i id) false) (h i)
+      ap (λ (l : ℕ → Bool). l i) is ∙ off_where_dead live id i (is_none e.answer) (h id ∙ ap is_live there) ∙ ap (cond (eqb i id) false) (h i)
       ∙ sym (ap is_live (same i) ∙ live_put (eqb i id) (left n (t id)) (t i) ∙ ap (λ x. cond (eqb i id) (is_live x) (is_live (t i))) (ap (left n) there ∙ none))
 
 contains_step : (b : Bool) (n x : ℕ) (xs : List ℕ) → eqb x n ≡ b → (has n xs ≡ true → Contains xs n) → has n (x ∷ xs) ≡ true → Contains (x ∷ xs) n
 contains_step true n x xs eq ih h = (0, omega arith, grind (arith, nat_tests))
 contains_step false n x xs eq ih h = let r = ih (rw eq at h) in let lt = r.1 in (suc r.0, omega arith, r.2)
 
-lacks_at : (n : ℕ) (xs : List ℕ) (k : ℕ) → has n xs ≡ false → k < length xs → slice_index_or xs k n ≡ n → ⊥
-lacks_at n [] k h lt is = absurd (omega arith)
-lacks_at n (x ∷ xs) zero h lt is = let e : x ≡ n = is in let t : eqb x n ≡ true = grind (arith, nat_tests) in let f = neither (eqb x n) (has n xs) h in cc
-lacks_at n (x ∷ xs) (suc k) h lt is = lacks_at n xs k (neither (eqb x n) (has n xs) h).1 (omega arith) is
-
--- a number that is found is in the list, and the other way round
+-- a number that is found is in the list
 pub contains : (n : ℕ) (xs : List ℕ) → has n xs ≡ true → Contains xs n
 contains n [] h = absurd (cc)
 contains n (x ∷ xs) h = contains_step (eqb x n) n x xs refl (λ k. contains n xs k) h
-
-pub lacks : (n : ℕ) (xs : List ℕ) → has n xs ≡ false → Contains xs n → ⊥
-lacks n xs h c = lacks_at n xs c.0 h c.1 c.2
-
-pub has_not : (n : ℕ) (xs : List ℕ) → (Contains xs n → ⊥) → has n xs ≡ false
-has_not n xs h = go (has n xs) refl
-  where
-    go : (b : Bool) → has n xs ≡ b → has n xs ≡ false
-    go true p = absurd (h (contains n xs p))
-    go false p = p
-
-member_at : (n : ℕ) (xs : List ℕ) (k : ℕ) → k < length xs → slice_index_or xs k n ≡ n → has n xs ≡ true
-member_at n xs k lt is = go (has n xs) refl
-  where
-    go : (b : Bool) → has n xs ≡ b → has n xs ≡ true
-    go true p = p
-    go false p = absurd (lacks_at n xs k p lt is)
-
-pub member : (n : ℕ) (xs : List ℕ) → Contains xs n → has n xs ≡ true
-member n xs c = member_at n xs c.0 c.1 c.2

@@ -1,13 +1,11 @@
 -- The stages of an adapter's live ids, and the live ids of its inner source.
-use Rattle.std.proofs.Common.{◌≡◌, ℕ, List, [], ◌∷◌, ◌++◌, Bool, true, false, cond, eqb, nat_eq, Option, Some, None, is_some, Result, Ok, Err, OnErr, inl, inr, refl, sym, ap, ◌∙◌, arith}
+use Rattle.std.proofs.Common.{◌≡◌, ℕ, List, Bool, true, false, cond, eqb, nat_eq, Option, Some, None, is_some, Result, Ok, Err, OnErr, inl, inr, refl, sym, ap, ◌∙◌, arith}
 use Rattle.std.proofs.lemmas.Bool.Decides.{nat_tests}
-use Rattle.scan_segments.specs.Source.{SourceState, without}
+use Rattle.scan_segments.specs.Source.{SourceState, with_live, without_live}
 use Rattle.scan_segments.specs.Cache.{CacheState}
 use Rattle.scan_segments.specs.declared.adapter.Looked.TheVariants as looked
-use Rattle.scan_segments.specs.Sharing.{has}
 use Rattle.scan_segments.specs.declared.adapter.Stage.{Stage}
-use Rattle.scan_segments.specs.Adapter.{Looks, stage_at, is_asked, IsLinked, KeepsStages}
-use Rattle.scan_segments.proofs.Agrees.{has_snoc, has_without}
+use Rattle.scan_segments.specs.Adapter.{Looks, stage_at, has_stage, is_asked, IsLinked, KeepsStages}
 
 turned : (i q : ℕ) → eqb q i ≡ nat_eq i q
 turned i q = go (eqb q i) (nat_eq i q) refl refl
@@ -18,18 +16,18 @@ turned i q = go (eqb q i) (nat_eq i q) refl refl
     go false true p r = let bad : eqb q i ≡ true = grind (arith, nat_tests) in absurd (cc)
     go false false p r = p ∙ sym r
 
-pub has_new : (id : ℕ) (xs : List ℕ) (q : ℕ) → has q (xs ++ id ∷ []) ≡ cond (nat_eq id q) true (has q xs)
-has_new id xs q = has_snoc q xs id ∙ ap (λ b. cond b true (has q xs)) (turned id q)
+pub live_new : (id : ℕ) (live : ℕ → Bool) (q : ℕ) → with_live id live q ≡ cond (nat_eq id q) true (live q)
+live_new id live q = ap (λ b. cond b true (live q)) (turned id q)
 
-pub has_ended : (id : ℕ) (xs : List ℕ) (q : ℕ) → has q (without id xs) ≡ cond (nat_eq id q) false (has q xs)
-has_ended id xs q = has_without id q xs ∙ ap (λ b. cond b false (has q xs)) (turned id q)
+pub live_ended : (id : ℕ) (live : ℕ → Bool) (q : ℕ) → without_live id live q ≡ cond (nat_eq id q) false (live q)
+live_ended id live q = ap (λ b. cond b false (live q)) (turned id q)
 
 -- a choice that changes nothing
-pub has_same : (id : ℕ) (xs : List ℕ) (v : Bool) → has id xs ≡ v → (q : ℕ) → has q xs ≡ cond (nat_eq id q) v (has q xs)
-has_same id xs v is q = go (nat_eq id q) refl
+pub live_same : (id : ℕ) (live : ℕ → Bool) (v : Bool) → live id ≡ v → (q : ℕ) → live q ≡ cond (nat_eq id q) v (live q)
+live_same id live v is q = go (nat_eq id q) refl
   where
-    go : (b : Bool) → nat_eq id q ≡ b → has q xs ≡ cond (nat_eq id q) v (has q xs)
-    go true p = let same : id ≡ q = grind (arith, nat_tests) in rw p (ap (λ i. has i xs) (sym same) ∙ is)
+    go : (b : Bool) → nat_eq id q ≡ b → live q ≡ cond (nat_eq id q) v (live q)
+    go true p = let same : id ≡ q = grind (arith, nat_tests) in rw p (ap live (sym same) ∙ is)
     go false p = rw p refl
 
 pub stage_same : (id : ℕ) (es : List (ℕ × Stage)) (x : Option Stage) → stage_at es id ≡ x → (q : ℕ) → stage_at es q ≡ cond (nat_eq id q) x (stage_at es q)
@@ -43,12 +41,33 @@ push : (b : Bool) (f : Option Stage → Bool) (x y : Option Stage) (h : Bool) �
 push true f x y h is = refl
 push false f x y h is = is
 
--- the stage of one id changes, and both lists of live ids with it
-pub relinked : (id : ℕ) (x : Option Stage) (inner inner' live live' : List ℕ) (es es' : List (ℕ × Stage)) → IsLinked inner live es → ((q : ℕ) → has q inner' ≡ cond (nat_eq id q) (is_asked x) (has q inner)) → ((q : ℕ) → has q live' ≡ cond (nat_eq id q) (is_some x) (has q live)) → ((q : ℕ) → stage_at es' q ≡ cond (nat_eq id q) x (stage_at es q)) → IsLinked inner' live' es'
-relinked id x inner inner' live live' es es' l a b s q = (
-  a q ∙ push (nat_eq id q) is_asked x (stage_at es q) (has q inner) (l q).0 ∙ sym (ap is_asked (s q)),
-  b q ∙ push (nat_eq id q) is_some x (stage_at es q) (has q live) (l q).1 ∙ sym (ap is_some (s q)),
-)
+-- the stage of one id changes, and whether it is live in the inner source with it
+pub relinked : (id : ℕ) (x : Option Stage) (inner inner' : ℕ → Bool) (es es' : List (ℕ × Stage)) → IsLinked inner es → ((q : ℕ) → inner' q ≡ cond (nat_eq id q) (is_asked x) (inner q)) → ((q : ℕ) → stage_at es' q ≡ cond (nat_eq id q) x (stage_at es q)) → IsLinked inner' es'
+relinked id x inner inner' es es' l a s q = a q ∙ push (nat_eq id q) is_asked x (stage_at es q) (inner q) (l q) ∙ sym (ap is_asked (s q))
+
+-- whether ids have a stage, once one of them got another
+stage_test : (id : ℕ) (x : Option Stage) (es es' : List (ℕ × Stage)) → ((q : ℕ) → stage_at es' q ≡ cond (nat_eq id q) x (stage_at es q)) → (q : ℕ) → has_stage es' q ≡ cond (nat_eq id q) (is_some x) (has_stage es q)
+stage_test id x es es' s q = ap is_some (s q) ∙ sym (push (nat_eq id q) is_some x (stage_at es q) (has_stage es q) refl)
+
+pub staged : (id : ℕ) (x : Stage) (es es' : List (ℕ × Stage)) → ((q : ℕ) → stage_at es' q ≡ cond (nat_eq id q) (Some x) (stage_at es q)) → has_stage es' ≡ with_live id (has_stage es)
+staged id x es es' s = λ i q. (stage_test id (Some x) es es' s q ∙ sym (live_new id (has_stage es) q)) i
+
+pub unstaged : (id : ℕ) (es es' : List (ℕ × Stage)) → ((q : ℕ) → stage_at es' q ≡ cond (nat_eq id q) None (stage_at es q)) → has_stage es' ≡ without_live id (has_stage es)
+unstaged id es es' s = λ i q. (stage_test id None es es' s q ∙ sym (live_ended id (has_stage es) q)) i
+
+pub restaged : (id : ℕ) (x : Stage) (es es' : List (ℕ × Stage)) → has_stage es id ≡ true → ((q : ℕ) → stage_at es' q ≡ cond (nat_eq id q) (Some x) (stage_at es q)) → has_stage es' ≡ has_stage es
+restaged id x es es' h s = λ i q. (stage_test id (Some x) es es' s q ∙ sym (live_same id (has_stage es) true h q)) i
+
+-- a stage that came and went
+pub passed : (id : ℕ) (live mid new : ℕ → Bool) → live id ≡ false → mid ≡ with_live id live → new ≡ without_live id mid → new ≡ live
+passed id live mid new h m n = n ∙ ap (without_live id) m ∙ (λ i q. both q i)
+  where
+    both : (q : ℕ) → without_live id (with_live id live) q ≡ live q
+    both q = go (nat_eq q id) refl
+      where
+        go : (b : Bool) → nat_eq q id ≡ b → cond (nat_eq q id) false (cond (nat_eq q id) true (live q)) ≡ live q
+        go true p = let same : q ≡ id = grind (arith, nat_tests) in rw p (sym (ap live same ∙ h))
+        go false p = rw p refl
 
 twice : (b : Bool) (x y z : Option Stage) → cond b x (cond b y z) ≡ cond b x z
 twice true x y z = refl
@@ -68,8 +87,8 @@ no_stage None h = refl
 no_stage (Some x) h = absurd (cc)
 
 -- an id that is not live has no stage, and is not live in the inner source
-pub idle : (id : ℕ) (inner live : List ℕ) (es : List (ℕ × Stage)) → IsLinked inner live es → has id live ≡ false → (stage_at es id ≡ None) × (has id inner ≡ false)
-idle id inner live es l h = let none = no_stage (stage_at es id) (sym (l id).1 ∙ h) in (none, (l id).0 ∙ ap is_asked none)
+pub idle : (id : ℕ) (inner : ℕ → Bool) (es : List (ℕ × Stage)) → IsLinked inner es → has_stage es id ≡ false → (stage_at es id ≡ None) × (inner id ≡ false)
+idle id inner es l h = let none = no_stage (stage_at es id) h in (none, l id ∙ ap is_asked none)
 
 pub always_err : {U N : Type 0} (r : Result U N) (P : Type 0) → P → OnErr r P
 always_err (Ok x) P p = tt

@@ -8,27 +8,29 @@ use Rattle.scan_segments.specs.declared.adapter.Looked.TheVariants as looked
 use Rattle.scan_segments.specs.declared.cache.CacheGet.TheVariants as get
 use Rattle.scan_segments.specs.declared.source.Polled.{Polled}
 use Rattle.scan_segments.specs.declared.source.Polled.TheVariants.{Pending, Bytes, Missing, Failed, NoMemory}
-use Rattle.scan_segments.specs.Source.{Store, SourceState, without, Begins, Stays}
+use Rattle.scan_segments.specs.Source.{Store, SourceState, without_live, Begins, Stays, Ends}
 use Rattle.scan_segments.specs.Polled.{IsPolled}
 use Rattle.scan_segments.specs.Cache.{Entries, CacheState}
 use Rattle.scan_segments.specs.Cached.{IsGot, Offers}
-use Rattle.scan_segments.specs.Sharing.{has}
 
--- the cache and the source, what was asked, what is live, and the stage of each live id
+-- the cache and the source, what was asked, and the stage of each live id
 pub record Adapted (C S : Type 0) : Type 0 where
   pub cache : C
   pub source : S
   pub asked : List ℕ
-  pub live : List ℕ
   pub stages : List (ℕ × Stage)
-
--- as a source it does not tell what it holds; its faults are the inner source's, and its turns those of both
-abbrev pub adapter_state : CacheState ℕ → SourceState → List ℕ → List ℕ → SourceState
-adapter_state c s asked live = record { holds = None; asked = asked; live = live; faults = s.faults; turns = c.turns + s.turns }
 
 -- the stage of an id that is live
 abbrev pub stage_at : List (ℕ × Stage) → ℕ → Option Stage
 stage_at stages id = lookup (nat_eq id) stages
+
+-- an id is live where it has a stage
+abbrev pub has_stage : List (ℕ × Stage) → ℕ → Bool
+has_stage stages id = is_some (stage_at stages id)
+
+-- as a source it does not tell what it holds; its faults are the inner source's, and its turns those of both
+abbrev pub adapted : {C S : Type 0} → (C → CacheState ℕ) → (S → SourceState) → Adapted C S → SourceState
+adapted cache source a = record { holds = None; asked = a.asked; live = has_stage a.stages; faults = (source a.source).faults; turns = (cache a.cache).turns + (source a.source).turns }
 
 abbrev pub is_asked : Option Stage → Bool
 is_asked None = false
@@ -36,9 +38,9 @@ is_asked (Some stage.Looking) = false
 is_asked (Some (stage.Found b)) = false
 is_asked (Some stage.Asked) = true
 
--- each live id has a stage, and those that were asked of the inner source are live there
-abbrev pub IsLinked : List ℕ → List ℕ → List (ℕ × Stage) → Type 0
-IsLinked inner live stages = (id : ℕ) → (has id inner ≡ is_asked (stage_at stages id)) × (has id live ≡ is_some (stage_at stages id))
+-- the ids that were asked of the inner source are those that are live there
+abbrev pub IsLinked : (ℕ → Bool) → List (ℕ × Stage) → Type 0
+IsLinked inner stages = (id : ℕ) → inner id ≡ is_asked (stage_at stages id)
 
 -- the other ids keep their stages
 abbrev pub KeepsStages : ℕ → List (ℕ × Stage) → List (ℕ × Stage) → Type 0
@@ -72,12 +74,12 @@ asked_after Missing = None
 asked_after Failed = None
 
 -- the live ids after a poll
-abbrev pub live_after : Polled → ℕ → List ℕ → List ℕ
-live_after Pending id ids = ids
-live_after NoMemory id ids = ids
-live_after (Bytes b) id ids = without id ids
-live_after Missing id ids = without id ids
-live_after Failed id ids = without id ids
+abbrev pub live_after : Polled → ℕ → (ℕ → Bool) → ℕ → Bool
+live_after Pending id live = live
+live_after NoMemory id live = live
+live_after (Bytes b) id live = without_live id live
+live_after Missing id live = without_live id live
+live_after Failed id live = without_live id live
 
 -- how a poll goes on after its lookup
 abbrev pub GoesOn : (ℕ → List ℕ → Type 0) → ℕ → CacheState ℕ → CacheState ℕ → SourceState → SourceState → Polled → Option Stage → Looked → Type 0
@@ -133,3 +135,33 @@ GivesContent store id Missing = store id ≡ None
 GivesContent store id Pending = Unit {0}
 GivesContent store id Failed = Unit {0}
 GivesContent store id NoMemory = Unit {0}
+
+-- the calls of an adapter, over all that it is
+module _ {C S : Type 0} (cache : C → CacheState ℕ) (source : S → SourceState) where
+  -- a store has all that the adapter's cache tells and that its lookups have found
+  abbrev pub Trusts : Store → Adapted C S → Type 0
+  Trusts store a = IsFaithful store (cache a.cache) (source a.source) a.stages
+
+  -- a store that it trusted is trusted still
+  abbrev pub KeepsTrust : Adapted C S → Adapted C S → Type 0
+  KeepsTrust a b = (store : Store) → Trusts store a → Trusts store b
+
+  -- nothing was looked up or asked
+  abbrev pub KeepsOut : ℕ → Adapted C S → Adapted C S → Type 0
+  KeepsOut id a b = (b.cache ≡ a.cache) × (b.source ≡ a.source) × (stage_at b.stages id ≡ None)
+
+  -- a request looks up once, or finds no memory before
+  abbrev pub Requests : ℕ → Adapted C S → Adapted C S → Type 0
+  Requests id a b = LooksFirst id (cache a.cache) (cache b.cache) (source a.source) (source b.source) (stage_at b.stages id) ⊎ KeepsOut id a b
+
+  -- one poll, by the stage of the id before
+  abbrev pub PollsAdapted : (ℕ → List ℕ → Type 0) → ℕ → Adapted C S → Adapted C S → Polled → Type 0
+  PollsAdapted fits id a b r = PollsBoth fits id (cache a.cache) (cache b.cache) (source a.source) (source b.source) r (stage_at b.stages id) (stage_at a.stages id)
+
+  -- what a store has is what is given, and the store is trusted still
+  abbrev pub GivesTrusted : ℕ → Polled → Adapted C S → Adapted C S → Type 0
+  GivesTrusted id r a b = (store : Store) → Trusts store a → Trusts store b × GivesContent store id r
+
+  -- the cache stays, and a request of the source ends or nothing happens to it
+  abbrev pub DropsAdapted : ℕ → Adapted C S → Adapted C S → Type 0
+  DropsAdapted id a b = (b.cache ≡ a.cache) × (Stays (source a.source) (source b.source) ⊎ Ends id (source a.source) (source b.source))

@@ -16,3 +16,7 @@ pub mod Source
 pub mod Counted
 pub mod MemoryCache
 pub mod Adapter
+pub mod Kinds
+pub mod Locks
+pub mod Tickets
+pub mod Digest

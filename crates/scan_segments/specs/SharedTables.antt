@@ -1,20 +1,33 @@
 -- What contracts see of a shared table, and what its calls do to the table and to the source.
-use Rattle.std.specs.Prelude.{◌≡◌, ◌⊎◌, ◌+◌, ◌<◌, ℕ, List, map, Option, Some, None, true, is_some}
+use Rattle.std.specs.Prelude.{◌≡◌, ◌⊎◌, ◌+◌, ◌<◌, ℕ, List, [], ◌∷◌, Bool, true, cond, nat_lt, length, Option, Some, None, is_some, is_none}
 use Rattle.scan_segments.specs.declared.holder.SharedAnswer.{SharedAnswer}
 use Rattle.scan_segments.specs.declared.holder.SharedAnswer.TheVariants as answer
 use Rattle.scan_segments.specs.declared.holder.SharedEvent.TheVariants.{Arrived}
 use Rattle.scan_segments.specs.declared.holder.SharedPolled.{SharedPolled}
 use Rattle.scan_segments.specs.declared.holder.SharedPolled.TheVariants.{Pending, Bytes, Missing, Failed, NoMemory}
-use Rattle.scan_segments.specs.declared.shared.Entry.{Entry}
+use Rattle.std.specs.Ordering.{nat_cmp}
+use Rattle.std.specs.BTreeMap.{is_at}
+use Rattle.scan_segments.specs.declared.source.Polled.{Polled}
 use Rattle.scan_segments.specs.Faults.{Rose}
-use Rattle.scan_segments.specs.Source.{SourceState, Begins, Stays, Ends, TellsBytes, TellsNone}
+use Rattle.scan_segments.specs.Source.{SourceState, without, Begins, Stays, Ends, TellsBytes, TellsNone}
 use Rattle.scan_segments.specs.Sharing.{Held, is_held, is_live, answer_of, after, entry_at, owed, Same}
 
-abbrev pub held_of : Entry → ℕ × Held SharedAnswer
-held_of e = (e.id, record { holders = e.holders.items; answer = e.answer })
+-- a live request with one holder
+abbrev pub begun : ℕ → Held SharedAnswer
+begun number = record { holders = number ∷ []; answer = None }
 
-abbrev pub entries_of : List Entry → List (ℕ × Held SharedAnswer)
-entries_of es = map held_of es
+-- the entry without this number
+abbrev pub without_number : ℕ → Option (Held SharedAnswer) → Held SharedAnswer
+without_number number None = record { holders = []; answer = None }
+without_number number (Some e) = record { holders = without number e.holders; answer = e.answer }
+
+-- there are holders
+abbrev pub has_others : Held SharedAnswer → Bool
+has_others e = nat_lt 0 (length e.holders)
+
+-- the entry of the id is another one or none, and the others stay
+abbrev pub Moves : ℕ → Option (Held SharedAnswer) → List (ℕ × Held SharedAnswer) → List (ℕ × Held SharedAnswer) → Type 0
+Moves id x es fs = (q : ℕ) → entry_at fs q ≡ cond (is_at (nat_cmp id) q) x (entry_at es q)
 
 -- each holder has a number below this one
 abbrev pub AreBelow : ℕ → List (ℕ × Held SharedAnswer) → Type 0
@@ -24,6 +37,10 @@ AreBelow next es = (id n : ℕ) → is_held n (entry_at es id) ≡ true → n < 
 abbrev pub Asks : Option (Held SharedAnswer) → ℕ → SourceState → SourceState → Type 0
 Asks None id old new = Begins id old new
 Asks (Some e) id old new = new ≡ old
+
+-- the source was polled once, or not at all
+abbrev pub PolledOnce : {S : Type 0} → (S → ℕ → S → Polled → Type 0) → ℕ → S → S → Type 0
+PolledOnce polls id old new = (new ≡ old) ⊎ ((answer : Polled) × polls old id new answer)
 
 -- a poll gives the answer that is kept, and is pending only while there is none
 abbrev pub Gives : Option (Held SharedAnswer) → SharedPolled → Type 0
@@ -62,3 +79,15 @@ Rests old new e = ((is_some (answer_of e) ≡ true) × (new ≡ old)) ⊎ ((is_l
 
 abbrev pub Polls : (ℕ → List ℕ → Type 0) → SourceState → SourceState → List (ℕ × Held SharedAnswer) → List (ℕ × Held SharedAnswer) → ℕ → Type 0
 Polls fits old new s t id = ((t ≡ s) × Rests old new (entry_at s id)) ⊎ Arrives fits old new s t id
+
+-- the answer of a live request comes from the source, and is kept in its entry
+pub record Comes (fits : ℕ → List ℕ → Type 0) (id : ℕ) (old new : SourceState) (e f : Held SharedAnswer) : Type 0 where
+  pub answer : SharedAnswer
+  pub was_live : is_none e.answer ≡ true
+  pub source : Ends id old new
+  pub found : IsFound fits id old new answer
+  pub kept : f ≡ record { holders = e.holders; answer = Some answer }
+
+-- what a poll does to the entry that it is of: it rests, or the answer comes from the source and is kept
+abbrev pub PollsEntry : (ℕ → List ℕ → Type 0) → ℕ → SourceState → SourceState → Held SharedAnswer → Held SharedAnswer → Type 0
+PollsEntry fits id old new e f = ((f ≡ e) × Rests old new (Some e)) ⊎ Comes fits id old new e f

@@ -113,5 +113,5 @@ module _ {A : Type 0} where
   Same s t = (id : ℕ) → s id ≡ t id
 
   -- the requests that are live are those of the table
-  abbrev pub Agree : List ℕ → Table A → Type 0
-  Agree live t = (id : ℕ) → has id live ≡ is_live (t id)
+  abbrev pub Agree : (ℕ → Bool) → Table A → Type 0
+  Agree live t = (id : ℕ) → live id ≡ is_live (t id)

@@ -1,5 +1,5 @@
 -- What a source of segments is, and what its calls do to it.
-use Rattle.std.specs.Prelude.{◌≡◌, ℕ, ◌≤◌, List, [], ◌∷◌, ◌++◌, Option, None, Some, filter, not, ◌==◌, IfSome}
+use Rattle.std.specs.Prelude.{◌≡◌, ℕ, ◌≤◌, List, [], ◌∷◌, ◌++◌, Bool, true, false, cond, nat_eq, Option, None, Some, filter, not, ◌==◌, IfSome}
 
 -- the bytes of each segment that there is
 abbrev pub Store : Type 0
@@ -11,8 +11,8 @@ pub record SourceState : Type 0 where
   pub holds : Option Store
   -- each id that was asked of it, in order
   pub asked : List ℕ
-  -- the ids with a request that has not ended
-  pub live : List ℕ
+  -- which ids have a request that has not ended; an id has at most one
+  pub live : ℕ → Bool
   -- how often it failed, up to the greatest number that is kept
   pub faults : ℕ
   -- at most so often it can still put off an answer
@@ -22,11 +22,23 @@ pub record SourceState : Type 0 where
 abbrev pub without : ℕ → List ℕ → List ℕ
 without id ids = filter (λ k. not (k == id)) ids
 
+-- no id is live
+abbrev pub none_live : ℕ → Bool
+none_live k = false
+
+-- this id is live too
+abbrev pub with_live : ℕ → (ℕ → Bool) → ℕ → Bool
+with_live id live k = cond (nat_eq k id) true (live k)
+
+-- this id is no longer live
+abbrev pub without_live : ℕ → (ℕ → Bool) → ℕ → Bool
+without_live id live k = cond (nat_eq k id) false (live k)
+
 -- the request of an id begins
 pub record Begins (id : ℕ) (old new : SourceState) : Type 0 where
   pub holds : new.holds ≡ old.holds
   pub asked : new.asked ≡ old.asked ++ id ∷ []
-  pub live : new.live ≡ old.live ++ id ∷ []
+  pub live : new.live ≡ with_live id old.live
   pub faults : old.faults ≤ new.faults
   pub turns : new.turns ≤ old.turns
 
@@ -42,7 +54,7 @@ pub record Stays (old new : SourceState) : Type 0 where
 pub record Ends (id : ℕ) (old new : SourceState) : Type 0 where
   pub holds : new.holds ≡ old.holds
   pub asked : new.asked ≡ old.asked
-  pub live : new.live ≡ without id old.live
+  pub live : new.live ≡ without_live id old.live
   pub faults : old.faults ≤ new.faults
   pub turns : new.turns ≤ old.turns
 

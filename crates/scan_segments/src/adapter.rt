@@ -1,16 +1,16 @@
 //! A source that looks segments up in a cache before it asks another source. After the Rust's `segments::cache`.
-ghost use Rattle.std.specs.Prelude.{◌≡◌, ◌⊎◌, ◌++◌, ◌∷◌, ℕ, List, [], not, ◌==◌, nat_eq, cond, is_some, true, Some, None, OnOk, OnErr, Contains};
-ghost use Rattle.scan_segments.specs.Source.{SourceState, Store, without, Begins, Stays, Ends};
+ghost use Rattle.std.specs.Prelude.{◌≡◌, ◌⊎◌, ℕ, List, [], nat_eq, cond, is_some, true, false, Some, None, OnOk, OnErr};
+ghost use Rattle.scan_segments.specs.Source.{SourceState, Store, none_live, with_live, without_live, Begins, Stays, Ends};
 ghost use Rattle.scan_segments.specs.Polled.{IsPolled};
 ghost use Rattle.scan_segments.specs.Cached.{Offers};
-ghost use Rattle.scan_segments.specs.Adapter.{Looks, PollsSource, PollsBoth, LooksAgain, LooksFirst, KeepsStages, IsLinked, IsFaithful, GivesContent, adapter_state, stage_at, is_asked, asked_after, live_after};
+ghost use Rattle.scan_segments.specs.SharedTables.{PolledOnce};
+ghost use Rattle.scan_segments.specs.Adapter.{Looks, PollsSource, PollsBoth, LooksAgain, LooksFirst, KeepsStages, IsLinked, Requests, PollsAdapted, DropsAdapted, KeepsTrust, GivesTrusted, adapted, stage_at, has_stage, is_asked, asked_after, live_after};
 ghost use Rattle.scan_segments.specs.declared.adapter.Stage.TheVariants as stage;
 ghost use Rattle.scan_segments.specs.declared.adapter.Looked.TheVariants as looked;
 
 use crate::cache::{CacheGet, CachePut, SegmentCache};
-use crate::memory_source::drop_id;
 use crate::segment::{ByteBuffer, SegmentId};
-use crate::source::{Fits, Polled, SegmentSource};
+use crate::source::{Fits, Polled, Polls, SegmentSource};
 use scan_values::NoMemory;
 use std::alloc::Global;
 use std::collections::HashMap;
@@ -33,13 +33,13 @@ pub enum Looked {
     NoMemory,
 }
 
-/// A source over a cache and an inner source. Contracts see both, the ids that were asked of the adapter, the live ones, and their stages.
+/// A source over a cache and an inner source. Contracts see both, the ids that were asked of the adapter, and the
+/// stages of the live ones.
 #[derive(Drop)]
 pub struct SegmentCacheSourceAdapter<C: SegmentCache, S: SegmentSource> {
     cache: C,
     source: S,
     asked: Vec<SegmentId>,
-    live: Vec<SegmentId>,
     stages: HashMap<SegmentId, Stage>,
 }
 
@@ -48,22 +48,26 @@ impl<C: SegmentCache, S: SegmentSource> Model for SegmentCacheSourceAdapter<C, S
 
     ghost Value = { Adapted C S };
 
-    ghost view = { λ a. record { cache = a.cache; source = a.source; asked = a.asked.items; live = a.live.items; stages = a.stages.entries } };
+    ghost view = { λ a. record {
+      cache = a.cache;
+      source = a.source;
+      asked = a.asked.items;
+      stages = a.stages.entries;
+    } };
 
-    ghost invariant = { λ a. IsLinked (S.state a.source).live a.live.items a.stages.entries };
+    ghost invariant = { λ a. IsLinked (S.state a.source).live a.stages.entries };
 }
 
 impl<C: SegmentCache, S: SegmentSource> SegmentCacheSourceAdapter<C, S> {
     /// A source that looks up in this cache and asks this source, which has no live request.
     pub fn new(alloc: Global, cache: C, source: S) -> Self
-        requires { (S.state source).live ≡ [] }
-        ensures { result ≡ record { cache = cache; source = source; asked = []; live = []; stages = [] } }
+        requires { (S.state source).live ≡ none_live }
+        ensures { result ≡ record { cache = cache; source = source; asked = []; stages = [] } }
     {
         SegmentCacheSourceAdapter {
             cache,
             source,
             asked: Vec::new(alloc),
-            live: Vec::new(alloc),
             stages: HashMap::new(alloc),
         }
     }
@@ -80,24 +84,27 @@ impl<C: SegmentCache, S: SegmentSource> Fits for SegmentCacheSourceAdapter<C, S>
     ghost fits = { λ id bytes. Unit {0} };
 }
 
+impl<C: SegmentCache, S: SegmentSource> Polls for SegmentCacheSourceAdapter<C, S> {
+    ghost polls = { λ a id b r. PollsAdapted C.cache S.state S.fits id a b r };
+}
+
 impl<C: SegmentCache, S: SegmentSource> SegmentSource for SegmentCacheSourceAdapter<C, S> {
-    ghost state = { λ a. adapter_state (C.cache a.cache) (S.state a.source) a.asked a.live };
+    ghost state = { adapted C.cache S.state };
 
     fn request(&mut self, alloc: Global, id: SegmentId) -> Result<(), NoMemory>
-        requires { Contains self.old.live id → ⊥ }
-        ensures ok { OnOk result (Begins id (adapter_state (C.cache self.old.cache) (S.state self.old.source) self.old.asked self.old.live) (adapter_state (C.cache self.new.cache) (S.state self.new.source) self.new.asked self.new.live)) }
-        ensures err { OnErr result (Stays (adapter_state (C.cache self.old.cache) (S.state self.old.source) self.old.asked self.old.live) (adapter_state (C.cache self.new.cache) (S.state self.new.source) self.new.asked self.new.live)) }
-        ensures looks { (LooksFirst id (C.cache self.old.cache) (C.cache self.new.cache) (S.state self.old.source) (S.state self.new.source) (stage_at self.new.stages id)) ⊎ ((self.new.cache ≡ self.old.cache) × (self.new.source ≡ self.old.source) × (stage_at self.new.stages id ≡ None)) }
+        requires { has_stage self.old.stages id ≡ false }
+        ensures ok { OnOk result (Begins id (adapted C.cache S.state self.old) (adapted C.cache S.state self.new)) }
+        ensures err { OnErr result (Stays (adapted C.cache S.state self.old) (adapted C.cache S.state self.new)) }
+        ensures looks { Requests C.cache S.state id self.old self.new }
         ensures begun { OnOk result (is_some (stage_at self.new.stages id) ≡ true) }
         ensures refused { OnErr result (stage_at self.new.stages id ≡ None) }
         ensures others { KeepsStages id self.old.stages self.new.stages }
-        ensures content { (store : Store) → IsFaithful store (C.cache self.old.cache) (S.state self.old.source) self.old.stages → IsFaithful store (C.cache self.new.cache) (S.state self.new.source) self.new.stages }
+        ensures content { KeepsTrust C.cache S.state self.old self.new }
     {
         self.asked.reserve(1)?;
         match begin(
             &mut self.cache,
             &mut self.source,
-            &mut self.live,
             &mut self.stages,
             alloc,
             id,
@@ -111,16 +118,17 @@ impl<C: SegmentCache, S: SegmentSource> SegmentSource for SegmentCacheSourceAdap
     }
 
     fn poll_segment(&mut self, alloc: Global, id: SegmentId) -> Polled
-        requires { Contains self.old.live id }
-        ensures polled { IsPolled (λ id bytes. Unit {0}) id (adapter_state (C.cache self.old.cache) (S.state self.old.source) self.old.asked self.old.live) (adapter_state (C.cache self.new.cache) (S.state self.new.source) self.new.asked self.new.live) result }
-        ensures steps { PollsBoth S.fits id (C.cache self.old.cache) (C.cache self.new.cache) (S.state self.old.source) (S.state self.new.source) result (stage_at self.new.stages id) (stage_at self.old.stages id) }
+        requires { has_stage self.old.stages id ≡ true }
+        ensures polled { IsPolled (λ id bytes. Unit {0}) id (adapted C.cache S.state self.old)
+            (adapted C.cache S.state self.new) result }
+        ensures exact { PollsAdapted C.cache S.state S.fits id self.old self.new result }
+        ensures once { is_asked (stage_at self.old.stages id) ≡ true → PolledOnce S.polls id self.old.source self.new.source }
         ensures others { KeepsStages id self.old.stages self.new.stages }
-        ensures content { (store : Store) → IsFaithful store (C.cache self.old.cache) (S.state self.old.source) self.old.stages → IsFaithful store (C.cache self.new.cache) (S.state self.new.source) self.new.stages × GivesContent store id result }
+        ensures content { GivesTrusted C.cache S.state id result self.old self.new }
     {
         poll_stage(
             &mut self.cache,
             &mut self.source,
-            &mut self.live,
             &mut self.stages,
             alloc,
             id,
@@ -128,15 +136,14 @@ impl<C: SegmentCache, S: SegmentSource> SegmentSource for SegmentCacheSourceAdap
     }
 
     fn drop_request(&mut self, id: SegmentId)
-        ensures ends { Ends id (adapter_state (C.cache self.old.cache) (S.state self.old.source) self.old.asked self.old.live) (adapter_state (C.cache self.new.cache) (S.state self.new.source) self.new.asked self.new.live) }
-        ensures cache { self.new.cache ≡ self.old.cache }
-        ensures source { Stays (S.state self.old.source) (S.state self.new.source) ⊎ Ends id (S.state self.old.source) (S.state self.new.source) }
+        ensures ends { Ends id (adapted C.cache S.state self.old) (adapted C.cache S.state self.new) }
+        ensures drops { DropsAdapted C.cache S.state id self.old self.new }
         ensures stage { stage_at self.new.stages id ≡ None }
         ensures others { KeepsStages id self.old.stages self.new.stages }
-        ensures content { (store : Store) → IsFaithful store (C.cache self.old.cache) (S.state self.old.source) self.old.stages → IsFaithful store (C.cache self.new.cache) (S.state self.new.source) self.new.stages }
+        ensures content { KeepsTrust C.cache S.state self.old self.new }
     {
         let was_asked = has_asked(&self.stages, id);
-        end(&mut self.live, &mut self.stages, id);
+        end(&mut self.stages, id);
         if was_asked {
             self.source.drop_request(id);
         }
@@ -151,40 +158,35 @@ impl<C: SegmentCache, S: SegmentSource> SegmentSource for SegmentCacheSourceAdap
 fn begin<C: SegmentCache, S: SegmentSource>(
     cache: &mut C,
     source: &mut S,
-    live: &mut Vec<SegmentId>,
     stages: &mut HashMap<SegmentId, Stage>,
     alloc: Global,
     id: SegmentId,
 ) -> Result<(), NoMemory>
-    requires linked { IsLinked (S.state source.old).live live.old.items stages.old.entries }
-    requires fresh { Contains live.old.items id → ⊥ }
-    ensures linked { IsLinked (S.state source.new).live live.new.items stages.new.entries }
-    ensures live { OnOk result (live.new.items ≡ live.old.items ++ id ∷ []) }
-    ensures err { OnErr result (live.new.items ≡ live.old.items) }
-    ensures looks { (LooksFirst id (C.cache cache.old) (C.cache cache.new) (S.state source.old) (S.state source.new) (stage_at stages.new.entries id)) ⊎ ((cache.new ≡ cache.old) × (source.new ≡ source.old) × (stage_at stages.new.entries id ≡ None)) }
+    requires linked { IsLinked (S.state source.old).live stages.old.entries }
+    requires fresh { has_stage stages.old.entries id ≡ false }
+    ensures linked { IsLinked (S.state source.new).live stages.new.entries }
+    ensures live { OnOk result (has_stage stages.new.entries ≡ with_live id (has_stage stages.old.entries)) }
+    ensures err { OnErr result (has_stage stages.new.entries ≡ has_stage stages.old.entries) }
+    ensures looks { (LooksFirst id (C.cache cache.old) (C.cache cache.new) (S.state source.old) (S.state source.new)
+        (stage_at stages.new.entries id)) ⊎ ((cache.new ≡ cache.old) × (source.new ≡ source.old)
+        × (stage_at stages.new.entries id ≡ None)) }
     ensures begun { OnOk result (is_some (stage_at stages.new.entries id) ≡ true) }
     ensures refused { OnErr result (stage_at stages.new.entries id ≡ None) }
     ensures others { KeepsStages id stages.old.entries stages.new.entries }
 {
-    live.reserve(1)?;
     add_stage(stages, id)?;
     match look(cache, source, alloc, id) {
-        Looked::Pending => {
-            live.push_reserved(id);
-            Ok(())
-        }
+        Looked::Pending => { Ok(()) }
         Looked::Hit(bytes) => {
             set_stage(stages, id, Stage::Found(bytes));
-            live.push_reserved(id);
             Ok(())
         }
         Looked::Asked => {
             set_stage(stages, id, Stage::Asked);
-            live.push_reserved(id);
             Ok(())
         }
         Looked::NoMemory => {
-            remove_stage(stages, id);
+            end(stages, id);
             Err(NoMemory)
         }
     }
@@ -197,7 +199,7 @@ fn look<C: SegmentCache, S: SegmentSource>(
     alloc: Global,
     id: SegmentId,
 ) -> Looked
-    requires { Contains (S.state source.old).live id → ⊥ }
+    requires { (S.state source.old).live id ≡ false }
     ensures { Looks id (C.cache cache.old) (C.cache cache.new) (S.state source.old) (S.state source.new) result }
 {
     match cache.poll_get(alloc, id) {
@@ -211,8 +213,9 @@ fn look<C: SegmentCache, S: SegmentSource>(
 
 // Asks the source, after a lookup that ended without bytes.
 fn ask<S: SegmentSource>(source: &mut S, alloc: Global, id: SegmentId) -> Looked
-    requires { Contains (S.state source.old).live id → ⊥ }
-    ensures { ((result ≡ looked.Asked) × Begins id (S.state source.old) (S.state source.new)) ⊎ ((result ≡ looked.NoMemory) × Stays (S.state source.old) (S.state source.new)) }
+    requires { (S.state source.old).live id ≡ false }
+    ensures { ((result ≡ looked.Asked) × Begins id (S.state source.old) (S.state source.new))
+        ⊎ ((result ≡ looked.NoMemory) × Stays (S.state source.old) (S.state source.new)) }
 {
     match source.request(alloc, id) {
         Ok(()) => Looked::Asked,
@@ -242,8 +245,10 @@ fn poll_source<C: SegmentCache, S: SegmentSource>(
     alloc: Global,
     id: SegmentId,
 ) -> Polled
-    requires { Contains (S.state source.old).live id }
-    ensures { PollsSource S.fits id (C.cache cache.old) (C.cache cache.new) (S.state source.old) (S.state source.new) result }
+    requires { (S.state source.old).live id ≡ true }
+    ensures once { PolledOnce S.polls id source.old source.new }
+    ensures polls { PollsSource S.fits id (C.cache cache.old) (C.cache cache.new) (S.state source.old)
+        (S.state source.new) result }
 {
     match source.poll_segment(alloc, id) {
         Polled::Pending => Polled::Pending,
@@ -259,7 +264,9 @@ fn poll_source<C: SegmentCache, S: SegmentSource>(
 
 // Gives an id its first stage.
 fn add_stage(stages: &mut HashMap<SegmentId, Stage>, id: SegmentId) -> Result<(), NoMemory>
-    ensures ok { OnOk result ((q : ℕ) → stage_at stages.new.entries q ≡ cond (nat_eq id q) (Some stage.Looking) (stage_at stages.old.entries q)) }
+    ensures ok { OnOk result ((q : ℕ) → stage_at stages.new.entries q ≡ cond (nat_eq id q) (Some stage.Looking)
+        (stage_at stages.old.entries q)) }
+    ensures live { OnOk result (has_stage stages.new.entries ≡ with_live id (has_stage stages.old.entries)) }
     ensures err { OnErr result (stages.new.entries ≡ stages.old.entries) }
 {
     match stages.insert(id, Stage::Looking) {
@@ -268,16 +275,12 @@ fn add_stage(stages: &mut HashMap<SegmentId, Stage>, id: SegmentId) -> Result<()
     }
 }
 
-fn remove_stage(stages: &mut HashMap<SegmentId, Stage>, id: SegmentId)
-    ensures { (q : ℕ) → stage_at stages.new.entries q ≡ cond (nat_eq id q) None (stage_at stages.old.entries q) }
-{
-    stages.remove(&id);
-}
-
 // Gives an id that has a stage another one.
 fn set_stage(stages: &mut HashMap<SegmentId, Stage>, id: SegmentId, stage: Stage)
     requires { is_some (stage_at stages.old.entries id) ≡ true }
-    ensures { (q : ℕ) → stage_at stages.new.entries q ≡ cond (nat_eq id q) (Some stage) (stage_at stages.old.entries q) }
+    ensures stages { (q : ℕ) → stage_at stages.new.entries q ≡ cond (nat_eq id q) (Some stage)
+        (stage_at stages.old.entries q) }
+    ensures live { has_stage stages.new.entries ≡ has_stage stages.old.entries }
 {
     match stages.insert(id, stage) {
         Ok(_) => {}
@@ -285,13 +288,12 @@ fn set_stage(stages: &mut HashMap<SegmentId, Stage>, id: SegmentId, stage: Stage
     }
 }
 
-// Ends a request: the id is no longer live, and has no stage.
-fn end(live: &mut Vec<SegmentId>, stages: &mut HashMap<SegmentId, Stage>, id: SegmentId)
-    ensures live { live.new.items ≡ without id live.old.items }
+// Ends a request: the id has no stage.
+fn end(stages: &mut HashMap<SegmentId, Stage>, id: SegmentId)
     ensures stages { (q : ℕ) → stage_at stages.new.entries q ≡ cond (nat_eq id q) None (stage_at stages.old.entries q) }
+    ensures live { has_stage stages.new.entries ≡ without_live id (has_stage stages.old.entries) }
 {
-    drop_id(live, id);
-    remove_stage(stages, id);
+    stages.remove(&id);
 }
 
 fn has_asked(stages: &HashMap<SegmentId, Stage>, id: SegmentId) -> bool
@@ -309,24 +311,25 @@ fn has_asked(stages: &HashMap<SegmentId, Stage>, id: SegmentId) -> bool
 fn poll_stage<C: SegmentCache, S: SegmentSource>(
     cache: &mut C,
     source: &mut S,
-    live: &mut Vec<SegmentId>,
     stages: &mut HashMap<SegmentId, Stage>,
     alloc: Global,
     id: SegmentId,
 ) -> Polled
-    requires linked { IsLinked (S.state source.old).live live.old.items stages.old.entries }
+    requires linked { IsLinked (S.state source.old).live stages.old.entries }
     requires there { is_some (stage_at stages.old.entries id) ≡ true }
-    ensures linked { IsLinked (S.state source.new).live live.new.items stages.new.entries }
-    ensures live { live.new.items ≡ live_after result id live.old.items }
-    ensures steps { PollsBoth S.fits id (C.cache cache.old) (C.cache cache.new) (S.state source.old) (S.state source.new) result (stage_at stages.new.entries id) (stage_at stages.old.entries id) }
+    ensures once { is_asked (stage_at stages.old.entries id) ≡ true → PolledOnce S.polls id source.old source.new }
+    ensures linked { IsLinked (S.state source.new).live stages.new.entries }
+    ensures live { has_stage stages.new.entries ≡ live_after result id (has_stage stages.old.entries) }
+    ensures steps { PollsBoth S.fits id (C.cache cache.old) (C.cache cache.new) (S.state source.old)
+        (S.state source.new) result (stage_at stages.new.entries id) (stage_at stages.old.entries id) }
     ensures others { KeepsStages id stages.old.entries stages.new.entries }
 {
     match stages.get(&id) {
-        Some(Stage::Looking) => poll_looking(cache, source, live, stages, alloc, id),
-        Some(Stage::Asked) => poll_asked(cache, source, live, stages, alloc, id),
+        Some(Stage::Looking) => poll_looking(cache, source, stages, alloc, id),
+        Some(Stage::Asked) => poll_asked(cache, source, stages, alloc, id),
         Some(Stage::Found(bytes)) => match bytes.try_clone() {
             Ok(bytes) => {
-                end(live, stages, id);
+                end(stages, id);
                 Polled::Bytes(bytes)
             }
             Err(_) => Polled::NoMemory,
@@ -339,16 +342,17 @@ fn poll_stage<C: SegmentCache, S: SegmentSource>(
 fn poll_asked<C: SegmentCache, S: SegmentSource>(
     cache: &mut C,
     source: &mut S,
-    live: &mut Vec<SegmentId>,
     stages: &mut HashMap<SegmentId, Stage>,
     alloc: Global,
     id: SegmentId,
 ) -> Polled
-    requires linked { IsLinked (S.state source.old).live live.old.items stages.old.entries }
+    requires linked { IsLinked (S.state source.old).live stages.old.entries }
     requires asked { stage_at stages.old.entries id ≡ Some stage.Asked }
-    ensures linked { IsLinked (S.state source.new).live live.new.items stages.new.entries }
-    ensures live { live.new.items ≡ live_after result id live.old.items }
-    ensures steps { PollsSource S.fits id (C.cache cache.old) (C.cache cache.new) (S.state source.old) (S.state source.new) result }
+    ensures once { PolledOnce S.polls id source.old source.new }
+    ensures linked { IsLinked (S.state source.new).live stages.new.entries }
+    ensures live { has_stage stages.new.entries ≡ live_after result id (has_stage stages.old.entries) }
+    ensures steps { PollsSource S.fits id (C.cache cache.old) (C.cache cache.new) (S.state source.old)
+        (S.state source.new) result }
     ensures stage { stage_at stages.new.entries id ≡ asked_after result }
     ensures others { KeepsStages id stages.old.entries stages.new.entries }
 {
@@ -357,15 +361,15 @@ fn poll_asked<C: SegmentCache, S: SegmentSource>(
         Polled::Pending => Polled::Pending,
         Polled::NoMemory => Polled::NoMemory,
         Polled::Bytes(bytes) => {
-            end(live, stages, id);
+            end(stages, id);
             Polled::Bytes(bytes)
         }
         Polled::Missing => {
-            end(live, stages, id);
+            end(stages, id);
             Polled::Missing
         }
         Polled::Failed => {
-            end(live, stages, id);
+            end(stages, id);
             Polled::Failed
         }
     }
@@ -375,28 +379,28 @@ fn poll_asked<C: SegmentCache, S: SegmentSource>(
 fn poll_looking<C: SegmentCache, S: SegmentSource>(
     cache: &mut C,
     source: &mut S,
-    live: &mut Vec<SegmentId>,
     stages: &mut HashMap<SegmentId, Stage>,
     alloc: Global,
     id: SegmentId,
 ) -> Polled
-    requires linked { IsLinked (S.state source.old).live live.old.items stages.old.entries }
+    requires linked { IsLinked (S.state source.old).live stages.old.entries }
     requires looking { stage_at stages.old.entries id ≡ Some stage.Looking }
-    ensures linked { IsLinked (S.state source.new).live live.new.items stages.new.entries }
-    ensures live { live.new.items ≡ live_after result id live.old.items }
-    ensures steps { LooksAgain S.fits id (C.cache cache.old) (C.cache cache.new) (S.state source.old) (S.state source.new) result (stage_at stages.new.entries id) }
+    ensures linked { IsLinked (S.state source.new).live stages.new.entries }
+    ensures live { has_stage stages.new.entries ≡ live_after result id (has_stage stages.old.entries) }
+    ensures steps { LooksAgain S.fits id (C.cache cache.old) (C.cache cache.new) (S.state source.old)
+        (S.state source.new) result (stage_at stages.new.entries id) }
     ensures others { KeepsStages id stages.old.entries stages.new.entries }
 {
     match look(cache, source, alloc, id) {
         Looked::Pending => Polled::Pending,
         Looked::NoMemory => Polled::NoMemory,
         Looked::Hit(bytes) => {
-            end(live, stages, id);
+            end(stages, id);
             Polled::Bytes(bytes)
         }
         Looked::Asked => {
             set_stage(stages, id, Stage::Asked);
-            poll_asked(cache, source, live, stages, alloc, id)
+            poll_asked(cache, source, stages, alloc, id)
         }
     }
 }

@@ -16,16 +16,25 @@ use std::marker::Model;
 use std::num::NonZeroUsize;
 
 /// Which entries a cache drops first.
-#[derive(Clone, Copy, Debug, Default, PartialEq, Eq)]
+#[derive(Clone, Copy, Debug, PartialEq, Eq)]
 pub enum SegmentEviction {
     /// The least recently used.
-    #[default]
     Lru,
     /// Those that were looked up least often.
     TinyLfu,
 }
 
-/// Segments under their keys, as many as a number of bytes and a number of entries allow. A segment weighs its length. Contracts see the pairs, the most recently used first, and the two bounds.
+impl Default for SegmentEviction {
+    ghost is_default = { λ e. e ≡ by.Lru };
+
+    /// The least recently used entries go first.
+    fn default() -> Self {
+        SegmentEviction::Lru
+    }
+}
+
+/// Segments under their keys, as many as a number of bytes and a number of entries allow. A segment weighs its
+/// length. Contracts see the pairs, the most recently used first, and the two bounds.
 #[derive(Drop)]
 pub struct MokaSegmentCache {
     pairs: LruCache<SegmentKey, ByteBuffer>,
@@ -56,7 +65,11 @@ impl MokaSegmentCache {
     ) -> Result<Self, NoMemory>
         requires entries { (0 < max_entries) × (max_entries ≤ 65536) }
         requires eviction { eviction ≡ by.Lru }
-        ensures { IfOk result (λ c. c ≡ record { pairs = []; capacity = max_capacity_bytes; max_entries = max_entries }) }
+        ensures { IfOk result (λ c. c ≡ record {
+          pairs = [];
+          capacity = max_capacity_bytes;
+          max_entries = max_entries;
+        }) }
     {
         let Some(max_entries) = NonZeroUsize::new(max_entries) else {
             unreachable!();
@@ -131,7 +144,8 @@ impl MokaSegmentCache {
         }
     }
 
-    // Stores a segment that is no heavier than the capacity, and drops the least recently used ones that then do not fit.
+    // Stores a segment that is no heavier than the capacity, and drops the least recently used ones that then do
+    // not fit.
     fn store(&mut self, key: &SegmentKey, buffer: &ByteBuffer) -> CachePut
         ensures { Puts key.now buffer.now self.old self.new result }
     {
@@ -156,6 +170,10 @@ impl MokaSegmentCache {
 
 impl KeyedSegmentCache for MokaSegmentCache {
     ghost cache = { keyed_state };
+
+    ghost gets = { λ c k d r. Gets k c d r };
+
+    ghost puts = { λ c k b d r. Puts k b c d r };
 
     fn poll_get(&mut self, alloc: Global, key: &SegmentKey) -> CacheGet
         ensures got { IsGot key.now (keyed_state self.old) (keyed_state self.new) result }

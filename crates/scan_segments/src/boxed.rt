@@ -3,7 +3,7 @@ ghost use Rattle.std.specs.Prelude.{◌≡◌, ℕ, List};
 ghost use Rattle.scan_segments.specs.Source.{SourceState};
 
 use crate::segment::SegmentId;
-use crate::source::{Fits, Polled, SegmentSource};
+use crate::source::{Fits, Polled, Polls, SegmentSource};
 use scan_values::NoMemory;
 use std::alloc::Global;
 
@@ -13,6 +13,11 @@ pub struct BoxedSource(pub Box<dyn SegmentSource + Drop>);
 
 impl Fits for BoxedSource {
     ghost fits = { λ id bytes. Unit {0} };
+}
+
+// Of the poll of a source whose type is not known no more is said than of any source's.
+impl Polls for BoxedSource {
+    ghost polls = { λ s id t r. Unit {0} };
 }
 
 impl SegmentSource for BoxedSource {

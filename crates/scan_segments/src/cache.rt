@@ -37,20 +37,31 @@ pub enum CachePut {
 
 /// A cache of the segments of one file.
 pub trait SegmentCache {
-    ghost use Rattle.std.specs.Prelude.{ℕ};
+    ghost use Rattle.std.specs.Prelude.{ℕ, List};
     ghost use Rattle.scan_segments.specs.Cache.{CacheState};
     ghost use Rattle.scan_segments.specs.Cached.{IsGot, IsPut};
 
     /// The entries, what ended, the puts that found no memory, the faults and the turns.
     ghost cache: { Self → CacheState ℕ };
 
+    ghost use Rattle.scan_segments.specs.declared.cache.CacheGet.{CacheGet as Get};
+    ghost use Rattle.scan_segments.specs.declared.cache.CachePut.{CachePut as Put};
+
+    /// What a lookup of this type does: the cache before, the id, the cache after and the answer.
+    ghost gets: { Self → ℕ → Self → Get → Type 0 };
+
+    /// The same of a put of these bytes.
+    ghost puts: { Self → ℕ → List ℕ → Self → Put → Type 0 };
+
     /// Looks a segment up.
     fn poll_get(&mut self, alloc: Global, id: SegmentId) -> CacheGet
-        ensures { IsGot id (cache self.old) (cache self.new) result };
+        ensures got { IsGot id (cache self.old) (cache self.new) result }
+        ensures exact { gets self.old id self.new result };
 
     /// Offers the bytes of a segment.
     fn poll_put(&mut self, alloc: Global, id: SegmentId, buffer: &ByteBuffer) -> CachePut
-        ensures { IsPut id buffer.now (cache self.old) (cache self.new) result };
+        ensures put { IsPut id buffer.now (cache self.old) (cache self.new) result }
+        ensures exact { puts self.old id buffer.now self.new result };
 }
 
 /// A cache of the segments of many files.
@@ -62,11 +73,23 @@ pub trait KeyedSegmentCache {
     /// The entries, what ended, the puts that found no memory, the faults and the turns.
     ghost cache: { Self → CacheState Key };
 
+    ghost use Rattle.std.specs.Prelude.{ℕ, List};
+    ghost use Rattle.scan_segments.specs.declared.cache.CacheGet.{CacheGet as Get};
+    ghost use Rattle.scan_segments.specs.declared.cache.CachePut.{CachePut as Put};
+
+    /// What a lookup of this type does: the cache before, the key, the cache after and the answer.
+    ghost gets: { Self → Key → Self → Get → Type 0 };
+
+    /// The same of a put of these bytes.
+    ghost puts: { Self → Key → List ℕ → Self → Put → Type 0 };
+
     /// Looks a key up.
     fn poll_get(&mut self, alloc: Global, key: &SegmentKey) -> CacheGet
-        ensures { IsGot key.now (cache self.old) (cache self.new) result };
+        ensures got { IsGot key.now (cache self.old) (cache self.new) result }
+        ensures exact { gets self.old key.now self.new result };
 
     /// Offers the bytes of a key.
     fn poll_put(&mut self, alloc: Global, key: &SegmentKey, buffer: &ByteBuffer) -> CachePut
-        ensures { IsPut key.now buffer.now (cache self.old) (cache self.new) result };
+        ensures put { IsPut key.now buffer.now (cache self.old) (cache self.new) result }
+        ensures exact { puts self.old key.now buffer.now self.new result };
 }

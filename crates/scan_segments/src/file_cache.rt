@@ -19,19 +19,36 @@ pub struct FileSegmentCache<'a> {
 impl<'a> SegmentCache for FileSegmentCache<'a> {
     ghost cache = { λ f. file_state f.key.source_id f.cache.now };
 
+    ghost gets = { λ f k g r. Gets (record { source_id = f.key.source_id; segment = k }) f.cache.now g.cache.now r };
+
+    ghost puts = { λ f k b g r. Puts (record {
+      source_id = f.key.source_id;
+      segment = k;
+    }) b f.cache.now g.cache.now r };
+
     fn poll_get(&mut self, alloc: Global, id: SegmentId) -> CacheGet
-        ensures got { IsGot id (file_state self.old.key.source_id self.old.cache.now) (file_state self.new.key.source_id self.new.cache.now) result }
-        ensures exact { Gets (record { source_id = self.old.key.source_id; segment = id }) self.old.cache.now self.new.cache.now result }
-        ensures file { (self.new.key.source_id ≡ self.old.key.source_id) × (self.new.cache.ghost_name ≡ self.old.cache.ghost_name) }
+        ensures got { IsGot id (file_state self.old.key.source_id self.old.cache.now)
+            (file_state self.new.key.source_id self.new.cache.now) result }
+        ensures exact { Gets (record {
+          source_id = self.old.key.source_id;
+          segment = id;
+        }) self.old.cache.now self.new.cache.now result }
+        ensures file { (self.new.key.source_id ≡ self.old.key.source_id)
+            × (self.new.cache.ghost_name ≡ self.old.cache.ghost_name) }
     {
         self.key.segment = id;
         self.cache.poll_get(alloc, &self.key)
     }
 
     fn poll_put(&mut self, alloc: Global, id: SegmentId, buffer: &ByteBuffer) -> CachePut
-        ensures put { IsPut id buffer.now (file_state self.old.key.source_id self.old.cache.now) (file_state self.new.key.source_id self.new.cache.now) result }
-        ensures exact { Puts (record { source_id = self.old.key.source_id; segment = id }) buffer.now self.old.cache.now self.new.cache.now result }
-        ensures file { (self.new.key.source_id ≡ self.old.key.source_id) × (self.new.cache.ghost_name ≡ self.old.cache.ghost_name) }
+        ensures put { IsPut id buffer.now (file_state self.old.key.source_id self.old.cache.now)
+            (file_state self.new.key.source_id self.new.cache.now) result }
+        ensures exact { Puts (record {
+          source_id = self.old.key.source_id;
+          segment = id;
+        }) buffer.now self.old.cache.now self.new.cache.now result }
+        ensures file { (self.new.key.source_id ≡ self.old.key.source_id)
+            × (self.new.cache.ghost_name ≡ self.old.cache.ghost_name) }
     {
         self.key.segment = id;
         self.cache.poll_put(alloc, &self.key, buffer)

@@ -4,7 +4,8 @@ ghost use Rattle.std.specs.Prelude.{◌≡◌};
 use crate::segment::{ByteBuffer, SegmentId};
 use std::marker::Model;
 
-/// The right to the answer of a shared request: a segment, and a number that no other holder of the table has at the time.
+/// The right to the answer of a shared request: a segment, and a number that no other holder of the table has at
+/// the time.
 #[derive(Debug, Drop)]
 pub struct Holder {
     id: SegmentId,
@@ -49,6 +50,14 @@ pub enum SharedAnswer {
     Failed(u64),
 }
 
+/// The kind of an answer: bytes, missing, or failed with the source's count of faults.
+#[derive(Clone, Copy, Debug, PartialEq, Eq)]
+pub enum SharedKind {
+    Bytes,
+    Missing,
+    Failed(u64),
+}
+
 /// What a poll of a shared request gives.
 #[derive(Drop)]
 pub enum SharedPolled {
@@ -65,4 +74,15 @@ pub enum SharedEvent<A> {
     Requested(SegmentId, u64),
     Arrived(SegmentId, A),
     Dropped(SegmentId, u64),
+}
+
+/// What a poll of a ticket gives. `NotHeld` is the answer for the ticket of another shared source.
+#[derive(Drop)]
+pub enum TicketPolled {
+    Pending,
+    Bytes(ByteBuffer),
+    Missing,
+    Failed(u64),
+    NoMemory,
+    NotHeld,
 }

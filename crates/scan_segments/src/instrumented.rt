@@ -8,7 +8,8 @@ use crate::segment::{ByteBuffer, SegmentId, SegmentKey};
 use std::alloc::Global;
 use std::marker::Model;
 
-/// A cache that passes each call on, and counts the hits, the lookups that missed or failed, and the puts that stored. Each count stops at the greatest u64.
+/// A cache that passes each call on, and counts the hits, the lookups that missed or failed, and the puts that
+/// stored. Each count stops at the greatest u64.
 #[derive(Drop)]
 pub struct InstrumentedSegmentCache<C> {
     cache: C,
@@ -84,9 +85,13 @@ impl<C> InstrumentedSegmentCache<C> {
 impl<C: KeyedSegmentCache> KeyedSegmentCache for InstrumentedSegmentCache<C> {
     ghost cache = { λ i. C.cache i.cache };
 
+    ghost gets = { λ i k j r. C.gets i.cache k j.cache r × CountsGet r i j };
+
+    ghost puts = { λ i k b j r. C.puts i.cache k b j.cache r × CountsPut r i j };
+
     fn poll_get(&mut self, alloc: Global, key: &SegmentKey) -> CacheGet
         ensures got { IsGot key.now (C.cache self.old.cache) (C.cache self.new.cache) result }
-        ensures counts { CountsGet result self.old self.new }
+        ensures exact { C.gets self.old.cache key.now self.new.cache result × CountsGet result self.old self.new }
     {
         let got = self.cache.poll_get(alloc, key);
         self.count_get(&got);
@@ -95,7 +100,8 @@ impl<C: KeyedSegmentCache> KeyedSegmentCache for InstrumentedSegmentCache<C> {
 
     fn poll_put(&mut self, alloc: Global, key: &SegmentKey, buffer: &ByteBuffer) -> CachePut
         ensures put { IsPut key.now buffer.now (C.cache self.old.cache) (C.cache self.new.cache) result }
-        ensures counts { CountsPut result self.old self.new }
+        ensures exact { C.puts self.old.cache key.now buffer.now self.new.cache result
+            × CountsPut result self.old self.new }
     {
         let put = self.cache.poll_put(alloc, key, buffer);
         self.count_put(put);
@@ -106,9 +112,13 @@ impl<C: KeyedSegmentCache> KeyedSegmentCache for InstrumentedSegmentCache<C> {
 impl<C: SegmentCache> SegmentCache for InstrumentedSegmentCache<C> {
     ghost cache = { λ i. C.cache i.cache };
 
+    ghost gets = { λ i k j r. C.gets i.cache k j.cache r × CountsGet r i j };
+
+    ghost puts = { λ i k b j r. C.puts i.cache k b j.cache r × CountsPut r i j };
+
     fn poll_get(&mut self, alloc: Global, id: SegmentId) -> CacheGet
         ensures got { IsGot id (C.cache self.old.cache) (C.cache self.new.cache) result }
-        ensures counts { CountsGet result self.old self.new }
+        ensures exact { C.gets self.old.cache id self.new.cache result × CountsGet result self.old self.new }
     {
         let got = self.cache.poll_get(alloc, id);
         self.count_get(&got);
@@ -117,7 +127,7 @@ impl<C: SegmentCache> SegmentCache for InstrumentedSegmentCache<C> {
 
     fn poll_put(&mut self, alloc: Global, id: SegmentId, buffer: &ByteBuffer) -> CachePut
         ensures put { IsPut id buffer.now (C.cache self.old.cache) (C.cache self.new.cache) result }
-        ensures counts { CountsPut result self.old self.new }
+        ensures exact { C.puts self.old.cache id buffer.now self.new.cache result × CountsPut result self.old self.new }
     {
         let put = self.cache.poll_put(alloc, id, buffer);
         self.count_put(put);

@@ -1,12 +1,21 @@
-//! What holds of every lawful list of events of a shared table.
-ghost use Rattle.std.specs.Prelude.{◌≡◌, ℕ, List, Some, true, is_some};
+//! What holds of every list of events of a shared table, and of every history of a shared source.
+ghost use Rattle.std.specs.Prelude.{List};
 ghost use Rattle.scan_segments.specs.declared.holder.SharedAnswer.{SharedAnswer as AnswerOf};
+ghost use Rattle.scan_segments.specs.declared.holder.SharedKind.{SharedKind as KindOf};
 ghost use Rattle.scan_segments.specs.declared.holder.SharedEvent.{SharedEvent as EventOf};
-ghost use Rattle.scan_segments.specs.Sharing.{answer_of};
-ghost use Rattle.scan_segments.specs.Past.{left_by, WasLawful, HeldSince, AnsweredSince};
+ghost use Rattle.scan_segments.specs.Past.{AreHeld, AreAnswered, AreJoined};
 
-/// An entry was held without a gap since the request that made it. Its answer is the one that arrived while that request was live.
+/// In the table that events leave, each entry was held without a gap since the request that made it, and each
+/// holder since its own. An answer is the one that arrived while that request was live.
 pub fn one_request_for_all()
-    ensures held { (past : List (EventOf AnswerOf)) (id : ℕ) → is_some (left_by past id) ≡ true → HeldSince past id }
-    ensures answered { (past : List (EventOf AnswerOf)) (id : ℕ) (a : AnswerOf) → WasLawful past → answer_of (left_by past id) ≡ Some a → AnsweredSince past id a }
+    ensures held { (events : List (EventOf AnswerOf)) → AreHeld events }
+    ensures answered { (events : List (EventOf AnswerOf)) → AreAnswered events }
+    ensures joined { (events : List (EventOf AnswerOf)) → AreJoined events }
+{}
+
+/// The same of a history, whose events keep the kinds of the answers.
+pub fn one_request_in_history()
+    ensures held { (events : List (EventOf KindOf)) → AreHeld events }
+    ensures answered { (events : List (EventOf KindOf)) → AreAnswered events }
+    ensures joined { (events : List (EventOf KindOf)) → AreJoined events }
 {}

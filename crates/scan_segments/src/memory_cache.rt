@@ -14,7 +14,8 @@ use std::alloc::Global;
 use std::collections::HashMap;
 use std::marker::Model;
 
-/// A cache of many files that keeps all that is put. It tells its entries, what ended, and how many puts found no memory.
+/// A cache of many files that keeps all that is put. It tells its entries, what ended, and how many puts found no
+/// memory.
 #[derive(Drop)]
 pub struct MemoryCache {
     entries: HashMap<SegmentKey, ByteBuffer>,
@@ -29,13 +30,30 @@ impl Model for MemoryCache {
 
     ghost Value = { KeptCache };
 
-    ghost view = { λ c. record { entries = c.entries.entries; script = c.script; ended = c.ended.items; short = c.short; faults = c.faults } };
+    ghost view = { λ c. record {
+      entries = c.entries.entries;
+      script = c.script;
+      ended = c.ended.items;
+      short = c.short;
+      faults = c.faults;
+    } };
 }
 
 impl MemoryCache {
-    /// An empty cache. Its lookups and puts are numbered together from 0: those in `failing` fail, and of the others those in `pending` are pending.
+    /// An empty cache. Its lookups and puts are numbered together from 0: those in `failing` fail, and of the
+    /// others those in `pending` are pending.
     pub fn new(alloc: Global, failing: StrictSorted, pending: StrictSorted) -> Self
-        ensures { result ≡ record { entries = []; script = record { failing = failing; pending = pending; next = Some 0 }; ended = []; short = 0; faults = 0 } }
+        ensures { result ≡ record {
+          entries = [];
+          script = record {
+            failing = failing;
+            pending = pending;
+            next = Some 0;
+          };
+          ended = [];
+          short = 0;
+          faults = 0;
+        } }
     {
         MemoryCache {
             entries: HashMap::new(alloc),
@@ -71,6 +89,10 @@ impl MemoryCache {
 
 impl KeyedSegmentCache for MemoryCache {
     ghost cache = { cache_state };
+
+    ghost gets = { λ c k d r. GetsMemory k c d r };
+
+    ghost puts = { λ c k b d r. PutsMemory k b c d r };
 
     fn poll_get(&mut self, alloc: Global, key: &SegmentKey) -> CacheGet
         ensures got { IsGot key.now (cache_state self.old) (cache_state self.new) result }

@@ -1,8 +1,11 @@
 //! A source in memory. Some of its polls fail or are pending, by their numbers.
 ghost use Rattle.std.specs.Prelude.{◌≡◌, ◌⊎◌, ◌++◌, ◌∷◌, [], List, ℕ, OnOk, OnErr, None, Some, not, ◌==◌};
 ghost use Rattle.std.specs.FinMap as map;
-ghost use Rattle.scan_segments.specs.MemorySource.{MemoryState, source_state, asked_also, polled_memory, answer_of};
-ghost use Rattle.scan_segments.specs.Source.{without, Begins, Stays, Ends};
+ghost use Rattle.std.specs.Ordering.{nat_cmp};
+ghost use Rattle.std.specs.BTreeSet.{insert_key};
+ghost use Rattle.scan_segments.specs.MemorySource.{MemoryState, source_state, asked_also, ended, PollsMemory};
+ghost use Rattle.scan_segments.specs.Sharing.{has};
+ghost use Rattle.scan_segments.specs.Source.{Begins, Stays, Ends, with_live, without_live};
 ghost use Rattle.scan_segments.specs.Polled.{IsPolled};
 ghost use Rattle.scan_segments.specs.Outcomes.{outcome_of};
 ghost use Rattle.scan_segments.specs.declared.script.Outcome.TheVariants as outcome;
@@ -10,19 +13,20 @@ ghost use Rattle.scan_segments.specs.declared.source.Polled.TheVariants as polle
 
 use crate::script::{Outcome, Script};
 use crate::segment::{ByteBuffer, SegmentId};
-use crate::source::{Fits, Polled, SegmentSource};
+use crate::source::{Fits, Polled, Polls, SegmentSource};
 use scan_values::{NoMemory, StrictSorted};
 use std::alloc::Global;
-use std::collections::BTreeMap;
+use std::collections::{BTreeMap, BTreeSet};
 use std::marker::Model;
 
-/// Segments in memory, as a source of them. Contracts see its segments, its script, what was asked, what is live and its faults.
+/// Segments in memory, as a source of them. Contracts see its segments, its script, what was asked, what is live
+/// and its faults.
 #[derive(Drop)]
 pub struct MemorySource {
     segments: BTreeMap<SegmentId, ByteBuffer>,
     script: Script,
     asked: Vec<SegmentId>,
-    live: Vec<SegmentId>,
+    live: BTreeSet<SegmentId>,
     faults: u64,
 }
 
@@ -34,24 +38,37 @@ impl Model for MemorySource {
 
     ghost coded = { memory_code };
 
-    ghost view = { λ a. record { segments = map.from_entries a.segments.entries; script = a.script; asked = a.asked.items; live = a.live.items; faults = a.faults } };
+    ghost view = { λ a. record {
+      segments = map.from_entries a.segments.entries;
+      script = a.script;
+      asked = a.asked.items;
+      live = a.live.keys;
+      faults = a.faults;
+    } };
 }
 
 impl MemorySource {
-    /// A source of these segments. Its polls are numbered from 0: those in `failing` fail, and of the others those in `pending` are pending.
+    /// A source of these segments. Its polls are numbered from 0: those in `failing` fail, and of the others those
+    /// in `pending` are pending.
     pub fn new(
         alloc: Global,
         segments: BTreeMap<SegmentId, ByteBuffer>,
         failing: StrictSorted,
         pending: StrictSorted,
     ) -> Self
-        ensures { result ≡ record { segments = map.from_entries segments.entries; script = record { failing = failing; pending = pending; next = Some 0 }; asked = []; live = []; faults = 0 } }
+        ensures { result ≡ record {
+          segments = map.from_entries segments.entries;
+          script = record { failing = failing; pending = pending; next = Some 0 };
+          asked = [];
+          live = [];
+          faults = 0;
+        } }
     {
         MemorySource {
             segments,
             script: Script::new(failing, pending),
             asked: Vec::new(alloc),
-            live: Vec::new(alloc),
+            live: BTreeSet::new(alloc),
             faults: 0,
         }
     }
@@ -64,10 +81,10 @@ impl MemorySource {
     }
 
     /// The ids with a request that has not ended.
-    pub fn live(&self) -> &[SegmentId]
-        ensures { result.now ≡ self.now.live }
+    pub fn live(&self) -> &BTreeSet<SegmentId>
+        ensures { result.now.keys ≡ self.now.live }
     {
-        self.live.as_slice()
+        &self.live
     }
 
     /// How many polls failed, up to the greatest u64.
@@ -78,7 +95,8 @@ impl MemorySource {
     }
 
     fn end(&mut self, id: SegmentId)
-        ensures { self.new ≡ record self.old { live = without id self.old.live } }
+        ensures after { self.new ≡ record self.old { live = ended id self.old.live } }
+        ensures live { (λ k. has k (ended id self.old.live)) ≡ without_live id (λ k. has k self.old.live) }
     {
         drop_id(&mut self.live, id);
     }
@@ -86,6 +104,10 @@ impl MemorySource {
 
 impl Fits for MemorySource {
     ghost fits = { λ id bytes. Unit {0} };
+}
+
+impl Polls for MemorySource {
+    ghost polls = { λ s id t r. PollsMemory id s t r };
 }
 
 impl SegmentSource for MemorySource {
@@ -97,16 +119,15 @@ impl SegmentSource for MemorySource {
         ensures asked { OnOk result (self.new ≡ asked_also id self.old) }
         ensures refused { OnErr result (self.new ≡ self.old) }
     {
-        self.live.reserve(1)?;
-        self.asked.push(id)?;
-        self.live.push_reserved(id);
+        self.asked.reserve(1)?;
+        add_id(&mut self.live, id)?;
+        self.asked.push_reserved(id);
         Ok(())
     }
 
     fn poll_segment(&mut self, alloc: Global, id: SegmentId) -> Polled
         ensures polled { IsPolled (λ id bytes. Unit {0}) id (source_state self.old) (source_state self.new) result }
-        ensures answer { (result ≡ answer_of id self.old) ⊎ ((result ≡ polled.NoMemory) × (outcome_of self.old.script ≡ outcome.Goes)) }
-        ensures after { self.new ≡ polled_memory id result self.old }
+        ensures exact { PollsMemory id self.old self.new result }
     {
         match self.script.step() {
             Outcome::Fails => {
@@ -130,7 +151,7 @@ impl SegmentSource for MemorySource {
 
     fn drop_request(&mut self, id: SegmentId)
         ensures ends { Ends id (source_state self.old) (source_state self.new) }
-        ensures after { self.new ≡ record self.old { live = without id self.old.live } }
+        ensures after { self.new ≡ record self.old { live = ended id self.old.live } }
     {
         self.end(id);
     }
@@ -140,12 +161,23 @@ impl SegmentSource for MemorySource {
     }
 }
 
-pub(crate) fn drop_id(ids: &mut Vec<SegmentId>, id: SegmentId)
-    ensures { ids.new.items ≡ without id ids.old.items }
+// One more id of a set.
+fn add_id(ids: &mut BTreeSet<SegmentId>, id: SegmentId) -> Result<(), NoMemory>
+    ensures ok { OnOk result (ids.new.keys ≡ insert_key nat_cmp ids.old.keys id) }
+    ensures live { OnOk result ((λ k. has k (insert_key nat_cmp ids.old.keys id)) ≡ with_live id
+        (λ k. has k ids.old.keys)) }
+    ensures err { OnErr result (ids.new.keys ≡ ids.old.keys) }
 {
-    ids.retain(
-        |k: &SegmentId| -> bool
-            ensures { result ≡ not (k.now == id) }
-        { *k != id },
-    );
+    match ids.insert(id) {
+        Ok(_) => Ok(()),
+        Err(_) => Err(NoMemory),
+    }
+}
+
+// The id out of a set.
+fn drop_id(ids: &mut BTreeSet<SegmentId>, id: SegmentId)
+    ensures keys { ids.new.keys ≡ ended id ids.old.keys }
+    ensures live { (λ k. has k (ended id ids.old.keys)) ≡ without_live id (λ k. has k ids.old.keys) }
+{
+    ids.remove(&id);
 }

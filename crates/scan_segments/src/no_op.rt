@@ -22,16 +22,20 @@ impl NoOpSegmentCache {
 impl KeyedSegmentCache for NoOpSegmentCache {
     ghost cache = { λ s. empty_cache };
 
+    ghost gets = { λ s k t r. r ≡ get.Miss };
+
+    ghost puts = { λ s k b t r. r ≡ put.Passed };
+
     fn poll_get(&mut self, alloc: Global, key: &SegmentKey) -> CacheGet
         ensures got { IsGot key.now empty_cache empty_cache result }
-        ensures miss { result ≡ get.Miss }
+        ensures exact { result ≡ get.Miss }
     {
         CacheGet::Miss
     }
 
     fn poll_put(&mut self, alloc: Global, key: &SegmentKey, buffer: &ByteBuffer) -> CachePut
         ensures put { IsPut key.now buffer.now empty_cache empty_cache result }
-        ensures passes { result ≡ put.Passed }
+        ensures exact { result ≡ put.Passed }
     {
         CachePut::Passed
     }
@@ -40,16 +44,20 @@ impl KeyedSegmentCache for NoOpSegmentCache {
 impl SegmentCache for NoOpSegmentCache {
     ghost cache = { λ s. empty_cache };
 
+    ghost gets = { λ s k t r. r ≡ get.Miss };
+
+    ghost puts = { λ s k b t r. r ≡ put.Passed };
+
     fn poll_get(&mut self, alloc: Global, id: SegmentId) -> CacheGet
         ensures got { IsGot id empty_cache empty_cache result }
-        ensures miss { result ≡ get.Miss }
+        ensures exact { result ≡ get.Miss }
     {
         CacheGet::Miss
     }
 
     fn poll_put(&mut self, alloc: Global, id: SegmentId, buffer: &ByteBuffer) -> CachePut
         ensures put { IsPut id buffer.now empty_cache empty_cache result }
-        ensures passes { result ≡ put.Passed }
+        ensures exact { result ≡ put.Passed }
     {
         CachePut::Passed
     }

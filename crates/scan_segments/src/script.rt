@@ -14,7 +14,8 @@ pub enum Outcome {
     Fails,
 }
 
-/// The numbers of the calls that fail and of those that are pending, and the number of the next call. Past the greatest u64 a call has no number, and neither fails nor is pending.
+/// The numbers of the calls that fail and of those that are pending, and the number of the next call. Past the
+/// greatest u64 a call has no number, and neither fails nor is pending.
 #[derive(Drop)]
 pub struct Script {
     failing: StrictSorted,

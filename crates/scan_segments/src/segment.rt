@@ -1,5 +1,6 @@
 //! The numbers of segments, the names of sources, and shared bytes. After the Rust's `segments`.
 ghost use Rattle.std.specs.Prelude.{◌≡◌, ◌<◌, ◌≤◌, ◌^◌, ◌↔◌, List, ℕ, IfOk, IsTrue, is_ok, string_bytes};
+ghost use Rattle.scan_segments.specs.Digest.{digest as digest_of};
 
 use scan_values::NoMemory;
 use std::alloc::Global;
@@ -63,15 +64,22 @@ impl Deref for SegmentId {
 }
 
 impl fmt::Display for SegmentId {
+    ghost use Rattle.std.specs.Prelude.{Some, ◌++◌, codes};
+    ghost use Rattle.std.specs.Fmt.{decimal};
+
+    ghost output = { λ n. Some (codes "SegmentId(" ++ (decimal n ++ codes ")")) };
+
     fn fmt<W: fmt::Write>(&self, f: &mut fmt::Formatter<W>) -> fmt::Result {
         write!(f, "SegmentId({})", self.0)
     }
 }
 
-/// The name of a source, which its holders share. Contracts see the bytes of its text.
+/// The name of a source, which its holders share. It is hashed by a number that is made of its text once, so a lookup in a
+/// cache hashes no text. Contracts see the bytes of the text.
 #[derive(Debug, Drop)]
 pub struct SegmentSourceId {
     text: Arc<String>,
+    digest: u64,
 }
 
 impl Model for SegmentSourceId {
@@ -81,6 +89,11 @@ impl Model for SegmentSourceId {
     ghost Value = { List ℕ };
 
     ghost view = { λ s. string_bytes (arc_value s.text) };
+
+    ghost use Rattle.std.specs.Prelude.{◌≡◌};
+    ghost use Rattle.scan_segments.specs.Digest.{digest as digest_of};
+
+    ghost invariant = { λ s. s.digest ≡ digest_of (string_bytes (arc_value s.text)) };
 }
 
 impl PartialEq for SegmentSourceId {
@@ -107,13 +120,14 @@ impl Hash for SegmentSourceId {
     ghost use Rattle.std.specs.Hash as fed;
     ghost use Rattle.std.specs.Cmp.Rules.{hashing};
     ghost use Rattle.std.proofs.Common.{rules};
+    ghost use Rattle.scan_segments.specs.Digest.{digest as digest_of};
 
-    ghost hash_input = { fed.str };
+    ghost hash_input = { λ s. fed.u64 (digest_of s) };
 
     ghost respects_eq = { Prim.search (hashing, rules) };
 
     fn hash<H: Hasher>(&self, state: &mut H) {
-        self.text.hash(state);
+        self.digest.hash(state);
     }
 }
 
@@ -122,8 +136,10 @@ impl SegmentSourceId {
     pub fn new(alloc: Global, id: String) -> Result<SegmentSourceId, NoMemory>
         ensures { IfOk result (λ s. s ≡ string_bytes id) }
     {
+        let digest = digest(id.as_bytes());
         Ok(SegmentSourceId {
             text: Arc::new(alloc, id)?,
+            digest,
         })
     }
 
@@ -140,8 +156,22 @@ impl SegmentSourceId {
     {
         Ok(SegmentSourceId {
             text: Arc::try_clone(&self.text)?,
+            digest: self.digest,
         })
     }
+}
+
+// The number that stands for a text where it is hashed.
+fn digest(bytes: &[u8]) -> u64
+    ensures { result ≡ digest_of bytes.now }
+{
+    let mut made: u64 = 0;
+    for byte in bytes {
+        made = made
+            .wrapping_mul(1099511628211)
+            .wrapping_add(u64::from(*byte));
+    }
+    made
 }
 
 /// A segment of a named source.

@@ -1,5 +1,5 @@
-use Rattle.scan_segments.proofs.Pasts.{held_since, answered_since}
+use Rattle.scan_segments.proofs.Replayed.{are_held, are_answered, are_joined}
 use Rattle.scan_segments.proofs.laws.one_request_for_all.Goals as goal
 
 pub returns : goal.returns
-returns c = record { held = held_since; answered = answered_since }
+returns c = record { held = are_held; answered = are_answered; joined = are_joined }

@@ -1,7 +1,9 @@
-use Rattle.std.proofs.Common.{rules, not}
-use Rattle.std.specs.Prelude.{◌==◌}
-use Rattle.std.proofs.lemmas.Fn.{filter_same}
+use Rattle.std.proofs.Common.{ℕ, List, Bool, false, sym, ap, ◌∙◌}
+use Rattle.scan_segments.specs.Sharing.{has}
+use Rattle.scan_segments.proofs.LiveSets.{set-live}
 use Rattle.scan_segments.proofs.memory_source.drop_id.Goals as goal
 
-pub returns : goal.returns
-returns c = filter_same _ (λ k. not (k == c.args.id)) _ (λ x b f' r. search rules) _ _ c.retain.ensures.filtered
+pub returns-clause-live : goal.returns-clause-live
+returns-clause-live c =
+    let seen : List ℕ → ℕ → Bool = λ ks k. has k ks in
+    ap seen (sym c.remove.ensures.keys) ∙ set-live c.args.id false c.args.ids.now.keys _ c.remove.ensures.updates.0

@@ -1,21 +1,17 @@
-use Rattle.std.proofs.Common.{◌∷◌, [], length, length-append, ap, refl, arith}
-use Rattle.scan_segments.proofs.Tables.{placed, same_entries, owed-set, in_range}
-use Rattle.scan_segments.proofs.Entries.{joins_place}
+use Rattle.std.proofs.Common.{ap, sym}
+use Rattle.std.specs.Prelude.{is_some}
+use Rattle.scan_segments.proofs.TableSteps.{joins_ok, joins_err, joins_owed}
 use Rattle.scan_segments.proofs.shared.join_entry.Goals as goal
 
-pub returns-in-Ok-clause-ok : goal.returns-in-Ok-clause-ok
-returns-in-Ok-clause-ok c =
-    let e = c.index_mut-entry.result.now in
-    joins_place _ _ _ _ e _ (placed c.args.id c.args.at c.args.entries.now.items e c.requires c.index_mut-entry.ensures.value) refl c.in-Ok.ensures.items refl
+pub returns-clause-ok : goal.returns-clause-ok
+returns-clause-ok c =
+    joins_ok c.join.result c.args.id c.args.number c.in-Some.entry.now c.join.new.self c.args.entries.now.entries _ (sym c.in-Some.ensures.value) c.join.ensures.ok
+    ((c.get_mut.follows.holds c.join.new.self).3 (sym (ap is_some c.in-Some.ensures.value))).0
 
-pub returns-in-Err-clause-err : goal.returns-in-Err-clause-err
-returns-in-Err-clause-err c =
-    let e = c.index_mut-entry.result.now in
-    same_entries c.args.entries.now.items c.args.at e _ c.index_mut-entry.ensures.value (ap (λ ns. (e.id, record { holders = ns; answer = e.answer })) c.in-Err.ensures.items)
+pub returns-clause-err : goal.returns-clause-err
+returns-clause-err c =
+    joins_err c.join.result c.args.id c.in-Some.entry.now c.join.new.self c.args.entries.now.entries _ (sym c.in-Some.ensures.value) c.join.ensures.err (c.get_mut.follows.holds c.join.new.self).0
 
-pub returns-in-Ok-clause-owed : goal.returns-in-Ok-clause-owed
-returns-in-Ok-clause-owed c =
-    let e = c.index_mut-entry.result.now in
-    let s = owed-set c.args.entries.now.items c.args.at e (record { id = e.id; holders = c.push.new.self; answer = e.answer }) (in_range c.args.id c.args.at c.args.entries.now.items c.requires) c.index_mut-entry.ensures.value in
-    let l = ap length c.in-Ok.ensures.items in
-    omega (arith, length-append e.holders.items (c.args.number ∷ []))
+pub returns-clause-owed : goal.returns-clause-owed
+returns-clause-owed c =
+    joins_owed c.join.result c.args.id c.args.number c.in-Some.entry.now c.join.new.self c.args.entries.now.entries _ (sym c.in-Some.ensures.value) c.join.ensures.ok (c.get_mut.follows.holds c.join.new.self).0

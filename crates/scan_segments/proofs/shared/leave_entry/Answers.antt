@@ -1,114 +1,63 @@
-use Rattle.std.proofs.Common.{◌≡◌, ◌+◌, ◌<◌, ◌≤◌, [], true, false, List, set, length, cond, ap, sym, ◌∙◌, subst, refl}
-use Rattle.scan_segments.specs.declared.shared.Entry.{Entry}
-use Rattle.scan_segments.specs.Source.{without}
-use Rattle.scan_segments.specs.Sharing.{owed, entry_at, without_holder, is_live, kept, Same}
-use Rattle.scan_segments.specs.SharedTables.{entries_of}
-use Rattle.scan_segments.proofs.Tables.{placed, in_range, IsLeft, some_left, none_left, none_is, is_some_kept}
-use Rattle.scan_segments.proofs.Entries.{there, stays_step, ends_step, stays_owed, ends_owed}
-use Rattle.scan_segments.proofs.Agrees.{agrees_stay, agrees_last, contains}
+use Rattle.std.proofs.Common.{◌≡◌, true, false, Some, None, ap, sym, ◌∙◌, refl, arith}
+use Rattle.scan_segments.specs.Sharing.{entry_at, is_live}
+use Rattle.scan_segments.specs.SharedTables.{without_number}
+use Rattle.scan_segments.proofs.Slots.{here, leaves, left_some, left_none, moves_twice}
+use Rattle.scan_segments.proofs.TableSteps.{stays_agree, ends_agree, live_without}
 use Rattle.scan_segments.proofs.shared.leave_entry.Goals as goal
 
-pub returns-then-not-is_empty-clause-step : goal.returns-then-not-is_empty-clause-step
-returns-then-not-is_empty-clause-step g c =
-    let e : Entry = c.index_mut-entry.result.now in
-    let es : List Entry = c.args.entries.now.items in
-    let e' : Entry = record { id = e.id; holders = c.leave.new.holders; answer = e.answer } in
-    let p = placed c.args.id c.args.at es e c.requires.there c.index_mut-entry.ensures.value in
-    let l : IsLeft c.args.id c.args.at c.args.number es e e' = record { placed = p; same_id = refl; holders = c.leave.ensures; answer = refl } in
-    let some : 0 < length c.leave.new.holders.items = some_left c.is_empty.result c.leave.new.holders.len c.leave.new.holders.items c.leave.new.holders.ok.0 c.is_empty.ensures c.if-not-is_empty.true in
-    stays_step c.args.id c.args.at c.args.number es e e' l some
+pub returns-then-take_holder-clause-step : goal.returns-then-take_holder-clause-step
+returns-then-take_holder-clause-step g c =
+    let es = c.args.entries.now.entries in
+    leaves c.args.id c.args.number _ es c.take_holder.new.entries.entries (left_some c.args.number (entry_at es c.args.id) c.requires.held (sym c.take_holder.ensures.others ∙ c.if-take_holder.true)) c.take_holder.ensures.moves
 
-pub returns-then-not-is_empty-clause-agree : goal.returns-then-not-is_empty-clause-agree
-returns-then-not-is_empty-clause-agree g c =
-    let e : Entry = c.index_mut-entry.result.now in
-    let es : List Entry = c.args.entries.now.items in
-    let e' : Entry = record { id = e.id; holders = c.leave.new.holders; answer = e.answer } in
-    let p = placed c.args.id c.args.at es e c.requires.there c.index_mut-entry.ensures.value in
-    let l : IsLeft c.args.id c.args.at c.args.number es e e' = record { placed = p; same_id = refl; holders = c.leave.ensures; answer = refl } in
-    let some : 0 < length c.leave.new.holders.items = some_left c.is_empty.result c.leave.new.holders.len c.leave.new.holders.items c.leave.new.holders.ok.0 c.is_empty.ensures c.if-not-is_empty.true in
-    agrees_stay (g.S.SegmentSource.state c.args.source.now).live (entry_at (entries_of es)) (entry_at (entries_of (set es c.args.at e'))) c.args.number c.args.id _ c.requires.agree (there c.args.id c.args.at es e p)
-    (is_some_kept (without c.args.number e.holders.items) e.answer (subst (λ ns. 0 < length ns) c.leave.ensures some)) (stays_step c.args.id c.args.at c.args.number es e e' l some)
-
-pub returns-then-not-is_empty-clause-owed : goal.returns-then-not-is_empty-clause-owed
-returns-then-not-is_empty-clause-owed g c =
-    let e : Entry = c.index_mut-entry.result.now in
-    let es : List Entry = c.args.entries.now.items in
-    let e' : Entry = record { id = e.id; holders = c.leave.new.holders; answer = e.answer } in
-    let p = placed c.args.id c.args.at es e c.requires.there c.index_mut-entry.ensures.value in
-    let l : IsLeft c.args.id c.args.at c.args.number es e e' = record { placed = p; same_id = refl; holders = c.leave.ensures; answer = refl } in
-    stays_owed c.args.id c.args.at c.args.number es e e' l (in_range c.args.id c.args.at es c.requires.there) c.index_mut-entry.ensures.value c.requires.held
+pub returns-then-take_holder-clause-agree : goal.returns-then-take_holder-clause-agree
+returns-then-take_holder-clause-agree g c =
+    let es = c.args.entries.now.entries in
+    let others = sym c.take_holder.ensures.others ∙ c.if-take_holder.true in
+    stays_agree (g.S.SegmentSource.state c.args.source.now).live c.args.id c.args.number es c.take_holder.new.entries.entries c.requires.agree c.requires.held others
+    (leaves c.args.id c.args.number _ es c.take_holder.new.entries.entries (left_some c.args.number (entry_at es c.args.id) c.requires.held others) c.take_holder.ensures.moves)
 
 pub drop_request-requires : goal.drop_request-requires
 drop_request-requires g c =
-    let e : Entry = c.index_mut-entry.result.now in
-    let es : List Entry = c.args.entries.now.items in
-    let e' : Entry = record { id = e.id; holders = c.leave.new.holders; answer = e.answer } in
-    let p = placed c.args.id c.args.at es e c.requires.there c.index_mut-entry.ensures.value in
-    let l : IsLeft c.args.id c.args.at c.args.number es e e' = record { placed = p; same_id = refl; holders = c.leave.ensures; answer = refl } in
-    contains c.args.id _ (c.requires.agree c.args.id ∙ ap is_live (there c.args.id c.args.at es e p) ∙ none_is c.is_none-is_live.result true e.answer c.is_none-is_live.ensures c.if-is_live.true)
+    let es = c.args.entries.now.entries in
+    c.requires.agree c.args.id ∙ sym (live_without c.args.number (entry_at es c.args.id) c.requires.held)
+    ∙ sym (ap is_live (here c.args.id (Some (without_number c.args.number (entry_at es c.args.id))) es c.take_holder.new.entries.entries c.take_holder.ensures.moves)) ∙ sym c.end_entry.ensures.live ∙ c.if-end_entry.true
 
-pub returns-then-is_live-clause-step : goal.returns-then-is_live-clause-step
-returns-then-is_live-clause-step g c =
-    let e : Entry = c.index_mut-entry.result.now in
-    let es : List Entry = c.args.entries.now.items in
-    let e' : Entry = record { id = e.id; holders = c.leave.new.holders; answer = e.answer } in
-    let p = placed c.args.id c.args.at es e c.requires.there c.index_mut-entry.ensures.value in
-    let l : IsLeft c.args.id c.args.at c.args.number es e e' = record { placed = p; same_id = refl; holders = c.leave.ensures; answer = refl } in
-    let none : c.leave.new.holders.items ≡ [] = none_left c.is_empty.result c.leave.new.holders.len c.leave.new.holders.items c.leave.new.holders.ok.0 c.is_empty.ensures c.if-not-is_empty.false in
-    let end : Same (entry_at (entries_of c.remove_entries.new.entries.items)) (without_holder c.args.number c.args.id (entry_at (entries_of es))) = subst (λ xs. Same (entry_at (entries_of xs)) (without_holder c.args.number c.args.id (entry_at (entries_of es)))) (sym c.remove_entries.ensures) (ends_step c.args.id c.args.at c.args.number es e e' l none) in
-    end
+pub returns-then-end_entry-clause-step : goal.returns-then-end_entry-clause-step
+returns-then-end_entry-clause-step g c =
+    let es = c.args.entries.now.entries in
+    leaves c.args.id c.args.number None es c.end_entry.new.entries.entries (left_none c.args.number (entry_at es c.args.id) (sym c.take_holder.ensures.others ∙ c.if-take_holder.false))
+    (moves_twice c.args.id None (Some (without_number c.args.number (entry_at es c.args.id))) es c.take_holder.new.entries.entries c.end_entry.new.entries.entries c.take_holder.ensures.moves c.end_entry.ensures.moves)
 
-pub returns-then-is_live-clause-agree : goal.returns-then-is_live-clause-agree
-returns-then-is_live-clause-agree g c =
-    let e : Entry = c.index_mut-entry.result.now in
-    let es : List Entry = c.args.entries.now.items in
-    let e' : Entry = record { id = e.id; holders = c.leave.new.holders; answer = e.answer } in
-    let p = placed c.args.id c.args.at es e c.requires.there c.index_mut-entry.ensures.value in
-    let l : IsLeft c.args.id c.args.at c.args.number es e e' = record { placed = p; same_id = refl; holders = c.leave.ensures; answer = refl } in
-    let none : c.leave.new.holders.items ≡ [] = none_left c.is_empty.result c.leave.new.holders.len c.leave.new.holders.items c.leave.new.holders.ok.0 c.is_empty.ensures c.if-not-is_empty.false in
-    let end : Same (entry_at (entries_of c.remove_entries.new.entries.items)) (without_holder c.args.number c.args.id (entry_at (entries_of es))) = subst (λ xs. Same (entry_at (entries_of xs)) (without_holder c.args.number c.args.id (entry_at (entries_of es)))) (sym c.remove_entries.ensures) (ends_step c.args.id c.args.at c.args.number es e e' l none) in
-    let dead = none_is c.is_none-is_live.result true e.answer c.is_none-is_live.ensures c.if-is_live.true in
-    agrees_last (g.S.SegmentSource.state c.args.source.now).live (g.S.SegmentSource.state c.drop_request.new.self).live (entry_at (entries_of es)) (entry_at (entries_of c.remove_entries.new.entries.items)) c.args.number c.args.id _ c.requires.agree (there c.args.id c.args.at es e p)
-    (ap (λ ns. kept ns e.answer) (sym c.leave.ensures ∙ none)) end (c.drop_request.ensures.live ∙ ap (λ b. cond b (without c.args.id (g.S.SegmentSource.state c.args.source.now).live) (g.S.SegmentSource.state c.args.source.now).live) (sym dead))
+pub returns-else-end_entry-clause-step : goal.returns-else-end_entry-clause-step
+returns-else-end_entry-clause-step g c =
+    let es = c.args.entries.now.entries in
+    leaves c.args.id c.args.number None es c.end_entry.new.entries.entries (left_none c.args.number (entry_at es c.args.id) (sym c.take_holder.ensures.others ∙ c.if-take_holder.false))
+    (moves_twice c.args.id None (Some (without_number c.args.number (entry_at es c.args.id))) es c.take_holder.new.entries.entries c.end_entry.new.entries.entries c.take_holder.ensures.moves c.end_entry.ensures.moves)
 
-pub returns-then-is_live-clause-owed : goal.returns-then-is_live-clause-owed
-returns-then-is_live-clause-owed g c =
-    let e : Entry = c.index_mut-entry.result.now in
-    let es : List Entry = c.args.entries.now.items in
-    let e' : Entry = record { id = e.id; holders = c.leave.new.holders; answer = e.answer } in
-    let p = placed c.args.id c.args.at es e c.requires.there c.index_mut-entry.ensures.value in
-    let l : IsLeft c.args.id c.args.at c.args.number es e e' = record { placed = p; same_id = refl; holders = c.leave.ensures; answer = refl } in
-    subst (λ xs. owed (entries_of xs) + 1 ≤ owed (entries_of es)) (sym c.remove_entries.ensures) (ends_owed c.args.id c.args.at c.args.number es e e' l (in_range c.args.id c.args.at es c.requires.there) c.index_mut-entry.ensures.value c.requires.held)
+pub returns-then-end_entry-clause-agree : goal.returns-then-end_entry-clause-agree
+returns-then-end_entry-clause-agree g c =
+    let es = c.args.entries.now.entries in
+    let others = sym c.take_holder.ensures.others ∙ c.if-take_holder.false in
+    let live : is_live (entry_at es c.args.id) ≡ true = sym (live_without c.args.number (entry_at es c.args.id) c.requires.held) ∙ sym (ap is_live (here c.args.id (Some (without_number c.args.number (entry_at es c.args.id))) es c.take_holder.new.entries.entries c.take_holder.ensures.moves)) ∙ sym c.end_entry.ensures.live ∙ c.if-end_entry.true in
+    ends_agree (g.S.SegmentSource.state c.args.source.now).live (g.S.SegmentSource.state c.drop_request.new.self).live c.args.id c.args.number true es c.end_entry.new.entries.entries c.requires.agree c.requires.held others live c.drop_request.ensures.live
+    (leaves c.args.id c.args.number None es c.end_entry.new.entries.entries (left_none c.args.number (entry_at es c.args.id) others)
+    (moves_twice c.args.id None (Some (without_number c.args.number (entry_at es c.args.id))) es c.take_holder.new.entries.entries c.end_entry.new.entries.entries c.take_holder.ensures.moves c.end_entry.ensures.moves))
 
-pub returns-else-is_live-clause-step : goal.returns-else-is_live-clause-step
-returns-else-is_live-clause-step g c =
-    let e : Entry = c.index_mut-entry.result.now in
-    let es : List Entry = c.args.entries.now.items in
-    let e' : Entry = record { id = e.id; holders = c.leave.new.holders; answer = e.answer } in
-    let p = placed c.args.id c.args.at es e c.requires.there c.index_mut-entry.ensures.value in
-    let l : IsLeft c.args.id c.args.at c.args.number es e e' = record { placed = p; same_id = refl; holders = c.leave.ensures; answer = refl } in
-    let none : c.leave.new.holders.items ≡ [] = none_left c.is_empty.result c.leave.new.holders.len c.leave.new.holders.items c.leave.new.holders.ok.0 c.is_empty.ensures c.if-not-is_empty.false in
-    let end : Same (entry_at (entries_of c.remove_entries.new.entries.items)) (without_holder c.args.number c.args.id (entry_at (entries_of es))) = subst (λ xs. Same (entry_at (entries_of xs)) (without_holder c.args.number c.args.id (entry_at (entries_of es)))) (sym c.remove_entries.ensures) (ends_step c.args.id c.args.at c.args.number es e e' l none) in
-    end
+pub returns-else-end_entry-clause-agree : goal.returns-else-end_entry-clause-agree
+returns-else-end_entry-clause-agree g c =
+    let es = c.args.entries.now.entries in
+    let others = sym c.take_holder.ensures.others ∙ c.if-take_holder.false in
+    let live : is_live (entry_at es c.args.id) ≡ false = sym (live_without c.args.number (entry_at es c.args.id) c.requires.held) ∙ sym (ap is_live (here c.args.id (Some (without_number c.args.number (entry_at es c.args.id))) es c.take_holder.new.entries.entries c.take_holder.ensures.moves)) ∙ sym c.end_entry.ensures.live ∙ c.if-end_entry.false in
+    ends_agree (g.S.SegmentSource.state c.args.source.now).live (g.S.SegmentSource.state c.args.source.now).live c.args.id c.args.number false es c.end_entry.new.entries.entries c.requires.agree c.requires.held others live refl
+    (leaves c.args.id c.args.number None es c.end_entry.new.entries.entries (left_none c.args.number (entry_at es c.args.id) others)
+    (moves_twice c.args.id None (Some (without_number c.args.number (entry_at es c.args.id))) es c.take_holder.new.entries.entries c.end_entry.new.entries.entries c.take_holder.ensures.moves c.end_entry.ensures.moves))
 
-pub returns-else-is_live-clause-agree : goal.returns-else-is_live-clause-agree
-returns-else-is_live-clause-agree g c =
-    let e : Entry = c.index_mut-entry.result.now in
-    let es : List Entry = c.args.entries.now.items in
-    let e' : Entry = record { id = e.id; holders = c.leave.new.holders; answer = e.answer } in
-    let p = placed c.args.id c.args.at es e c.requires.there c.index_mut-entry.ensures.value in
-    let l : IsLeft c.args.id c.args.at c.args.number es e e' = record { placed = p; same_id = refl; holders = c.leave.ensures; answer = refl } in
-    let none : c.leave.new.holders.items ≡ [] = none_left c.is_empty.result c.leave.new.holders.len c.leave.new.holders.items c.leave.new.holders.ok.0 c.is_empty.ensures c.if-not-is_empty.false in
-    let end : Same (entry_at (entries_of c.remove_entries.new.entries.items)) (without_holder c.args.number c.args.id (entry_at (entries_of es))) = subst (λ xs. Same (entry_at (entries_of xs)) (without_holder c.args.number c.args.id (entry_at (entries_of es)))) (sym c.remove_entries.ensures) (ends_step c.args.id c.args.at c.args.number es e e' l none) in
-    let dead = none_is c.is_none-is_live.result false e.answer c.is_none-is_live.ensures c.if-is_live.false in
-    agrees_last (g.S.SegmentSource.state c.args.source.now).live (g.S.SegmentSource.state c.args.source.now).live (entry_at (entries_of es)) (entry_at (entries_of c.remove_entries.new.entries.items)) c.args.number c.args.id _ c.requires.agree (there c.args.id c.args.at es e p)
-    (ap (λ ns. kept ns e.answer) (sym c.leave.ensures ∙ none)) end (refl ∙ ap (λ b. cond b (without c.args.id (g.S.SegmentSource.state c.args.source.now).live) (g.S.SegmentSource.state c.args.source.now).live) (sym dead))
+pub returns-then-take_holder-clause-owed : goal.returns-then-take_holder-clause-owed
+returns-then-take_holder-clause-owed g c = c.take_holder.ensures.owed
 
-pub returns-else-is_live-clause-owed : goal.returns-else-is_live-clause-owed
-returns-else-is_live-clause-owed g c =
-    let e : Entry = c.index_mut-entry.result.now in
-    let es : List Entry = c.args.entries.now.items in
-    let e' : Entry = record { id = e.id; holders = c.leave.new.holders; answer = e.answer } in
-    let p = placed c.args.id c.args.at es e c.requires.there c.index_mut-entry.ensures.value in
-    let l : IsLeft c.args.id c.args.at c.args.number es e e' = record { placed = p; same_id = refl; holders = c.leave.ensures; answer = refl } in
-    subst (λ xs. owed (entries_of xs) + 1 ≤ owed (entries_of es)) (sym c.remove_entries.ensures) (ends_owed c.args.id c.args.at c.args.number es e e' l (in_range c.args.id c.args.at es c.requires.there) c.index_mut-entry.ensures.value c.requires.held)
+pub returns-then-end_entry-clause-owed : goal.returns-then-end_entry-clause-owed
+returns-then-end_entry-clause-owed g c = omega (arith, c.take_holder.ensures.owed, c.end_entry.ensures.owed)
+
+pub returns-else-end_entry-clause-owed : goal.returns-else-end_entry-clause-owed
+returns-else-end_entry-clause-owed g c = omega (arith, c.take_holder.ensures.owed, c.end_entry.ensures.owed)

@@ -1,20 +1,10 @@
-use Rattle.std.proofs.Common.{◌≡◌, None, ap, sym, subst}
-use Rattle.scan_segments.specs.Sharing.{entry_at, is_held}
-use Rattle.scan_segments.specs.SharedTables.{entries_of}
-use Rattle.scan_segments.proofs.Entries.{absent}
 use Rattle.scan_segments.proofs.Numbers.{below_polled}
 use Rattle.scan_segments.proofs.shared.SharedTable.poll.Goals as goal
 
-pub unreachable-requires : goal.unreachable-requires
-unreachable-requires g c =
-    let none = subst (λ i. entry_at (entries_of c.self.inside.entries.items) i ≡ None) c.id-id.ensures (absent c.id-id.result c.self.inside.entries.items (sym c.in-None.ensures)) in
-    let held = sym (ap (λ es. is_held c.args.h.now.number (entry_at es c.args.h.now.id)) c.self.view_is) in
-    cc (c.requires.held, held, ap (is_held c.args.h.now.number) none)
-
 pub returns-clause-step : goal.returns-clause-step
-returns-clause-step g c = rw (← c.self.view_is, ← c.id-id.ensures) c.poll_entry.ensures.step
+returns-clause-step g c = rw (← c.self.view_is, ← c.id.ensures) c.poll_entry.ensures.step
 
 pub invariant_of-self : goal.invariant_of-self
 invariant_of-self g c =
-    below_polled g.S.Fits.fits (g.S.SegmentSource.state c.args.source.now) (g.S.SegmentSource.state c.poll_entry.new.source) c.self.inside.next c.id-id.result
-    (entries_of c.self.inside.entries.items) (entries_of c.poll_entry.new.entries.items) c.self.invariant c.poll_entry.ensures.step
+    below_polled g.S.Fits.fits (g.S.SegmentSource.state c.args.source.now) (g.S.SegmentSource.state c.poll_entry.new.source) c.self.inside.next c.id.result
+    c.self.inside.entries.entries c.poll_entry.new.entries.entries c.self.invariant c.poll_entry.ensures.step

@@ -1,6 +1,5 @@
 use Rattle.std.proofs.Common.{◌≡◌, ◌∙◌, false, subst, ap, arith}
 use Rattle.scan_segments.specs.Sharing.{entry_at, is_held}
-use Rattle.scan_segments.specs.SharedTables.{entries_of}
 use Rattle.scan_segments.proofs.Numbers.{below_joined}
 use Rattle.scan_segments.proofs.shared.SharedTable.request.Goals as goal
 
@@ -11,5 +10,5 @@ returns-clause-fresh g c i =
 
 pub invariant_of-self-2 : goal.invariant_of-self-2
 invariant_of-self-2 g c =
-    below_joined c.self.inside.next c.max-self-inside.result c.in-Some.number c.args.id (entries_of c.self.inside.entries.items) (entries_of c.enter.new.entries.items)
+    below_joined c.self.inside.next c.max-self-inside.result c.in-Some.number c.args.id c.self.inside.entries.entries c.enter.new.entries.entries
     c.self.invariant (omega arith) (omega arith) c.in_ok-enter.ensures.ok
