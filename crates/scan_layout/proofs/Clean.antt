@@ -18,25 +18,33 @@ use Rattle.scan_layout.specs.Check.{serves, total_rows}
 use Rattle.scan_layout.specs.Form.{HasForm, HaveForms, AllHaveRows}
 use Rattle.scan_layout.specs.Laws.{Each, Decodes, InOrder, OffsetsAreGood, AllOffsetsAreGood, is_there}
 use Rattle.scan_values.specs.Paths.{Step, to_validity, to_offsets, to_elements}
+use Rattle.scan_layout.specs.declared.spelling.Spelling.{Spelling}
+use Rattle.scan_layout.specs.Places.{Place, place_of, places_of}
 use Rattle.scan_layout.specs.RowValue.{row_value, row_values, leaf_value, segment_value, under, elements_between, offset_of, values_from}
 use Rattle.scan_layout.specs.Touched.{touched, all_touched, leaf_touched, nth_touched, under_step, struct_steps, element_from, element_to, least_offset, greatest_offset}
 use Rattle.scan_layout.proofs.RowFits.{row_fits}
-use Rattle.scan_layout.proofs.Local.{agree_left, agree_right, agree_inside, agreed_if, leaf_here, leaf_later, fewer, list_places, inner_places, element_places, to_most, from_by, to_by, least_le, greatest_ge}
+use Rattle.scan_layout.proofs.Local.{agree_left, agree_right, agree_inside, agreed_if, IsBlind, leaf_here, leaf_later, fewer, list_places, inner_places, element_places, to_most, from_by, to_by, least_le, greatest_ge}
 
 clean_if : (test : Bool) (x y : Marked) → (test ≡ true → is_clean x ≡ true) → (test ≡ false → is_clean y ≡ true) → is_clean (if test then x else y) ≡ true
 clean_if true x y h k = h refl
 clean_if false x y h k = k refl
 
-segment_clean : (t : DataType) (n i : ℕ) (s : Store) (id : ℕ) → Decodes s t n id → is_clean (segment_value t n i (s id)) ≡ true
-segment_clean t n i s id h = rw (h.2, h.3) (is_clean-marked (slice_index_or h.1 i null_val))
+decodes_blind : (s : Store) → IsBlind (Decodes s)
+decodes_blind s step p = (λ h. h, λ h. h)
 
-leaf_clean : (t : DataType) (s : Store) (base : ℕ) (segments : List (ℕ × ℕ)) (i a b : ℕ) → a ≤ base + i → base + i < b → i < total_rows segments → Each (Decodes s) (leaf_touched t base segments a b) → is_clean (leaf_value t s segments i) ≡ true
-leaf_clean t s base [] i a b low high within h = absurd (omega arith)
-leaf_clean t s base (g ∷ segments) i a b low high within h =
+segment_clean : (s : Store) (p : Place) (i : ℕ) → Decodes s p → is_clean (segment_value s p i) ≡ true
+segment_clean s p i h = rw h.1 (is_clean-marked (slice_index_or h.0 i null_val))
+
+leaf_clean : (t : DataType) (sp : Spelling) (s : Store) (base : ℕ) (segments : List (ℕ × ℕ)) (i a b : ℕ) → a ≤ base + i → base + i < b → i < total_rows segments →
+    Each (Decodes s) (leaf_touched base (places_of t sp segments) a b) → is_clean (leaf_value t s (places_of t sp segments) i) ≡ true
+leaf_clean t sp s base [] i a b low high within h = absurd (omega arith)
+leaf_clean t sp s base (g ∷ segments) i a b low high within h =
+    let p : Place = place_of t sp g in
+    let places : List Place = places_of t sp segments in
     let sum : total_rows (g ∷ segments) ≡ g.1 + total_rows segments = sum_by-cons (λ x. x.1) g segments in
-    clean_if (nat_lt i g.1) (segment_value t g.1 i (s g.0)) (leaf_value t s segments (i - g.1))
-    (λ p. let inside : i < g.1 = ltb-true i g.1 p in segment_clean t g.1 i s g.0 (leaf_here (Decodes s) t base g segments a b (omega arith) h))
-    (λ p. let past : g.1 ≤ i = ltb-false i g.1 p in leaf_clean t s (base + g.1) segments (i - g.1) a b (omega arith) (omega arith) (omega arith) (leaf_later (Decodes s) t base g segments a b h))
+    clean_if (nat_lt i g.1) (segment_value s p i) (leaf_value t s places (i - g.1))
+    (λ q. let inside : i < g.1 = ltb-true i g.1 q in segment_clean s p i (leaf_here (Decodes s) base p places a b (omega arith) h))
+    (λ q. let past : g.1 ≤ i = ltb-false i g.1 q in leaf_clean t sp s (base + g.1) segments (i - g.1) a b (omega arith) (omega arith) (omega arith) (leaf_later (Decodes s) base p places a b h))
 
 under_clean : (v m : Marked) → fits v (bool_type NonNullable) ≡ true → is_clean v ≡ true → (is_there Nullable v ≡ true → is_clean m ≡ true) → is_clean (under v m) ≡ true
 under_clean (boolean true) m f c h = h refl
@@ -77,7 +85,7 @@ abbrev CleanRows : Layout → Store → Type 0
 CleanRows l s = (j : ℕ) → j < rows_of l → Each (Decodes s) (touched l s j (j + 1)) → OffsetsAreGood l s j → is_clean (row_value l s j) ≡ true
 
 scalar_good : (l : Layout) (t : DataType) (s : Store) (i : ℕ) → is_scalar_type t ≡ true → HasForm l t → OffsetsAreGood l s i
-scalar_good (node u rows (Leaf segments) kids) t s i scalar form = tt
+scalar_good (node u rows (Leaf segments spelling) kids) t s i scalar form = tt
 scalar_good (node u rows Struct kids) t s i scalar form = absurd (no_struct u (subst (λ w. is_scalar_type w ≡ true) (sym form.0) scalar) form.1)
   where
     no_struct : (w : DataType) → is_scalar_type w ≡ true → serves Struct w ≡ true → ⊥
@@ -99,7 +107,7 @@ scalar_good (node u rows (List' p) kids) t s i scalar form = absurd (no_list u (
 offset_clean : (o : Layout) (p : PType) (s : Store) (k i rows : ℕ) → CleanRows o s → HasForm o (int_type p NonNullable) → rows_of o ≡ rows + 1 → i < rows → i ≤ k → k ≤ i + 1 → Each (Decodes s) (touched o s i (i + 1 + 1)) → (z : ℤ) × (offset_of (row_value o s k) ≡ Some z)
 offset_clean o p s k i rows clean form many within low high h =
     offset_there p (row_value o s k) (row_fits o (int_type p NonNullable) s k form)
-    (clean k (omega arith) (fewer o (int_type p NonNullable) (Decodes s) s k (k + 1) i (i + 1 + 1) form low (omega arith) (omega arith) h) (scalar_good o (int_type p NonNullable) s k refl form))
+    (clean k (omega arith) (fewer o (int_type p NonNullable) (Decodes s) (decodes_blind s) s k (k + 1) i (i + 1 + 1) form low (omega arith) (omega arith) h) (scalar_good o (int_type p NonNullable) s k refl form))
 
 -- the content of a list's row
 content_clean : (a o : Layout) (rest : Nodes) (e : DataType) (p : PType) (s : Store) (i rows : ℕ) → CleanRows a s → CleanRows o s → HasForm a e → HasForm o (int_type p NonNullable) → rows_of o ≡ rows + 1 → i < rows →
@@ -112,8 +120,8 @@ content_clean a o rest e p s i rows clean_a clean_o form_a form_o many within h 
     let f : ℕ → Marked = λ k. row_value o s k in
     let from : ℕ = element_from (rows_of a) rows f i (i + 1) in
     let to : ℕ = element_to (rows_of a) rows f i (i + 1) in
-    let in_offsets : Each (Decodes s) (touched o s i (i + 1 + 1)) = agree_inside (Decodes s) to_offsets (touched o s i (i + 1 + 1)) (agree_left (Decodes s) (under_step to_offsets (touched o s i (i + 1 + 1))) (under_step to_elements (element_places kids rows s i (i + 1))) h) in
-    let in_elements : Each (Decodes s) (touched a s from to) = agree_inside (Decodes s) to_elements (element_places kids rows s i (i + 1)) (agree_right (Decodes s) (under_step to_offsets (touched o s i (i + 1 + 1))) (under_step to_elements (element_places kids rows s i (i + 1))) h) in
+    let in_offsets : Each (Decodes s) (touched o s i (i + 1 + 1)) = agree_inside (Decodes s) (decodes_blind s) to_offsets (touched o s i (i + 1 + 1)) (agree_left (Decodes s) (under_step to_offsets (touched o s i (i + 1 + 1))) (under_step to_elements (element_places kids rows s i (i + 1))) h) in
+    let in_elements : Each (Decodes s) (touched a s from to) = agree_inside (Decodes s) (decodes_blind s) to_elements (element_places kids rows s i (i + 1)) (agree_right (Decodes s) (under_step to_offsets (touched o s i (i + 1 + 1))) (under_step to_elements (element_places kids rows s i (i + 1))) h) in
     let first = offset_clean o p s i i rows clean_o form_o many within (omega arith) (omega arith) in_offsets in
     let last = offset_clean o p s (i + 1) i rows clean_o form_o many within (omega arith) (omega arith) in_offsets in
     between_clean (rows_of a) (offset_of (row_value o s i)) (offset_of (row_value o s (i + 1))) (λ j. row_value a s j) first.0 last.0 first.1 last.1 order
@@ -121,18 +129,18 @@ content_clean a o rest e p s i rows clean_a clean_o form_a form_o many within h 
     let starts : from ≤ x = from_by (rows_of a) x (least_offset (rows_of a) f i (i + 1 + 1 - i)) ((i == 0) && (i + 1 == rows)) (λ _. least_le (rows_of a) f i (i + 1 + 1 - i) i (pos x) (omega arith) (omega arith) px) in
     let ends : y ≤ to = to_by y (rows_of a) (min (rows_of a) (greatest_offset f i (i + 1 + 1 - i))) ((i == 0) && (i + 1 == rows)) (λ _. inside)
     (λ _. let up : y ≤ greatest_offset f i (i + 1 + 1 - i) = greatest_ge f i (i + 1 + 1 - i) (i + 1) (pos y) (omega arith) (omega arith) py in omega arith) in
-    clean_a j (omega arith) (fewer a e (Decodes s) s j (j + 1) from to form_a (omega arith) (omega arith) (to_most (rows_of a) rows f i (i + 1)) in_elements) (good x y j px py above below))
+    clean_a j (omega arith) (fewer a e (Decodes s) (decodes_blind s) s j (j + 1) from to form_a (omega arith) (omega arith) (to_most (rows_of a) rows f i (i + 1)) in_elements) (good x y j px py above below))
 
 mutual
   pub row_clean : (l : Layout) (t : DataType) (s : Store) (i : ℕ) → HasForm l t → i < rows_of l → Each (Decodes s) (touched l s i (i + 1)) → OffsetsAreGood l s i → is_clean (row_value l s i) ≡ true
-  row_clean (node u rows (Leaf segments) kids) t s i form within h good = leaf_clean u s 0 segments i i (i + 1) (omega arith) (omega arith) (omega (arith, form.2.0)) h
+  row_clean (node u rows (Leaf segments spelling) kids) t s i form within h good = leaf_clean u spelling s 0 segments i i (i + 1) (omega arith) (omega arith) (omega (arith, form.2.0)) h
   row_clean (node (struct_type fs NonNullable) rows Struct kids) t s i form within h good =
       all_clean kids (field_types (field_list fs)) (struct_steps (struct_type fs NonNullable)) s rows i form.3 form.2 within
       (agreed_if (Decodes s) (nat_lt i (i + 1)) (all_touched kids (struct_steps (struct_type fs NonNullable)) s i (i + 1)) (lt-ltb i (i + 1) (omega arith)) h) (good refl)
   row_clean (node (struct_type fs Nullable) rows Struct no_nodes) t s i form within h good = absurd form.3
   row_clean (node (struct_type fs Nullable) rows Struct (child v kids)) t s i form within h good =
       let all = agreed_if (Decodes s) (nat_lt i (i + 1)) (all_touched (child v kids) (struct_steps (struct_type fs Nullable)) s i (i + 1)) (lt-ltb i (i + 1) (omega arith)) h in
-      let inner = agree_inside (Decodes s) to_validity (touched v s i (i + 1)) (agree_left (Decodes s) (under_step to_validity (touched v s i (i + 1))) (all_touched kids (struct_steps (struct_type fs NonNullable)) s i (i + 1)) all) in
+      let inner = agree_inside (Decodes s) (decodes_blind s) to_validity (touched v s i (i + 1)) (agree_left (Decodes s) (under_step to_validity (touched v s i (i + 1))) (all_touched kids (struct_steps (struct_type fs NonNullable)) s i (i + 1)) all) in
       let others = agree_right (Decodes s) (under_step to_validity (touched v s i (i + 1))) (all_touched kids (struct_steps (struct_type fs NonNullable)) s i (i + 1)) all in
       under_clean (row_value v s i) (struct (row_values kids s i)) (row_fits v (bool_type NonNullable) s i form.3.0)
       (row_clean v (bool_type NonNullable) s i form.3.0 (omega (arith, form.2.0)) inner (scalar_good v (bool_type NonNullable) s i refl form.3.0))
@@ -148,7 +156,7 @@ mutual
   row_clean (node (list_type e Nullable) rows (List' p) (child a (child o (child v rest)))) t s i form within h good =
       let kids : Nodes = child a (child o (child v rest)) in
       let all = agreed_if (Decodes s) (nat_lt i (i + 1)) (list_places kids rows s i (i + 1)) (lt-ltb i (i + 1) (omega arith)) h in
-      let inner = agree_inside (Decodes s) to_validity (touched v s i (i + 1)) (agree_left (Decodes s) (under_step to_validity (touched v s i (i + 1))) (inner_places kids rows s i (i + 1)) all) in
+      let inner = agree_inside (Decodes s) (decodes_blind s) to_validity (touched v s i (i + 1)) (agree_left (Decodes s) (under_step to_validity (touched v s i (i + 1))) (inner_places kids rows s i (i + 1)) all) in
       under_clean (row_value v s i) (elements_between (rows_of a) (offset_of (row_value o s i)) (offset_of (row_value o s (i + 1))) (λ j. row_value a s j)) (row_fits v (bool_type NonNullable) s i form.3.1.1.0)
       (row_clean v (bool_type NonNullable) s i form.3.1.1.0 (omega (arith, form.2.1.0)) inner (scalar_good v (bool_type NonNullable) s i refl form.3.1.1.0))
       (λ there. content_clean a o (child v rest) e p s i rows (λ j. row_clean a e s j form.3.0) (λ j. row_clean o (int_type p NonNullable) s j form.3.1.0) form.3.0 form.3.1.0 form.2.0 within
@@ -162,5 +170,5 @@ mutual
       rw (row_clean l t s i forms.0 (omega (arith, fit.0)) (agree_left (Decodes s) (touched l s i (i + 1)) (all_touched ls [] s i (i + 1)) h) good.0)
       (all_clean ls ts [] s rows i forms.1 fit.1 within (agree_right (Decodes s) (touched l s i (i + 1)) (all_touched ls [] s i (i + 1)) h) good.1)
   all_clean (child l ls) (t ∷ ts) (step ∷ steps) s rows i forms fit within h good =
-      rw (row_clean l t s i forms.0 (omega (arith, fit.0)) (agree_inside (Decodes s) step (touched l s i (i + 1)) (agree_left (Decodes s) (under_step step (touched l s i (i + 1))) (all_touched ls steps s i (i + 1)) h)) good.0)
+      rw (row_clean l t s i forms.0 (omega (arith, fit.0)) (agree_inside (Decodes s) (decodes_blind s) step (touched l s i (i + 1)) (agree_left (Decodes s) (under_step step (touched l s i (i + 1))) (all_touched ls steps s i (i + 1)) h)) good.0)
       (all_clean ls ts steps s rows i forms.1 fit.1 within (agree_right (Decodes s) (under_step step (touched l s i (i + 1))) (all_touched ls steps s i (i + 1)) h) good.1)

@@ -16,8 +16,9 @@ use Rattle.scan_values.specs.Ranges.{in_range}
 use Rattle.scan_values.specs.Fits.{fits, fits_all}
 use Rattle.scan_values.specs.Val.{Val, null_val, bool_val, int_val, text_val, list_val, struct_val, marked, marked_all, vals_of}
 use Rattle.scan_values.specs.Values.{val_of}
+use Rattle.scan_layout.specs.declared.spelling.Spelling.{Spelling}
 use Rattle.scan_layout.specs.Spelling.{decode, are_bytes}
-use Rattle.scan_layout.specs.Written.{IntFits, HasSlot, IsOfKind, IsText, TextFits, spelling}
+use Rattle.scan_layout.specs.Written.{IntFits, HasSlot, IsOfKind, IsText, TextFits, spelled}
 use Rattle.scan_layout.proofs.RoundTrip.{HereWhere, read_again}
 
 and_parts : (a b : Bool) → (a && b) ≡ true → (a ≡ true) × (b ≡ true)
@@ -129,6 +130,6 @@ all_here t (v ∷ vs) e =
     (here_where t v both.0, all_here t vs both.1)
 
 -- what was written is read again
-pub again : (t : DataType) (vs : List Val) (bytes : List ℕ) → is_scalar_type t ≡ true → fits_all (marked_all (vals_of vs)) t ≡ true → All TextFits vs → All IsText vs → are_bytes bytes ≡ true → bytes ≡ spelling t vs → decode t (length vs) bytes ≡ Some vs
-again t vs bytes s f short text small e =
-    rw small (rw e (read_again (nullability_of t) (kind_of t) vs (have_slots (kind_of t) vs (kinds_where t vs s f) (recursion_from_All IsText vs text)) (all_here t vs f) (recursion_from_All TextFits vs short)))
+pub again : (s : Spelling) (t : DataType) (vs : List Val) (bytes : List ℕ) → is_scalar_type t ≡ true → fits_all (marked_all (vals_of vs)) t ≡ true → All TextFits vs → All IsText vs → are_bytes bytes ≡ true → bytes ≡ spelled s t vs → decode s t (length vs) bytes ≡ Some vs
+again s t vs bytes is f short text small e =
+    rw small (rw e (read_again s (nullability_of t) (kind_of t) vs (have_slots (kind_of t) vs (kinds_where t vs is f) (recursion_from_All IsText vs text)) (all_here t vs f) (recursion_from_All TextFits vs short)))

@@ -11,6 +11,7 @@ use Rattle.scan_values.specs.Kinds.{kind_of}
 use Rattle.scan_values.specs.Ranges.{in_range}
 use Rattle.scan_values.specs.Fits.{fits, fits_all}
 use Rattle.scan_values.specs.Val.{Val, null_val, bool_val, int_val, text_val, list_val, struct_val, marked, marked_all, vals_of}
+use Rattle.scan_layout.specs.declared.spelling.Spelling.{Spelling}
 use Rattle.scan_layout.specs.Spelling.{decode}
 use Rattle.scan_layout.specs.Written.{IntFits, HasSlot, IsHere}
 use Rattle.scan_layout.specs.Spells.{SpellsCells, SpellsUnder, Spells}
@@ -72,17 +73,17 @@ flagged_fit t (zero ∷ flags) (v ∷ vs) bytes n h =
 flagged_fit t (suc zero ∷ flags) (v ∷ vs) bytes n h = rw (slot_fits t v h.3.0 h.3.1) (flagged_fit t flags vs h.1 n h.4)
 flagged_fit t (suc (suc flag) ∷ flags) (v ∷ vs) bytes n h = absurd h.3
 
-under_fit : (t : DataType) (m : Nullability) (n : ℕ) (vs : List Val) (bytes : List ℕ) → nullability_of t ≡ m → SpellsUnder m (kind_of t) n vs bytes → fits_all (marked_all (vals_of vs)) t ≡ true
-under_fit t NonNullable n vs bytes e h = plain_fit t n vs bytes h
-under_fit t Nullable n vs bytes e h = flagged_fit t h.0 vs h.1 e h.4
+under_fit : (s : Spelling) (t : DataType) (m : Nullability) (n : ℕ) (vs : List Val) (bytes : List ℕ) → nullability_of t ≡ m → SpellsUnder s m (kind_of t) n vs bytes → fits_all (marked_all (vals_of vs)) t ≡ true
+under_fit s t NonNullable n vs bytes e h = plain_fit t n vs h.0 h.2
+under_fit s t Nullable n vs bytes e h = flagged_fit t h.3.0 vs h.3.2.0 e h.3.2.2
 
-pub decode_spells : (t : DataType) (n : ℕ) (bytes : List ℕ) (vs : List Val) → decode t n bytes ≡ Some vs → Spells t n vs bytes
-decode_spells t n bytes vs e =
-    let both = decode_parts t n bytes vs e in
-    (both.0, under_is (nullability_of t) (kind_of t) n vs bytes (bytes_small bytes both.0) both.1)
+pub decode_spells : (s : Spelling) (t : DataType) (n : ℕ) (bytes : List ℕ) (vs : List Val) → decode s t n bytes ≡ Some vs → Spells s t n vs bytes
+decode_spells s t n bytes vs e =
+    let both = decode_parts s t n bytes vs e in
+    (both.0, under_is s (nullability_of t) (kind_of t) n vs bytes (bytes_small bytes both.0) both.1)
 
-pub decoded_fit : (t : DataType) (n : ℕ) (bytes : List ℕ) (vs : List Val) → decode t n bytes ≡ Some vs → fits_all (marked_all (vals_of vs)) t ≡ true
-decoded_fit t n bytes vs e = under_fit t (nullability_of t) n vs bytes refl (decode_spells t n bytes vs e).1
+pub decoded_fit : (s : Spelling) (t : DataType) (n : ℕ) (bytes : List ℕ) (vs : List Val) → decode s t n bytes ≡ Some vs → fits_all (marked_all (vals_of vs)) t ≡ true
+decoded_fit s t n bytes vs e = under_fit s t (nullability_of t) n vs bytes refl (decode_spells s t n bytes vs e).1
 
-pub spells_decode : (t : DataType) (n : ℕ) (bytes : List ℕ) (vs : List Val) → Spells t n vs bytes → decode t n bytes ≡ Some vs
-spells_decode t n bytes vs h = rw h.0 (under_read (nullability_of t) (kind_of t) n vs bytes h.1)
+pub spells_decode : (s : Spelling) (t : DataType) (n : ℕ) (bytes : List ℕ) (vs : List Val) → Spells s t n vs bytes → decode s t n bytes ≡ Some vs
+spells_decode s t n bytes vs h = rw h.0 (under_read s (nullability_of t) (kind_of t) n vs bytes h.1)

@@ -55,7 +55,7 @@ child_types_most (list_type t Nullable) p = omega arith
 child_types_most (struct_type fs n) p = omega arith
 
 pub rows_fit : (t : DataType) (kind : LayoutKind) (rows : ℕ) (kids : Nodes) → count kids ≡ length (child_types t kind) → rows_fault kind rows kids ≡ None → RowsFit kind rows kids
-rows_fit t (Leaf segments) rows kids h e =
+rows_fit t (Leaf segments spelling) rows kids h e =
     let both = then_none_parts (unless (nat_lt (total_rows segments) (2 ^ 64)) RowSum) (unless (total_rows segments == rows) ChildRows) e in
     let same : total_rows segments ≡ rows = eqb-true (total_rows segments) rows (unless_none (total_rows segments == rows) ChildRows both.1) in
     let below : total_rows segments < 2 ^ 64 = ltb-true (total_rows segments) (2 ^ 64) (unless_none (nat_lt (total_rows segments) (2 ^ 64)) RowSum both.0) in
@@ -94,7 +94,7 @@ second_fits (utf8_type n) p (child a (child b ls)) s h = absurd cc
 second_fits (struct_type fs n) p (child a (child b ls)) s h = absurd cc
 
 pub offsets_fit_where : (t : DataType) (kind : LayoutKind) (kids : Nodes) → serves kind t ≡ true → HaveForms kids (child_types t kind) → offsets_fit kind kids ≡ true
-offsets_fit_where t (Leaf segments) kids s h = refl
+offsets_fit_where t (Leaf segments spelling) kids s h = refl
 offsets_fit_where t Struct kids s h = refl
 offsets_fit_where t (List' p) kids s h = second_fits t p kids s h
 
@@ -105,7 +105,7 @@ count_where (child l ls) [] h = absurd h
 count_where (child l ls) (t ∷ ts) h = omega (arith, count_where ls ts h.1)
 
 pub rows_whole : (kind : LayoutKind) (rows : ℕ) (kids : Nodes) → RowsFit kind rows kids → rows_fault kind rows kids ≡ None
-rows_whole (Leaf segments) rows kids h =
+rows_whole (Leaf segments spelling) rows kids h =
     let below : total_rows segments < 2 ^ 64 = omega arith in
     rw (lt-ltb (total_rows segments) (2 ^ 64) below, eq-eqb (total_rows segments) rows h.0) refl
 rows_whole Struct rows kids h = rw (all_have_rows-whole rows kids h) refl

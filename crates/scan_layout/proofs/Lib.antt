@@ -4,12 +4,16 @@ pub mod Forms
 pub mod Cells
 pub mod Lengths
 pub mod Texts
+pub mod Bits
+pub mod Gathering
 pub mod RoundTrip
 pub mod Relation
 pub mod Bytes
 pub mod Fitting
 pub mod Encoding
 pub mod Writes
+pub mod Rows
+pub mod Recoding
 pub mod Local
 pub mod RowFits
 pub mod Clean
@@ -18,3 +22,8 @@ pub mod Typed
 pub mod Entries
 pub mod Lazy
 pub mod Matches
+pub mod Splits
+pub mod Columns
+pub mod BitColumns
+pub mod TextColumns
+pub mod TextRows

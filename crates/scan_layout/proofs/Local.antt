@@ -1,6 +1,6 @@
 -- The value of a row stands on the segments that the row touches, and on no others.
 use Rattle.std.proofs.Common.{◌≡◌, ℕ, zero, suc, ◌+◌, ◌-◌, ◌<◌, ◌≤◌, min, max, List, [], ◌∷◌, ◌++◌, arith, refl, sym, ◌∙◌, ap, subst, Bool, false, true, Option, Some, None, inl, inr}
-use Rattle.std.specs.Prelude.{nat_lt, nat_le, ◌==◌, ◌&&◌, if◌then◌else◌, ℤ, pos, negsuc}
+use Rattle.std.specs.Prelude.{option_and_then, nat_lt, nat_le, ◌==◌, ◌&&◌, if◌then◌else◌, ℤ, pos, negsuc}
 use Rattle.std.proofs.lemmas.Bool.{eqb-true, eq-eqb, ltb-true, ltb-false, lt-ltb, leb-true}
 use Rattle.std.proofs.lemmas.Bool.Decides.{eqb_tells}
 use Rattle.scan_values.specs.declared.ptype.PType.{PType}
@@ -12,67 +12,77 @@ use Rattle.scan_layout.specs.declared.node.LayoutKind.TheVariants.{Leaf, Struct,
 use Rattle.scan_layout.specs.Layout.{Layout, Nodes, node, no_nodes, child, rows_of}
 use Rattle.scan_layout.specs.Check.{child_types}
 use Rattle.scan_layout.specs.Form.{HasForm, HaveForms, RowsFit, AllHaveRows}
-use Rattle.scan_layout.specs.Laws.{OfSegment, Each, Agree}
-use Rattle.scan_layout.specs.RowValue.{row_value, nth_value, row_values, nth_rows, leaf_value, segment_value, offset_of, elements_between, values_from, struct_value, where_valid}
-use Rattle.scan_layout.specs.Touched.{Place, touched, nth_touched, all_touched, leaf_touched, under_step, struct_steps, least_offset, greatest_offset, lesser, greater, row_at, element_from, element_to}
+use Rattle.scan_layout.specs.Laws.{Each, Agree}
+use Rattle.scan_layout.specs.RowValue.{row_value, nth_value, row_values, nth_rows, item_of, leaf_value, segment_value, offset_of, elements_between, values_from, struct_value, where_valid}
+use Rattle.scan_layout.specs.Places.{Place, places_of}
+use Rattle.scan_layout.specs.Touched.{touched, below_step, nth_touched, all_touched, leaf_touched, under_step, struct_steps, least_offset, greatest_offset, lesser, greater, row_at, element_from, element_to}
+use Rattle.scan_layout.specs.Spelling.{decode}
 use Rattle.scan_layout.proofs.Forms.{and_true}
 
-pub agree_left : (P : OfSegment) (ps qs : List Place) → Each P (ps ++ qs) → Each P ps
+pub agree_left : (P : Place → Type 0) (ps qs : List Place) → Each P (ps ++ qs) → Each P ps
 agree_left P [] qs h = tt
 agree_left P (p ∷ ps) qs h = (h.0, agree_left P ps qs h.1)
 
-pub agree_right : (P : OfSegment) (ps qs : List Place) → Each P (ps ++ qs) → Each P qs
+pub agree_right : (P : Place → Type 0) (ps qs : List Place) → Each P (ps ++ qs) → Each P qs
 agree_right P [] qs h = h
 agree_right P (p ∷ ps) qs h = agree_right P ps qs h.1
 
-pub agree_both : (P : OfSegment) (ps qs : List Place) → Each P ps → Each P qs → Each P (ps ++ qs)
+pub agree_both : (P : Place → Type 0) (ps qs : List Place) → Each P ps → Each P qs → Each P (ps ++ qs)
 agree_both P [] qs h k = k
 agree_both P (p ∷ ps) qs h k = (h.0, agree_both P ps qs h.1 k)
 
-pub agree_inside : (P : OfSegment) (step : Step) (ps : List Place) → Each P (under_step step ps) → Each P ps
-agree_inside P step [] h = tt
-agree_inside P step (p ∷ ps) h = (h.0, agree_inside P step ps h.1)
+-- a fact that does not look at a place's path
+abbrev pub IsBlind : (Place → Type 0) → Type 0
+IsBlind P = (step : Step) (p : Place) → (P (below_step step p) → P p) × (P p → P (below_step step p))
 
-pub agree_outside : (P : OfSegment) (step : Step) (ps : List Place) → Each P ps → Each P (under_step step ps)
-agree_outside P step [] h = tt
-agree_outside P step (p ∷ ps) h = (h.0, agree_outside P step ps h.1)
+pub agree_inside : (P : Place → Type 0) → IsBlind P → (step : Step) (ps : List Place) → Each P (under_step step ps) → Each P ps
+agree_inside P blind step [] h = tt
+agree_inside P blind step (p ∷ ps) h = ((blind step p).0 h.0, agree_inside P blind step ps h.1)
+
+pub agree_outside : (P : Place → Type 0) → IsBlind P → (step : Step) (ps : List Place) → Each P ps → Each P (under_step step ps)
+agree_outside P blind step [] h = tt
+agree_outside P blind step (p ∷ ps) h = ((blind step p).1 h.0, agree_outside P blind step ps h.1)
+
+pub agree_blind : (s u : Store) → IsBlind (Agree s u)
+agree_blind s u step p = (λ h. h, λ h. h)
 
 -- a leaf
 
-abbrev pub leaf_place : DataType → ℕ × ℕ → Place
-leaf_place t g = record { path = []; dtype = t; rows = g.1; id = g.0 }
-
-pub leaf_here : (P : OfSegment) (t : DataType) (base : ℕ) (g : ℕ × ℕ) (segments : List (ℕ × ℕ)) (a b : ℕ) → max base a < min (base + g.1) b → Each P (leaf_touched t base (g ∷ segments) a b) → P t g.1 g.0
-leaf_here P t base g segments a b h k =
-    let hit : nat_lt (max base a) (min (base + g.1) b) ≡ true = lt-ltb (max base a) (min (base + g.1) b) h in
+pub leaf_here : (P : Place → Type 0) (base : ℕ) (p : Place) (places : List Place) (a b : ℕ) → max base a < min (base + p.rows) b → Each P (leaf_touched base (p ∷ places) a b) → P p
+leaf_here P base p places a b h k =
+    let hit : nat_lt (max base a) (min (base + p.rows) b) ≡ true = lt-ltb (max base a) (min (base + p.rows) b) h in
     (rw hit at k).0
 
-pub leaf_later : (P : OfSegment) (t : DataType) (base : ℕ) (g : ℕ × ℕ) (segments : List (ℕ × ℕ)) (a b : ℕ) → Each P (leaf_touched t base (g ∷ segments) a b) → Each P (leaf_touched t (base + g.1) segments a b)
-leaf_later P t base g segments a b k = agree_right P (if nat_lt (max base a) (min (base + g.1) b) then leaf_place t g ∷ [] else []) (leaf_touched t (base + g.1) segments a b) k
+pub leaf_later : (P : Place → Type 0) (base : ℕ) (p : Place) (places : List Place) (a b : ℕ) → Each P (leaf_touched base (p ∷ places) a b) → Each P (leaf_touched (base + p.rows) places a b)
+leaf_later P base p places a b k = agree_right P (if nat_lt (max base a) (min (base + p.rows) b) then p ∷ [] else []) (leaf_touched (base + p.rows) places a b) k
 
 -- two choices by one test are equal where their parts are
 pub choose : {A : Type 0} (b : Bool) (x x' y y' : A) → (b ≡ true → x ≡ x') → (b ≡ false → y ≡ y') → (if b then x else y) ≡ (if b then x' else y')
 choose true x x' y y' p q = p refl
 choose false x x' y y' p q = q refl
 
-pub leaf_local : (ty : DataType) (s t : Store) (base : ℕ) (segments : List (ℕ × ℕ)) (i a b : ℕ) → a ≤ base + i → base + i < b → Each (Agree s t) (leaf_touched ty base segments a b) → leaf_value ty s segments i ≡ leaf_value ty t segments i
+-- a segment's value in two stores that have the same there
+segment_local : (s t : Store) (p : Place) (i : ℕ) → Agree s t p → segment_value s p i ≡ segment_value t p i
+segment_local s t p i h = ap (λ o. item_of p.dtype i (option_and_then (decode p.spelling p.dtype p.rows) o)) h
+
+pub leaf_local : (ty : DataType) (s t : Store) (base : ℕ) (places : List Place) (i a b : ℕ) → a ≤ base + i → base + i < b → Each (Agree s t) (leaf_touched base places a b) → leaf_value ty s places i ≡ leaf_value ty t places i
 leaf_local ty s t base [] i a b low high h = refl
-leaf_local ty s t base (g ∷ segments) i a b low high h =
-    choose (nat_lt i g.1) (segment_value ty g.1 i (s g.0)) (segment_value ty g.1 i (t g.0)) (leaf_value ty s segments (i - g.1)) (leaf_value ty t segments (i - g.1))
-    (λ p. let below : i < g.1 = ltb-true i g.1 p in ap (segment_value ty g.1 i) (leaf_here (Agree s t) ty base g segments a b (omega arith) h))
-    (λ p. let past : g.1 ≤ i = ltb-false i g.1 p in leaf_local ty s t (base + g.1) segments (i - g.1) a b (omega arith) (omega arith) (leaf_later (Agree s t) ty base g segments a b h))
+leaf_local ty s t base (p ∷ places) i a b low high h =
+    choose (nat_lt i p.rows) (segment_value s p i) (segment_value t p i) (leaf_value ty s places (i - p.rows)) (leaf_value ty t places (i - p.rows))
+    (λ q. let below : i < p.rows = ltb-true i p.rows q in segment_local s t p i (leaf_here (Agree s t) base p places a b (omega arith) h))
+    (λ q. let past : p.rows ≤ i = ltb-false i p.rows q in leaf_local ty s t (base + p.rows) places (i - p.rows) a b (omega arith) (omega arith) (leaf_later (Agree s t) base p places a b h))
 
 -- what fewer rows touch is among what more rows touch
-fewer_here : (P : OfSegment) (t : DataType) (base : ℕ) (g : ℕ × ℕ) (segments : List (ℕ × ℕ)) (a b c d : ℕ) → c ≤ a → b ≤ d → Each P (leaf_touched t base (g ∷ segments) c d) → (test : Bool) → nat_lt (max base a) (min (base + g.1) b) ≡ test → Each P (if test then leaf_place t g ∷ [] else [])
-fewer_here P t base g segments a b c d low high h true p = let inside : max base a < min (base + g.1) b = ltb-true (max base a) (min (base + g.1) b) p in (leaf_here P t base g segments c d (omega arith) h, tt)
-fewer_here P t base g segments a b c d low high h false p = tt
+fewer_here : (P : Place → Type 0) (base : ℕ) (p : Place) (places : List Place) (a b c d : ℕ) → c ≤ a → b ≤ d → Each P (leaf_touched base (p ∷ places) c d) → (test : Bool) → nat_lt (max base a) (min (base + p.rows) b) ≡ test → Each P (if test then p ∷ [] else [])
+fewer_here P base p places a b c d low high h true q = let inside : max base a < min (base + p.rows) b = ltb-true (max base a) (min (base + p.rows) b) q in (leaf_here P base p places c d (omega arith) h, tt)
+fewer_here P base p places a b c d low high h false q = tt
 
-pub leaf_fewer : (P : OfSegment) (t : DataType) (base : ℕ) (segments : List (ℕ × ℕ)) (a b c d : ℕ) → c ≤ a → b ≤ d → Each P (leaf_touched t base segments c d) → Each P (leaf_touched t base segments a b)
-leaf_fewer P t base [] a b c d low high h = tt
-leaf_fewer P t base (g ∷ segments) a b c d low high h =
-    agree_both P (if nat_lt (max base a) (min (base + g.1) b) then leaf_place t g ∷ [] else []) (leaf_touched t (base + g.1) segments a b)
-    (fewer_here P t base g segments a b c d low high h (nat_lt (max base a) (min (base + g.1) b)) refl)
-    (leaf_fewer P t (base + g.1) segments a b c d low high (leaf_later P t base g segments c d h))
+pub leaf_fewer : (P : Place → Type 0) (base : ℕ) (places : List Place) (a b c d : ℕ) → c ≤ a → b ≤ d → Each P (leaf_touched base places c d) → Each P (leaf_touched base places a b)
+leaf_fewer P base [] a b c d low high h = tt
+leaf_fewer P base (p ∷ places) a b c d low high h =
+    agree_both P (if nat_lt (max base a) (min (base + p.rows) b) then p ∷ [] else []) (leaf_touched (base + p.rows) places a b)
+    (fewer_here P base p places a b c d low high h (nat_lt (max base a) (min (base + p.rows) b)) refl)
+    (leaf_fewer P (base + p.rows) places a b c d low high (leaf_later P base p places c d h))
 
 -- offsets
 
@@ -209,11 +219,11 @@ validity_within p rows (child e no_nodes) h = tt
 validity_within p rows (child e (child o no_nodes)) h = tt
 validity_within p rows (child e (child o (child v ls))) h = omega arith
 
-if_agree : (P : OfSegment) (test : Bool) (ps : List Place) → (test ≡ true → Each P ps) → Each P (if test then ps else [])
+if_agree : (P : Place → Type 0) (test : Bool) (ps : List Place) → (test ≡ true → Each P ps) → Each P (if test then ps else [])
 if_agree P true ps h = h refl
 if_agree P false ps h = tt
 
-pub agreed_if : (P : OfSegment) (test : Bool) (ps : List Place) → test ≡ true → Each P (if test then ps else []) → Each P ps
+pub agreed_if : (P : Place → Type 0) (test : Bool) (ps : List Place) → test ≡ true → Each P (if test then ps else []) → Each P ps
 agreed_if P true ps e h = h
 agreed_if P false ps e h = absurd cc
 
@@ -228,14 +238,14 @@ abbrev pub list_places : Nodes → ℕ → Store → ℕ → ℕ → List Place
 list_places kids rows s a b = under_step to_validity (nth_touched kids 2 s a b) ++ inner_places kids rows s a b
 
 mutual
-  pub fewer : (l : Layout) (ty : DataType) (P : OfSegment) (s : Store) (a b c d : ℕ) → HasForm l ty → c ≤ a → b ≤ d → d ≤ rows_of l → Each P (touched l s c d) → Each P (touched l s a b)
-  fewer (node u rows (Leaf segments) kids) ty P s a b c d form low high inside h = leaf_fewer P u 0 segments a b c d low high h
-  fewer (node u rows Struct kids) ty P s a b c d form low high inside h =
+  pub fewer : (l : Layout) (ty : DataType) (P : Place → Type 0) (blind : IsBlind P) (s : Store) (a b c d : ℕ) → HasForm l ty → c ≤ a → b ≤ d → d ≤ rows_of l → Each P (touched l s c d) → Each P (touched l s a b)
+  fewer (node u rows (Leaf segments spelling) kids) ty P blind s a b c d form low high inside h = leaf_fewer P 0 (places_of u spelling segments) a b c d low high h
+  fewer (node u rows Struct kids) ty P blind s a b c d form low high inside h =
       if_agree P (nat_lt a b) (all_touched kids (struct_steps u) s a b)
       (λ p. let some : a < b = ltb-true a b p in
-      all_fewer kids (child_types u Struct) (struct_steps u) P s rows a b c d form.3 form.2 low high inside
+      all_fewer kids (child_types u Struct) (struct_steps u) P blind s rows a b c d form.3 form.2 low high inside
       (agreed_if P (nat_lt c d) (all_touched kids (struct_steps u) s c d) (lt-ltb c d (omega arith)) h))
-  fewer (node u rows (List' q) kids) ty P s a b c d form low high inside h =
+  fewer (node u rows (List' q) kids) ty P blind s a b c d form low high inside h =
       if_agree P (nat_lt a b) (list_places kids rows s a b)
       (λ p. let some : a < b = ltb-true a b p in
       let more = agreed_if P (nat_lt c d) (list_places kids rows s c d) (lt-ltb c d (omega arith)) h in
@@ -243,36 +253,36 @@ mutual
       let f : ℕ → Marked = λ i. nth_value kids 1 s i in
       let most : ℕ = nth_rows kids 0 in
       agree_both P (under_step to_validity (nth_touched kids 2 s a b)) (inner_places kids rows s a b)
-      (agree_outside P to_validity (nth_touched kids 2 s a b)
-      (nth_fewer kids (child_types u (List' q)) 2 P s a b c d form.3 (within_less kids 2 d rows inside (validity_within q rows kids form.2)) low high
-      (agree_inside P to_validity (nth_touched kids 2 s c d) (agree_left P (under_step to_validity (nth_touched kids 2 s c d)) (inner_places kids rows s c d) more))))
+      (agree_outside P blind to_validity (nth_touched kids 2 s a b)
+      (nth_fewer kids (child_types u (List' q)) 2 P blind s a b c d form.3 (within_less kids 2 d rows inside (validity_within q rows kids form.2)) low high
+      (agree_inside P blind to_validity (nth_touched kids 2 s c d) (agree_left P (under_step to_validity (nth_touched kids 2 s c d)) (inner_places kids rows s c d) more))))
       (agree_both P (under_step to_offsets (nth_touched kids 1 s a (b + 1))) (under_step to_elements (element_places kids rows s a b))
-      (agree_outside P to_offsets (nth_touched kids 1 s a (b + 1))
-      (nth_fewer kids (child_types u (List' q)) 1 P s a (b + 1) c (d + 1) form.3 (within_less kids 1 (d + 1) (rows + 1) (omega arith) (offsets_within q rows kids form.2)) low (omega arith)
-      (agree_inside P to_offsets (nth_touched kids 1 s c (d + 1)) (agree_left P (under_step to_offsets (nth_touched kids 1 s c (d + 1))) (under_step to_elements (element_places kids rows s c d)) others))))
-      (agree_outside P to_elements (element_places kids rows s a b)
-      (nth_fewer kids (child_types u (List' q)) 0 P s (element_from most rows f a b) (element_to most rows f a b) (element_from most rows f c d) (element_to most rows f c d) form.3
+      (agree_outside P blind to_offsets (nth_touched kids 1 s a (b + 1))
+      (nth_fewer kids (child_types u (List' q)) 1 P blind s a (b + 1) c (d + 1) form.3 (within_less kids 1 (d + 1) (rows + 1) (omega arith) (offsets_within q rows kids form.2)) low (omega arith)
+      (agree_inside P blind to_offsets (nth_touched kids 1 s c (d + 1)) (agree_left P (under_step to_offsets (nth_touched kids 1 s c (d + 1))) (under_step to_elements (element_places kids rows s c d)) others))))
+      (agree_outside P blind to_elements (element_places kids rows s a b)
+      (nth_fewer kids (child_types u (List' q)) 0 P blind s (element_from most rows f a b) (element_to most rows f a b) (element_from most rows f c d) (element_to most rows f c d) form.3
       (within_rows kids 0 (element_to most rows f c d) (to_most most rows f c d))
       (from_fewer most rows f a b c d some low high inside) (to_fewer most rows f a b c d some low high inside)
-      (agree_inside P to_elements (element_places kids rows s c d) (agree_right P (under_step to_offsets (nth_touched kids 1 s c (d + 1))) (under_step to_elements (element_places kids rows s c d)) others))))))
+      (agree_inside P blind to_elements (element_places kids rows s c d) (agree_right P (under_step to_offsets (nth_touched kids 1 s c (d + 1))) (under_step to_elements (element_places kids rows s c d)) others))))))
 
-  pub nth_fewer : (ls : Nodes) (ts : List DataType) (k : ℕ) (P : OfSegment) (s : Store) (a b c d : ℕ) → HaveForms ls ts → Within ls k d → c ≤ a → b ≤ d → Each P (nth_touched ls k s c d) → Each P (nth_touched ls k s a b)
-  nth_fewer no_nodes ts k P s a b c d forms w low high h = tt
-  nth_fewer (child l ls) [] k P s a b c d forms w low high h = absurd forms
-  nth_fewer (child l ls) (ty ∷ ts) zero P s a b c d forms w low high h = fewer l ty P s a b c d forms.0 low high w h
-  nth_fewer (child l ls) (ty ∷ ts) (suc k) P s a b c d forms w low high h = nth_fewer ls ts k P s a b c d forms.1 w low high h
+  pub nth_fewer : (ls : Nodes) (ts : List DataType) (k : ℕ) (P : Place → Type 0) (blind : IsBlind P) (s : Store) (a b c d : ℕ) → HaveForms ls ts → Within ls k d → c ≤ a → b ≤ d → Each P (nth_touched ls k s c d) → Each P (nth_touched ls k s a b)
+  nth_fewer no_nodes ts k P blind s a b c d forms w low high h = tt
+  nth_fewer (child l ls) [] k P blind s a b c d forms w low high h = absurd forms
+  nth_fewer (child l ls) (ty ∷ ts) zero P blind s a b c d forms w low high h = fewer l ty P blind s a b c d forms.0 low high w h
+  nth_fewer (child l ls) (ty ∷ ts) (suc k) P blind s a b c d forms w low high h = nth_fewer ls ts k P blind s a b c d forms.1 w low high h
 
-  pub all_fewer : (ls : Nodes) (ts : List DataType) (steps : List Step) (P : OfSegment) (s : Store) (rows a b c d : ℕ) → HaveForms ls ts → AllHaveRows rows ls → c ≤ a → b ≤ d → d ≤ rows → Each P (all_touched ls steps s c d) → Each P (all_touched ls steps s a b)
-  all_fewer no_nodes ts steps P s rows a b c d forms fits low high inside h = tt
-  all_fewer (child l ls) [] steps P s rows a b c d forms fits low high inside h = absurd forms
-  all_fewer (child l ls) (ty ∷ ts) [] P s rows a b c d forms fits low high inside h =
+  pub all_fewer : (ls : Nodes) (ts : List DataType) (steps : List Step) (P : Place → Type 0) (blind : IsBlind P) (s : Store) (rows a b c d : ℕ) → HaveForms ls ts → AllHaveRows rows ls → c ≤ a → b ≤ d → d ≤ rows → Each P (all_touched ls steps s c d) → Each P (all_touched ls steps s a b)
+  all_fewer no_nodes ts steps P blind s rows a b c d forms fits low high inside h = tt
+  all_fewer (child l ls) [] steps P blind s rows a b c d forms fits low high inside h = absurd forms
+  all_fewer (child l ls) (ty ∷ ts) [] P blind s rows a b c d forms fits low high inside h =
       agree_both P (touched l s a b) (all_touched ls [] s a b)
-      (fewer l ty P s a b c d forms.0 low high (omega arith) (agree_left P (touched l s c d) (all_touched ls [] s c d) h))
-      (all_fewer ls ts [] P s rows a b c d forms.1 fits.1 low high inside (agree_right P (touched l s c d) (all_touched ls [] s c d) h))
-  all_fewer (child l ls) (ty ∷ ts) (step ∷ steps) P s rows a b c d forms fits low high inside h =
+      (fewer l ty P blind s a b c d forms.0 low high (omega arith) (agree_left P (touched l s c d) (all_touched ls [] s c d) h))
+      (all_fewer ls ts [] P blind s rows a b c d forms.1 fits.1 low high inside (agree_right P (touched l s c d) (all_touched ls [] s c d) h))
+  all_fewer (child l ls) (ty ∷ ts) (step ∷ steps) P blind s rows a b c d forms fits low high inside h =
       agree_both P (under_step step (touched l s a b)) (all_touched ls steps s a b)
-      (agree_outside P step (touched l s a b) (fewer l ty P s a b c d forms.0 low high (omega arith) (agree_inside P step (touched l s c d) (agree_left P (under_step step (touched l s c d)) (all_touched ls steps s c d) h))))
-      (all_fewer ls ts steps P s rows a b c d forms.1 fits.1 low high inside (agree_right P (under_step step (touched l s c d)) (all_touched ls steps s c d) h))
+      (agree_outside P blind step (touched l s a b) (fewer l ty P blind s a b c d forms.0 low high (omega arith) (agree_inside P blind step (touched l s c d) (agree_left P (under_step step (touched l s c d)) (all_touched ls steps s c d) h))))
+      (all_fewer ls ts steps P blind s rows a b c d forms.1 fits.1 low high inside (agree_right P (under_step step (touched l s c d)) (all_touched ls steps s c d) h))
 
 pub marks_same : (f g : ℕ → Marked) (i n : ℕ) → ((j : ℕ) → i ≤ j → j < i + n → f j ≡ g j) → values_from f i n ≡ values_from g i n
 marks_same f g i zero h = refl
@@ -297,7 +307,7 @@ elements_same most (Some (pos x)) (Some (negsuc y)) f g h = refl
 
 mutual
   pub local : (l : Layout) (ty : DataType) (s t : Store) (a b i : ℕ) → HasForm l ty → a ≤ i → i < b → b ≤ rows_of l → Each (Agree s t) (touched l s a b) → row_value l s i ≡ row_value l t i
-  local (node u rows (Leaf segments) kids) ty s t a b i form low high inside h = leaf_local u s t 0 segments i a b (omega arith) (omega arith) h
+  local (node u rows (Leaf segments spelling) kids) ty s t a b i form low high inside h = leaf_local u s t 0 (places_of u spelling segments) i a b (omega arith) (omega arith) h
   local (node u rows Struct kids) ty s t a b i form low high inside h =
       ap (struct_value (nullability_of u)) (all_local kids (child_types u Struct) (struct_steps u) s t rows a b i form.3 form.2 low high inside
       (agreed_if (Agree s t) (nat_lt a b) (all_touched kids (struct_steps u) s a b) (lt-ltb a b (omega arith)) h))
@@ -306,14 +316,14 @@ mutual
       let most : ℕ = nth_rows kids 0 in
       let from : ℕ = element_from most rows f i (i + 1) in
       let to : ℕ = element_to most rows f i (i + 1) in
-      let narrow : Each (Agree s t) (touched (node u rows (List' q) kids) s i (i + 1)) = fewer (node u rows (List' q) kids) ty (Agree s t) s i (i + 1) a b form low (omega arith) inside h in
+      let narrow : Each (Agree s t) (touched (node u rows (List' q) kids) s i (i + 1)) = fewer (node u rows (List' q) kids) ty (Agree s t) (agree_blind s t) s i (i + 1) a b form low (omega arith) inside h in
       let more = agreed_if (Agree s t) (nat_lt i (i + 1)) (list_places kids rows s i (i + 1)) (lt-ltb i (i + 1) (omega arith)) narrow in
       let others = agree_right (Agree s t) (under_step to_validity (nth_touched kids 2 s i (i + 1))) (inner_places kids rows s i (i + 1)) more in
-      let in_offsets = agree_inside (Agree s t) to_offsets (nth_touched kids 1 s i (i + 1 + 1)) (agree_left (Agree s t) (under_step to_offsets (nth_touched kids 1 s i (i + 1 + 1))) (under_step to_elements (element_places kids rows s i (i + 1))) others) in
-      let in_elements = agree_inside (Agree s t) to_elements (element_places kids rows s i (i + 1)) (agree_right (Agree s t) (under_step to_offsets (nth_touched kids 1 s i (i + 1 + 1))) (under_step to_elements (element_places kids rows s i (i + 1))) others) in
+      let in_offsets = agree_inside (Agree s t) (agree_blind s t) to_offsets (nth_touched kids 1 s i (i + 1 + 1)) (agree_left (Agree s t) (under_step to_offsets (nth_touched kids 1 s i (i + 1 + 1))) (under_step to_elements (element_places kids rows s i (i + 1))) others) in
+      let in_elements = agree_inside (Agree s t) (agree_blind s t) to_elements (element_places kids rows s i (i + 1)) (agree_right (Agree s t) (under_step to_offsets (nth_touched kids 1 s i (i + 1 + 1))) (under_step to_elements (element_places kids rows s i (i + 1))) others) in
       let valid : nth_value kids 2 s i ≡ nth_value kids 2 t i =
       nth_local kids (child_types u (List' q)) 2 s t i (i + 1) i form.3 (within_less kids 2 (i + 1) rows (omega arith) (validity_within q rows kids form.2)) (omega arith) (omega arith)
-      (agree_inside (Agree s t) to_validity (nth_touched kids 2 s i (i + 1)) (agree_left (Agree s t) (under_step to_validity (nth_touched kids 2 s i (i + 1))) (inner_places kids rows s i (i + 1)) more)) in
+      (agree_inside (Agree s t) (agree_blind s t) to_validity (nth_touched kids 2 s i (i + 1)) (agree_left (Agree s t) (under_step to_validity (nth_touched kids 2 s i (i + 1))) (inner_places kids rows s i (i + 1)) more)) in
       let in_rows = within_less kids 1 (i + 1 + 1) (rows + 1) (omega arith) (offsets_within q rows kids form.2) in
       let first : nth_value kids 1 s i ≡ nth_value kids 1 t i = nth_local kids (child_types u (List' q)) 1 s t i (i + 1 + 1) i form.3 in_rows (omega arith) (omega arith) in_offsets in
       let last : nth_value kids 1 s (i + 1) ≡ nth_value kids 1 t (i + 1) = nth_local kids (child_types u (List' q)) 1 s t i (i + 1 + 1) (i + 1) form.3 in_rows (omega arith) (omega arith) in_offsets in
@@ -340,5 +350,5 @@ mutual
       λ r. more (local l ty s t a b i forms.0 low high (omega arith) (agree_left (Agree s t) (touched l s a b) (all_touched ls [] s a b) h) r)
       (all_local ls ts [] s t rows a b i forms.1 fits.1 low high inside (agree_right (Agree s t) (touched l s a b) (all_touched ls [] s a b) h) r)
   all_local (child l ls) (ty ∷ ts) (step ∷ steps) s t rows a b i forms fits low high inside h =
-      λ r. more (local l ty s t a b i forms.0 low high (omega arith) (agree_inside (Agree s t) step (touched l s a b) (agree_left (Agree s t) (under_step step (touched l s a b)) (all_touched ls steps s a b) h)) r)
+      λ r. more (local l ty s t a b i forms.0 low high (omega arith) (agree_inside (Agree s t) (agree_blind s t) step (touched l s a b) (agree_left (Agree s t) (under_step step (touched l s a b)) (all_touched ls steps s a b) h)) r)
       (all_local ls ts steps s t rows a b i forms.1 fits.1 low high inside (agree_right (Agree s t) (under_step step (touched l s a b)) (all_touched ls steps s a b) h) r)

@@ -1,6 +1,6 @@
 -- Reading gives the values exactly where the bytes spell them.
 use Rattle.std.proofs.Common.{◌≡◌, ℕ, zero, suc, ◌<◌, ◌≤◌, ◌^◌, List, [], ◌∷◌, ◌++◌, length, get_or, take, drop, replicate, arith, refl, sym, ◌∙◌, ap, subst, Bool, false, true, Option, Some, None, append_assoc}
-use Rattle.std.specs.Prelude.{option_map, nat_lt}
+use Rattle.std.specs.Prelude.{option_and_then, option_map, nat_lt, ◌-◌, ◌*◌}
 use Rattle.std.specs.Int.{w8, w16, w32, w64, from_le_bytes, to_le_bytes, cast_signed}
 use Rattle.std.proofs.lemmas.Int.{ints, of_z-to_z}
 use Rattle.std.proofs.lemmas.Nat.{le_bytes_2, le_bytes_4, le_bytes_8}
@@ -19,9 +19,12 @@ use Rattle.scan_values.specs.declared.dtype.DTypeKind.{DTypeKind}
 use Rattle.scan_values.specs.declared.ptype.Nullability.{Nullability}
 use Rattle.scan_values.specs.declared.ptype.Nullability.TheVariants.{NonNullable, Nullable}
 use Rattle.scan_values.specs.Val.{Val, null_val, bool_val, int_val, text_val, list_val, struct_val}
-use Rattle.scan_layout.specs.Spelling.{part, width, int_of, framed, slot, content, under_flag, cell, cells, decode_under, bool_of}
+use Rattle.scan_layout.specs.Spelling.{part, width, int_of, framed, slot, content, under_flag, cell, cells, bits_of, bytes_for, group_size, flags_in, slots_in, decode_slots, decode_under, bool_of}
 use Rattle.scan_layout.specs.Written.{IntFits, int_bytes, HasSlot, IsHere, TextFits, slot_bytes, flag_of}
-use Rattle.scan_layout.specs.Spells.{FillsSlot, SpellsCell, SpellsCells, SpellsUnder}
+use Rattle.scan_layout.specs.declared.spelling.Spelling.{Spelling}
+use Rattle.scan_layout.specs.declared.spelling.Spelling.TheVariants.{One, Two}
+use Rattle.scan_layout.specs.Spells.{AreBits, AreFlags, AreSlots, SpellsSlots, FillsSlot, SpellsCell, SpellsCells, SpellsUnder}
+use Rattle.scan_layout.proofs.Bits.{bits_small, group_is, is_group}
 use Rattle.scan_layout.proofs.RoundTrip.{part_front, framed_front, read_cell, cell_again}
 use Rattle.scan_layout.proofs.Lengths.{bind_some, map_some}
 
@@ -56,9 +59,26 @@ cells_read kind [] (v ∷ vs) bytes h = absurd h
 cells_read kind (flag ∷ flags) [] bytes h = absurd h
 cells_read kind (flag ∷ flags) (v ∷ vs) bytes h = rw (h.2, cell_read kind flag v h.0 h.1 h.3, cells_read kind flags vs h.1 h.4) refl
 
-pub under_read : (n' : Nullability) (kind : DTypeKind) (n : ℕ) (vs : List Val) (bytes : List ℕ) → SpellsUnder n' kind n vs bytes → decode_under n' kind n bytes ≡ Some vs
-under_read NonNullable kind n vs bytes h = cells_read kind (replicate n 1) vs bytes h
-under_read Nullable kind n vs bytes h = rw (h.2, part_front n h.0 h.1 h.3) (cells_read kind h.0 vs h.1 h.4)
+slots_read : (s : Spelling) (kind : DTypeKind) (n : ℕ) (slots bytes : List ℕ) → AreSlots s kind n slots bytes → slots_in s kind n bytes ≡ Some slots
+slots_read One kind n slots bytes h = ap Some h
+slots_read Two DTypeKind.Bool n slots bytes h = is_group n slots bytes h
+slots_read Two (DTypeKind.Primitive p) n slots bytes h = ap Some h
+slots_read Two DTypeKind.Utf8 n slots bytes h = ap Some h
+slots_read Two DTypeKind.List n slots bytes h = ap Some h
+slots_read Two DTypeKind.Struct n slots bytes h = ap Some h
+
+flags_read : (s : Spelling) (n : ℕ) (flags bytes : List ℕ) → AreFlags s n flags bytes → (length bytes ≡ group_size s n) × (flags_in s n bytes ≡ Some flags)
+flags_read One n flags bytes h = (ap length h.1 ∙ h.0, ap Some h.1)
+flags_read Two n flags bytes h = (h.1, is_group n flags bytes h)
+
+all_read : (s : Spelling) (kind : DTypeKind) (n : ℕ) (flags : List ℕ) (vs : List Val) (bytes : List ℕ) → SpellsSlots s kind n flags vs bytes → decode_slots s kind n flags bytes ≡ Some vs
+all_read s kind n flags vs bytes h = rw (slots_read s kind n h.0 bytes h.1) (cells_read kind flags vs h.0 h.2)
+
+pub under_read : (s : Spelling) (n' : Nullability) (kind : DTypeKind) (n : ℕ) (vs : List Val) (bytes : List ℕ) → SpellsUnder s n' kind n vs bytes → decode_under s n' kind n bytes ≡ Some vs
+under_read s NonNullable kind n vs bytes h = all_read s kind n (replicate n 1) vs bytes h
+under_read s Nullable kind n vs bytes h =
+    let group = flags_read s n h.3.0 h.0 h.3.1 in
+    rw (h.2, part_front (group_size s n) h.0 h.1 group.0, group.1) (all_read s kind n h.3.0 vs h.1 h.3.2)
 
 -- What is read is spelled so.
 
@@ -234,9 +254,41 @@ cells_is kind (flag ∷ flags) bytes (v ∷ vs) h e =
     let small : AreBytes first.0.1 = rest_is here.0 first.0.1 (subst AreBytes here.1 h) in
     (here.0, first.0.1, here.1, subst (λ u. SpellsCell kind flag u here.0) same here.2, cells_is kind flags first.0.1 vs small (others.1 ∙ ap Some rest))
 
-pub under_is : (n' : Nullability) (kind : DTypeKind) (n : ℕ) (vs : List Val) (bytes : List ℕ) → AreBytes bytes → decode_under n' kind n bytes ≡ Some vs → SpellsUnder n' kind n vs bytes
-under_is NonNullable kind n vs bytes h e = cells_is kind (replicate n 1) bytes vs h e
-under_is Nullable kind n vs bytes h e =
-    let split = bind_some (part n bytes) (λ p. cells kind p.0 p.1) vs e in
-    let parts = part_is n bytes split.0.0 split.0.1 split.1 in
-    (split.0.0, split.0.1, parts.0, parts.1, cells_is kind split.0.0 split.0.1 vs (rest_is split.0.0 split.0.1 (subst AreBytes parts.0 h)) split.2)
+slots_are : (s : Spelling) (kind : DTypeKind) (n : ℕ) (slots bytes : List ℕ) → slots_in s kind n bytes ≡ Some slots → AreSlots s kind n slots bytes
+slots_are One kind n slots bytes e = cc
+slots_are Two DTypeKind.Bool n slots bytes e = group_is n slots bytes e
+slots_are Two (DTypeKind.Primitive p) n slots bytes e = cc
+slots_are Two DTypeKind.Utf8 n slots bytes e = cc
+slots_are Two DTypeKind.List n slots bytes e = cc
+slots_are Two DTypeKind.Struct n slots bytes e = cc
+
+bits_are_bytes : (n : ℕ) (bits bytes : List ℕ) → AreBits n bits bytes → AreBytes bits
+bits_are_bytes n bits bytes h =
+    let low : AreBytes (bits_of bytes) = λ i. omega (arith, bits_small bytes i) in
+    front_is bits (replicate (8 * bytes_for n - n) 0) (subst AreBytes h.2 low)
+
+slots_small : (s : Spelling) (kind : DTypeKind) (n : ℕ) (slots bytes : List ℕ) → AreBytes bytes → AreSlots s kind n slots bytes → AreBytes slots
+slots_small One kind n slots bytes h e = subst AreBytes e h
+slots_small Two DTypeKind.Bool n slots bytes h e = bits_are_bytes n slots bytes e
+slots_small Two (DTypeKind.Primitive p) n slots bytes h e = subst AreBytes e h
+slots_small Two DTypeKind.Utf8 n slots bytes h e = subst AreBytes e h
+slots_small Two DTypeKind.List n slots bytes h e = subst AreBytes e h
+slots_small Two DTypeKind.Struct n slots bytes h e = subst AreBytes e h
+
+flags_are : (s : Spelling) (n : ℕ) (flags bytes : List ℕ) → length bytes ≡ group_size s n → flags_in s n bytes ≡ Some flags → AreFlags s n flags bytes
+flags_are One n flags bytes l e = let same : bytes ≡ flags = cc in (ap length (sym same) ∙ l, same)
+flags_are Two n flags bytes l e = group_is n flags bytes e
+
+all_is : (s : Spelling) (kind : DTypeKind) (n : ℕ) (flags : List ℕ) (vs : List Val) (bytes : List ℕ) → AreBytes bytes → decode_slots s kind n flags bytes ≡ Some vs → SpellsSlots s kind n flags vs bytes
+all_is s kind n flags vs bytes h e =
+    let found = bind_some (slots_in s kind n bytes) (cells kind flags) vs e in
+    let are = slots_are s kind n found.0 bytes found.1 in
+    (found.0, are, cells_is kind flags found.0 vs (slots_small s kind n found.0 bytes h are) found.2)
+
+pub under_is : (s : Spelling) (n' : Nullability) (kind : DTypeKind) (n : ℕ) (vs : List Val) (bytes : List ℕ) → AreBytes bytes → decode_under s n' kind n bytes ≡ Some vs → SpellsUnder s n' kind n vs bytes
+under_is s NonNullable kind n vs bytes h e = all_is s kind n (replicate n 1) vs bytes h e
+under_is s Nullable kind n vs bytes h e =
+    let split = bind_some (part (group_size s n) bytes) (λ p. option_and_then (λ flags. decode_slots s kind n flags p.1) (flags_in s n p.0)) vs e in
+    let parts = part_is (group_size s n) bytes split.0.0 split.0.1 split.1 in
+    let found = bind_some (flags_in s n split.0.0) (λ flags. decode_slots s kind n flags split.0.1) vs split.2 in
+    (split.0.0, split.0.1, parts.0, (found.0, flags_are s n found.0 split.0.0 parts.1 found.1, all_is s kind n found.0 vs split.0.1 (rest_is split.0.0 split.0.1 (subst AreBytes parts.0 h)) found.2))

@@ -1,5 +1,5 @@
 -- What is written is read again.
-use Rattle.std.proofs.Common.{◌≡◌, ℕ, suc, ◌<◌, ◌^◌, List, [], ◌∷◌, ◌++◌, length, replicate, arith, refl, ◌∙◌, ap, false, true, Some, append_assoc, length-append}
+use Rattle.std.proofs.Common.{◌≡◌, ℕ, suc, ◌<◌, ◌^◌, List, [], ◌∷◌, ◌++◌, length, replicate, arith, refl, ◌∙◌, ap, subst, false, true, Some, append_assoc, length-append}
 use Rattle.std.specs.Prelude.{option_and_then, ℤ, pos, negsuc, nat_lt}
 use Rattle.std.specs.List.{AllByRecursion}
 use Rattle.std.specs.Int.{w8, w16, w32, w64, from_le_bytes, to_le_bytes, cast_unsigned, cast_signed}
@@ -9,8 +9,13 @@ use Rattle.std.proofs.Math.Seq.{take-append_seam, drop-append_seam}
 use Rattle.std.proofs.lemmas.Bool.{le-ltb}
 use Rattle.scan_values.specs.declared.ptype.PType.{PType}
 use Rattle.scan_values.specs.declared.ptype.PType.TheVariants.{U8, U16, U32, U64, I8, I16, I32, I64}
-use Rattle.scan_layout.specs.Spelling.{part, width, int_of, framed, slot, content, under_flag, cell, cells, decode_under}
-use Rattle.scan_layout.specs.Written.{IntFits, int_bytes, HasSlot, IsHere, TextFits, slot_bytes, flag_of, slots, flags, spelling_under}
+use Rattle.scan_layout.specs.Spelling.{part, width, int_of, framed, slot, content, under_flag, cell, cells, group_size, flags_in, slots_in, decode_under}
+use Rattle.scan_layout.specs.Written.{IntFits, int_bytes, HasSlot, IsHere, TextFits, slot_bytes, flag_of, slots, flags, gathered, flags_as, slots_as, IsOfKind, spelling_under}
+use Rattle.scan_layout.specs.declared.spelling.Spelling.{Spelling}
+use Rattle.scan_layout.specs.declared.spelling.Spelling.TheVariants.{One, Two}
+use Rattle.scan_layout.specs.Spells.{AreBits}
+use Rattle.scan_layout.proofs.Bits.{is_group}
+use Rattle.scan_layout.proofs.Gathering.{gathered_are, flags_binary, bools_binary}
 use Rattle.scan_layout.proofs.Texts.{is_text}
 use Rattle.scan_values.specs.declared.dtype.DTypeKind.{DTypeKind}
 use Rattle.scan_values.specs.declared.ptype.Nullability.{Nullability}
@@ -116,6 +121,35 @@ flags_length : (vs : List Val) → length (flags vs) ≡ length vs
 flags_length [] = refl
 flags_length (v ∷ vs) = ap suc (flags_length vs)
 
-pub read_again : (n : Nullability) (kind : DTypeKind) (vs : List Val) → AllByRecursion (HasSlot kind) vs → AllByRecursion (HereWhere n) vs → AllByRecursion TextFits vs → decode_under n kind (length vs) (spelling_under n kind vs) ≡ Some vs
-read_again NonNullable kind vs h g t = ap (λ fs. cells kind fs (slots kind vs)) (here_flags vs g) ∙ cells_again kind vs h t
-read_again Nullable kind vs h g t = rw (part_front (length vs) (flags vs) (slots kind vs) (flags_length vs)) (cells_again kind vs h t)
+flags_again : (s : Spelling) (vs : List Val) → (length (flags_as s (flags vs)) ≡ group_size s (length vs)) × (flags_in s (length vs) (flags_as s (flags vs)) ≡ Some (flags vs))
+flags_again One vs = (flags_length vs, refl)
+flags_again Two vs =
+    let are : AreBits (length vs) (flags vs) (gathered (flags vs)) = subst (λ n. AreBits n (flags vs) (gathered (flags vs))) (flags_length vs) (gathered_are (flags vs) (flags_binary vs)) in
+    (are.1, is_group (length vs) (flags vs) (gathered (flags vs)) are)
+
+bool_kinds : (vs : List Val) → AllByRecursion (HasSlot DTypeKind.Bool) vs → AllByRecursion (IsOfKind DTypeKind.Bool) vs
+bool_kinds [] h = tt
+bool_kinds (null_val ∷ vs) h = (tt, bool_kinds vs h.1)
+bool_kinds (bool_val b ∷ vs) h = (tt, bool_kinds vs h.1)
+bool_kinds (int_val z ∷ vs) h = absurd h.0
+bool_kinds (text_val bytes ∷ vs) h = absurd h.0
+bool_kinds (list_val us ∷ vs) h = absurd h.0
+bool_kinds (struct_val us ∷ vs) h = absurd h.0
+
+slots_again : (s : Spelling) (kind : DTypeKind) (vs : List Val) → AllByRecursion (HasSlot kind) vs → slots_in s kind (length vs) (slots_as s kind (slots kind vs)) ≡ Some (slots kind vs)
+slots_again One kind vs h = refl
+slots_again Two DTypeKind.Bool vs h =
+    let bits = bools_binary vs (bool_kinds vs h) in
+    let are = subst (λ n. AreBits n (slots DTypeKind.Bool vs) (gathered (slots DTypeKind.Bool vs))) bits.1 (gathered_are (slots DTypeKind.Bool vs) bits.0) in
+    is_group (length vs) (slots DTypeKind.Bool vs) (gathered (slots DTypeKind.Bool vs)) are
+slots_again Two (DTypeKind.Primitive p) vs h = refl
+slots_again Two DTypeKind.Utf8 vs h = refl
+slots_again Two DTypeKind.List vs h = refl
+slots_again Two DTypeKind.Struct vs h = refl
+
+pub read_again : (s : Spelling) (n : Nullability) (kind : DTypeKind) (vs : List Val) → AllByRecursion (HasSlot kind) vs → AllByRecursion (HereWhere n) vs → AllByRecursion TextFits vs → decode_under s n kind (length vs) (spelling_under s n kind vs) ≡ Some vs
+read_again s NonNullable kind vs h g t =
+    ap (option_and_then (cells kind (replicate (length vs) 1))) (slots_again s kind vs h) ∙ ap (λ fs. cells kind fs (slots kind vs)) (here_flags vs g) ∙ cells_again kind vs h t
+read_again s Nullable kind vs h g t =
+    let front = flags_again s vs in
+    rw (part_front (group_size s (length vs)) (flags_as s (flags vs)) (slots_as s kind (slots kind vs)) front.0, front.1, slots_again s kind vs h) (cells_again kind vs h t)

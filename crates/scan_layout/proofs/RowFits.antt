@@ -1,6 +1,6 @@
 -- A row of a well-formed layout has a value that fits its dtype.
 use Rattle.std.proofs.Common.{◌≡◌, ℕ, zero, suc, ◌+◌, ◌-◌, ◌<◌, ◌^◌, List, [], ◌∷◌, length, get_or, refl, ap, subst, Bool, false, true, Option, Some, None, arith, ◌&&◌}
-use Rattle.std.specs.Prelude.{nat_lt, nat_le, if◌then◌else◌, ℤ, pos, negsuc}
+use Rattle.std.specs.Prelude.{option_and_then, nat_lt, nat_le, if◌then◌else◌, ℤ, pos, negsuc}
 use Rattle.std.proofs.lemmas.Bool.{ltb-true, lt-ltb}
 use Rattle.scan_values.specs.declared.ptype.Nullability.{Nullability}
 use Rattle.scan_values.specs.declared.ptype.Nullability.TheVariants.{NonNullable, Nullable}
@@ -21,6 +21,8 @@ use Rattle.scan_layout.specs.Form.{HasForm, HaveForms}
 use Rattle.scan_layout.specs.Spelling.{decode}
 use Rattle.scan_layout.specs.RowValue.{row_value, nth_value, row_values, leaf_value, segment_value, item_of, where_valid, under, elements_between, offset_of, nth_rows, values_from}
 use Rattle.scan_layout.proofs.Forms.{and_true}
+use Rattle.scan_layout.specs.declared.spelling.Spelling.{Spelling}
+use Rattle.scan_layout.specs.Places.{Place, place_of, places_of}
 use Rattle.scan_layout.proofs.Lengths.{decode_length}
 use Rattle.scan_layout.proofs.Fitting.{decoded_fit}
 
@@ -39,24 +41,24 @@ fits_at [] t i e h = absurd (omega arith)
 fits_at (v ∷ vs) t zero e h = (and_true (fits (marked v) t) (fits_all (marked_all (vals_of vs)) t) e).0
 fits_at (v ∷ vs) t (suc i) e h = fits_at vs t i (and_true (fits (marked v) t) (fits_all (marked_all (vals_of vs)) t) e).1 (omega arith)
 
-item_fits : (t : DataType) (n i : ℕ) (bytes : List ℕ) (o : Option (List Val)) → is_scalar_type t ≡ true → i < n → decode t n bytes ≡ o → fits (item_of t i o) t ≡ true
-item_fits t n i bytes None s h e = damaged_fits t s
-item_fits t n i bytes (Some vs) s h e = let long : length vs ≡ n = decode_length t n bytes vs e in fits_at vs t i (decoded_fit t n bytes vs e) (omega arith)
+item_fits : (sp : Spelling) (t : DataType) (n i : ℕ) (bytes : List ℕ) (o : Option (List Val)) → is_scalar_type t ≡ true → i < n → decode sp t n bytes ≡ o → fits (item_of t i o) t ≡ true
+item_fits sp t n i bytes None s h e = damaged_fits t s
+item_fits sp t n i bytes (Some vs) s h e = let long : length vs ≡ n = decode_length sp t n bytes vs e in fits_at vs t i (decoded_fit sp t n bytes vs e) (omega arith)
 
-segment_fits : (t : DataType) (n i : ℕ) (o : Option (List ℕ)) → is_scalar_type t ≡ true → i < n → fits (segment_value t n i o) t ≡ true
-segment_fits t n i None s h = damaged_fits t s
-segment_fits t n i (Some bytes) s h = item_fits t n i bytes (decode t n bytes) s h refl
+bytes_fit : (p : Place) (i : ℕ) (o : Option (List ℕ)) → is_scalar_type p.dtype ≡ true → i < p.rows → fits (item_of p.dtype i (option_and_then (decode p.spelling p.dtype p.rows) o)) p.dtype ≡ true
+bytes_fit p i None s h = damaged_fits p.dtype s
+bytes_fit p i (Some bytes) s h = item_fits p.spelling p.dtype p.rows i bytes (decode p.spelling p.dtype p.rows bytes) s h refl
 
 if_fits : (t : DataType) (test : Bool) (x y : Marked) → (test ≡ true → fits x t ≡ true) → (test ≡ false → fits y t ≡ true) → fits (if test then x else y) t ≡ true
 if_fits t true x y h k = h refl
 if_fits t false x y h k = k refl
 
-leaf_fits : (t : DataType) (s : Store) (segments : List (ℕ × ℕ)) (i : ℕ) → is_scalar_type t ≡ true → fits (leaf_value t s segments i) t ≡ true
-leaf_fits t s [] i h = damaged_fits t h
-leaf_fits t s (g ∷ segments) i h =
-    if_fits t (nat_lt i g.1) (segment_value t g.1 i (s g.0)) (leaf_value t s segments (i - g.1))
-    (λ p. segment_fits t g.1 i (s g.0) h (ltb-true i g.1 p))
-    (λ _. leaf_fits t s segments (i - g.1) h)
+leaf_fits : (t : DataType) (sp : Spelling) (s : Store) (segments : List (ℕ × ℕ)) (i : ℕ) → is_scalar_type t ≡ true → fits (leaf_value t s (places_of t sp segments) i) t ≡ true
+leaf_fits t sp s [] i h = damaged_fits t h
+leaf_fits t sp s (g ∷ segments) i h =
+    if_fits t (nat_lt i g.1) (segment_value s (place_of t sp g) i) (leaf_value t s (places_of t sp segments) (i - g.1))
+    (λ p. bytes_fit (place_of t sp g) i (s g.0) h (ltb-true i g.1 p))
+    (λ _. leaf_fits t sp s segments (i - g.1) h)
 
 -- a list's elements
 
@@ -130,7 +132,7 @@ valid_fits t Nullable v m n h = under_fits t v m n h
 
 mutual
   pub row_fits : (l : Layout) (t : DataType) (s : Store) (i : ℕ) → HasForm l t → fits (row_value l s i) t ≡ true
-  row_fits (node u rows (Leaf segments) kids) t s i form = subst (λ w. fits (leaf_value u s segments i) w ≡ true) form.0 (leaf_fits u s segments i form.1)
+  row_fits (node u rows (Leaf segments spelling) kids) t s i form = subst (λ w. fits (leaf_value u s (places_of u spelling segments) i) w ≡ true) form.0 (leaf_fits u spelling s segments i form.1)
   row_fits (node (list_type e n) rows (List' q) (child a (child o kids))) t s i form =
       subst (λ w. fits (row_value (node (list_type e n) rows (List' q) (child a (child o kids))) s i) w ≡ true) form.0
       (valid_fits (list_type e n) n (nth_value (child a (child o kids)) 2 s i)

@@ -26,7 +26,7 @@ struct_where (node (bool_type n) rows Struct kids) e k h = absurd cc
 struct_where (node (int_type p n) rows Struct kids) e k h = absurd cc
 struct_where (node (utf8_type n) rows Struct kids) e k h = absurd cc
 struct_where (node (list_type t n) rows Struct kids) e k h = absurd cc
-struct_where (node t rows (Leaf segments) kids) e k h = absurd cc
+struct_where (node t rows (Leaf segments spelling) kids) e k h = absurd cc
 struct_where (node t rows (List' p) kids) e k h = absurd cc
 
 pub struct_is : (t : DataType) (fs : Fields) (n : Nullability) → struct_fields_of t ≡ Some fs → nullability_of t ≡ n → t ≡ struct_type fs n
@@ -89,7 +89,7 @@ list_where (node t rows (List' p) kids) i e k h n =
     let many = two_kids p t kids (rows_fault (List' p) rows kids) shape.0 in
     kid_there kids i (omega arith) n
 list_where (node t rows Struct kids) i e k h n = absurd cc
-list_where (node t rows (Leaf segments) kids) i e k h n = absurd cc
+list_where (node t rows (Leaf segments spelling) kids) i e k h n = absurd cc
 
 pub element_where : (l : Layout) → level_fault l ≡ None → is_list_kind (kind_of l) ≡ true → None ≡ element_of (dtype_of l) → ⊥
 element_where (node (list_type t n) rows kind kids) e k h = absurd cc
@@ -97,7 +97,7 @@ element_where (node (bool_type n) rows (List' p) kids) e k h = absurd cc
 element_where (node (int_type q n) rows (List' p) kids) e k h = absurd cc
 element_where (node (utf8_type n) rows (List' p) kids) e k h = absurd cc
 element_where (node (struct_type fs n) rows (List' p) kids) e k h = absurd cc
-element_where (node t rows (Leaf segments) kids) e k h = absurd cc
+element_where (node t rows (Leaf segments spelling) kids) e k h = absurd cc
 element_where (node t rows Struct kids) e k h = absurd cc
 
 pub offsets_type_null : (t : DataType) → nullability_of t ≡ Nullable → offsets_type t ≡ None
@@ -119,7 +119,7 @@ offsets_type_none (struct_type fs m) e = refl
 pub ptype_where : (k : LayoutKind) → is_list_kind k ≡ true → None ≡ list_ptype k → ⊥
 ptype_where (List' p) e h = absurd cc
 ptype_where Struct e h = absurd cc
-ptype_where (Leaf segments) e h = absurd cc
+ptype_where (Leaf segments spelling) e h = absurd cc
 
 abbrev ptype_or : PType → Option PType → PType
 ptype_or d None = d
@@ -128,7 +128,7 @@ ptype_or d (Some p) = p
 pub ptype_is : (k : LayoutKind) (p : PType) → Some p ≡ list_ptype k → k ≡ List' p
 ptype_is (List' q) p e = ap List' (ap (ptype_or p) (sym e))
 ptype_is Struct p e = absurd cc
-ptype_is (Leaf segments) p e = absurd cc
+ptype_is (Leaf segments spelling) p e = absurd cc
 
 pub ptype_of_list : (k : LayoutKind) (p : PType) → k ≡ List' p → ptype_of_kind k ≡ p
 ptype_of_list k p e = ap ptype_of_kind e

@@ -28,7 +28,7 @@ child_types _ _ = []
 
 -- a leaf serves a scalar, a struct a struct and a list a list
 abbrev pub serves : LayoutKind → DataType → Bool
-serves (Leaf segments) t = is_scalar_type t
+serves (Leaf segments spelling) t = is_scalar_type t
 serves Struct (struct_type fs n) = true
 serves (List' p) (list_type t n) = true
 serves _ _ = false
@@ -73,7 +73,7 @@ abbrev pub leaf_fault : List (ℕ × ℕ) → ℕ → Option LayoutFault
 leaf_fault segments rows = unless (nat_lt (total_rows segments) (2 ^ 64)) RowSum then unless (total_rows segments == rows) ChildRows
 
 abbrev pub rows_fault : LayoutKind → ℕ → Nodes → Option LayoutFault
-rows_fault (Leaf segments) rows kids = leaf_fault segments rows
+rows_fault (Leaf segments spelling) rows kids = leaf_fault segments rows
 rows_fault Struct rows kids = unless (all_have_rows rows kids) ChildRows
 rows_fault (List' p) rows kids = unless (offsets_rows rows kids) Offsets then unless (validity_rows rows kids) ChildRows
 

@@ -72,7 +72,7 @@ struct_matches _ masks = []
 -- the edges of a layout in a range: its end, and the ends of what is read by the masks
 abbrev mutual
   pub edges : Layout → List MaskPath → ℕ → ℕ → List ℕ
-  edges (node t rows (Leaf segments) kids) masks lo hi = filter (is_inside lo hi) (segment_ends 0 segments) ++ (hi ∷ [])
+  edges (node t rows (Leaf segments spelling) kids) masks lo hi = filter (is_inside lo hi) (segment_ends 0 segments) ++ (hi ∷ [])
   edges (node t rows Struct kids) masks lo hi = flat_map (λ m. nth_edges kids m.1 (m.0 ∷ []) lo hi) (struct_matches t masks) ++ (hi ∷ [])
   edges (node t rows (List' p) kids) masks lo hi =
       filter (is_inside lo hi) (filter_map (λ e. map_element_split_to_outer_grid e (nth_rows kids 0) rows (list_split_grid_size rows))

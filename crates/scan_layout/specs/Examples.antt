@@ -1,5 +1,5 @@
 -- Worked rows.
-use Rattle.std.specs.Prelude.{◌≡◌, ℕ, ◌==◌, List, [], ◌∷◌, map, if◌then◌else◌, Some, None, pos}
+use Rattle.std.specs.Prelude.{◌≡◌, ℕ, ◌==◌, List, [], ◌∷◌, map, true, if◌then◌else◌, Some, None, pos}
 use Rattle.scan_values.specs.declared.ptype.Nullability.TheVariants.{NonNullable, Nullable}
 use Rattle.scan_values.specs.declared.ptype.PType.TheVariants.{U32, I32}
 use Rattle.scan_values.specs.DataType.{DataType, bool_type, int_type, list_type, struct_type, no_fields, field}
@@ -7,8 +7,13 @@ use Rattle.scan_values.specs.Marked.{null, gone, integer, list, struct, none, mo
 use Rattle.scan_segments.specs.Source.{Store}
 use Rattle.scan_layout.specs.declared.node.LayoutKind.TheVariants.{Leaf, Struct, List as List'}
 use Rattle.scan_layout.specs.declared.fault.LayoutFault.TheVariants.{Offsets}
+use Rattle.scan_layout.specs.declared.spelling.Spelling.TheVariants.{One, Two}
 use Rattle.scan_layout.specs.Layout.{Layout, node, no_nodes, child}
 use Rattle.scan_layout.specs.Check.{first_fault}
+use Rattle.scan_layout.specs.declared.spelling.Spelling.{Spelling}
+use Rattle.scan_layout.specs.Spelling.{decode}
+use Rattle.scan_layout.specs.Written.{spelled}
+use Rattle.scan_values.specs.Val.{Val, null_val, bool_val, int_val}
 use Rattle.scan_layout.specs.RowValue.{row_value}
 use Rattle.scan_layout.specs.Touched.{touched}
 use Rattle.scan_layout.specs.Edges.{edges, list_split_grid_size, map_element_split_to_outer_grid}
@@ -27,7 +32,7 @@ abbrev pub flags : DataType
 flags = bool_type NonNullable
 
 abbrev pub leaf : DataType → ℕ → List (ℕ × ℕ) → Layout
-leaf t rows segments = node t rows (Leaf segments) no_nodes
+leaf t rows segments = node t rows (Leaf segments One) no_nodes
 
 abbrev pub ids : Layout → Store → ℕ → ℕ → List ℕ
 ids l store s e = map (λ p. p.id) (touched l store s e)
@@ -36,11 +41,18 @@ ids l store s e = map (λ p. p.id) (touched l store s e)
 abbrev pub a_type : DataType
 a_type = struct_type (field (97 ∷ []) i32 no_fields) Nullable
 
+abbrev pub struct_by : Spelling → Layout
+struct_by s = node a_type 3 Struct (child (node flags 3 (Leaf ((2, 3) ∷ []) s) no_nodes) (child (leaf i32 3 ((0, 3) ∷ [])) no_nodes))
+
 abbrev pub a_struct : Layout
-a_struct = node a_type 3 Struct (child (leaf flags 3 ((2, 3) ∷ [])) (child (leaf i32 3 ((0, 3) ∷ [])) no_nodes))
+a_struct = struct_by One
 
 abbrev pub a_store : Store
 a_store id = if id == 0 then Some (small 1 (small 2 (small 3 []))) else if id == 2 then Some (1 ∷ 0 ∷ 1 ∷ []) else None
+
+-- the same, where segment 2 has bits
+abbrev pub bits_store : Store
+bits_store id = if id == 2 then Some (5 ∷ []) else a_store id
 
 -- the same, of which the last byte of the column is cut off
 abbrev pub cut_store : Store
@@ -77,6 +89,15 @@ no_rows n = node (list_type i32 NonNullable) 0 (List' U32) (child (leaf i32 0 []
 abbrev pub two_columns : Layout
 two_columns = node (struct_type (field (97 ∷ []) i32 (field (98 ∷ []) i32 no_fields)) NonNullable) 3 Struct (child (leaf i32 3 ((0, 3) ∷ [])) (child (leaf i32 3 ((1, 2) ∷ (2, 1) ∷ [])) no_nodes))
 
+abbrev pub bools : DataType
+bools = bool_type Nullable
+
+abbrev pub ints : DataType
+ints = int_type I32 Nullable
+
+abbrev pub one_null_three : List Val
+one_null_three = int_val (pos 1) ∷ null_val ∷ int_val (pos 3) ∷ []
+
 abbrev pub WorkedRows : Type 0
 WorkedRows =
     record {
@@ -102,4 +123,14 @@ WorkedRows =
       mapped : map_element_split_to_outer_grid 50 100 1000 64 ≡ Some 500;
       not_first : map_element_split_to_outer_grid 1 1000 1000 64 ≡ None;
       not_last : map_element_split_to_outer_grid 100 100 1000 64 ≡ None;
+      bits_written : spelled Two bools (bool_val true ∷ null_val ∷ []) ≡ 1 ∷ 1 ∷ [];
+      bits_read : decode Two bools 2 (1 ∷ 1 ∷ []) ≡ Some (bool_val true ∷ null_val ∷ []);
+      null_bit_ignored : decode Two bools 2 (1 ∷ 3 ∷ []) ≡ Some (bool_val true ∷ null_val ∷ []);
+      spare_flag : decode Two bools 2 (5 ∷ 1 ∷ []) ≡ None;
+      spare_bool : decode Two bools 2 (1 ∷ 5 ∷ []) ≡ None;
+      bytes_first : decode One ints 3 (1 ∷ 0 ∷ 1 ∷ small 1 (small 0 (small 3 []))) ≡ Some one_null_three;
+      bits_after : spelled Two ints one_null_three ≡ 5 ∷ small 1 (small 0 (small 3 []));
+      ints_by_bits : decode Two ints 3 (5 ∷ small 1 (small 0 (small 3 []))) ≡ Some one_null_three;
+      null_by_bits : row_value (struct_by Two) bits_store 1 ≡ null;
+      there_by_bits : row_value (struct_by Two) bits_store 2 ≡ struct (more (integer (pos 3)) none);
     }

@@ -13,7 +13,7 @@ AllHaveRows rows (child l ls) = (rows_of l ≡ rows) × AllHaveRows rows ls
 -- A leaf's segments have its rows. A struct's children have its rows. A list has one offset more than rows, and
 -- its validity, where it has one, has its rows.
 abbrev pub RowsFit : LayoutKind → ℕ → Nodes → Type 0
-RowsFit (Leaf segments) rows kids = (total_rows segments ≡ rows) × (rows < 2 ^ 64)
+RowsFit (Leaf segments spelling) rows kids = (total_rows segments ≡ rows) × (rows < 2 ^ 64)
 RowsFit Struct rows kids = AllHaveRows rows kids
 RowsFit (List' p) rows no_nodes = Unit {0}
 RowsFit (List' p) rows (child elements no_nodes) = Unit {0}

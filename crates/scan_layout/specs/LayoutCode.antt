@@ -7,6 +7,7 @@ use Rattle.scan_values.specs.Trees.{left, right, itself}
 use Rattle.scan_values.specs.DataType.{tree, read, read-tree, ptype_tree, tree_ptype, tree_ptype-ptype_tree}
 use Rattle.scan_layout.specs.declared.node.LayoutKind.{LayoutKind}
 use Rattle.scan_layout.specs.declared.node.LayoutKind.TheVariants.{Leaf, Struct, List as List'}
+use Rattle.scan_layout.specs.declared.spelling.Spelling.TheVariants.{One, Two}
 use Rattle.scan_layout.specs.Layout.{Layout, Nodes, node, no_nodes, child}
 
 abbrev pub pairs_tree : List (ℕ × ℕ) → Gv
@@ -26,19 +27,21 @@ tree_pairs-pairs_tree [] = refl
 tree_pairs-pairs_tree (p ∷ ps) = ap (λ qs. p ∷ qs) (tree_pairs-pairs_tree ps)
 
 abbrev pub kind_tree : LayoutKind → Gv
-kind_tree (Leaf ps) = gcons gnil (pairs_tree ps)
+kind_tree (Leaf ps One) = gcons gnil (pairs_tree ps)
+kind_tree (Leaf ps Two) = gcons (gcons gnil gnil) (pairs_tree ps)
 kind_tree Struct = gnil
 kind_tree (List' p) = gcons (gnum 1) (gnum (ptype_tree p))
 
 abbrev pub tree_kind : Gv → LayoutKind
 tree_kind gnil = Struct
 tree_kind (gnum n) = Struct
-tree_kind (gcons gnil b) = Leaf (tree_pairs b)
+tree_kind (gcons gnil b) = Leaf (tree_pairs b) One
 tree_kind (gcons (gnum n) b) = List' (tree_ptype (num b))
-tree_kind (gcons (gcons x y) b) = Struct
+tree_kind (gcons (gcons x y) b) = Leaf (tree_pairs b) Two
 
 pub tree_kind-kind_tree : (k : LayoutKind) → tree_kind (kind_tree k) ≡ k
-tree_kind-kind_tree (Leaf ps) = ap Leaf (tree_pairs-pairs_tree ps)
+tree_kind-kind_tree (Leaf ps One) = ap (λ qs. Leaf qs One) (tree_pairs-pairs_tree ps)
+tree_kind-kind_tree (Leaf ps Two) = ap (λ qs. Leaf qs Two) (tree_pairs-pairs_tree ps)
 tree_kind-kind_tree Struct = refl
 tree_kind-kind_tree (List' p) = ap List' (tree_ptype-ptype_tree p)
 

@@ -7,6 +7,7 @@ pub mod Form
 pub mod Spelling
 pub mod Spells
 pub mod Written
+pub mod Places
 pub mod RowValue
 pub mod Touched
 pub mod Edges
@@ -16,5 +17,9 @@ pub mod Laws
 pub mod Slots
 pub mod Contexts
 pub mod Lazy
+pub mod LazyCode
 pub mod LazyLends
+pub mod OptionLends
 pub mod Examples
+pub mod LeafColumns
+pub mod TextColumns

@@ -9,21 +9,20 @@ use Rattle.scan_values.specs.Damage.{damaged_of}
 use Rattle.scan_segments.specs.Source.{Store}
 use Rattle.scan_layout.specs.declared.node.LayoutKind.TheVariants.{Leaf, Struct, List as List'}
 use Rattle.scan_layout.specs.Layout.{Layout, Nodes, node, no_nodes, child, rows_of}
-use Rattle.scan_layout.specs.Spelling.{decode}
+use Rattle.scan_layout.specs.Places.{Place, places_of, decoded}
 
 -- row i of a segment of so many rows
 abbrev pub item_of : DataType → ℕ → Option (List Val) → Marked
 item_of t i None = damaged_of t
 item_of t i (Some values) = marked (slice_index_or values i null_val)
 
-abbrev pub segment_value : DataType → ℕ → ℕ → Option (List ℕ) → Marked
-segment_value t rows i None = damaged_of t
-segment_value t rows i (Some bytes) = item_of t i (decode t rows bytes)
+abbrev pub segment_value : Store → Place → ℕ → Marked
+segment_value store p i = item_of p.dtype i (decoded store p)
 
--- row i of a leaf: its value in the segment that has the row
-abbrev pub leaf_value : DataType → Store → List (ℕ × ℕ) → ℕ → Marked
+-- row i of a leaf of these segments: its value in the segment that has the row
+abbrev pub leaf_value : DataType → Store → List Place → ℕ → Marked
 leaf_value t store [] i = damaged_of t
-leaf_value t store (s ∷ segments) i = if nat_lt i s.1 then segment_value t s.1 i (store s.0) else leaf_value t store segments (i - s.1)
+leaf_value t store (p ∷ places) i = if nat_lt i p.rows then segment_value store p i else leaf_value t store places (i - p.rows)
 
 -- a value under its validity
 abbrev pub under : Marked → Marked → Marked
@@ -63,7 +62,7 @@ nth_rows (child l ls) (suc k) = nth_rows ls k
 
 abbrev mutual
   pub row_value : Layout → Store → ℕ → Marked
-  row_value (node t rows (Leaf segments) kids) store i = leaf_value t store segments i
+  row_value (node t rows (Leaf segments spelling) kids) store i = leaf_value t store (places_of t spelling segments) i
   row_value (node t rows Struct kids) store i = struct_value (nullability_of t) (row_values kids store i)
   row_value (node t rows (List' p) kids) store i = where_valid (nullability_of t) (nth_value kids 2 store i)
       (elements_between (nth_rows kids 0) (offset_of (nth_value kids 1 store i)) (offset_of (nth_value kids 1 store (i + 1))) (λ j. nth_value kids 0 store j))

@@ -3,18 +3,12 @@ use Rattle.std.specs.Prelude.{ℕ, zero, suc, ◌+◌, ◌-◌, nat_lt, ◌==◌
 use Rattle.scan_values.specs.declared.ptype.Nullability.TheVariants.{NonNullable, Nullable}
 use Rattle.scan_values.specs.DataType.{DataType, Fields, no_fields, field, struct_type}
 use Rattle.scan_values.specs.Marked.{Marked}
-use Rattle.scan_values.specs.Paths.{Step, to_field, to_validity, to_offsets, to_elements, Path}
+use Rattle.scan_values.specs.Paths.{Step, to_field, to_validity, to_offsets, to_elements}
 use Rattle.scan_segments.specs.Source.{Store}
 use Rattle.scan_layout.specs.declared.node.LayoutKind.TheVariants.{Leaf, Struct, List as List'}
 use Rattle.scan_layout.specs.Layout.{Layout, Nodes, node, no_nodes, child}
+use Rattle.scan_layout.specs.Places.{Place, places_of}
 use Rattle.scan_layout.specs.RowValue.{nth_value, nth_rows, offset_of}
-
--- A segment of a leaf: the leaf's path and dtype, the segment's rows and its id.
-pub record Place : Type 0 where
-  pub path : Path
-  pub dtype : DataType
-  pub rows : ℕ
-  pub id : ℕ
 
 abbrev pub below_step : Step → Place → Place
 below_step step p = record p { path = step ∷ p.path }
@@ -22,11 +16,11 @@ below_step step p = record p { path = step ∷ p.path }
 abbrev pub under_step : Step → List Place → List Place
 under_step step places = map (below_step step) places
 
--- the segments that hold one of the rows from s up to e, where the first begins at the row base
-abbrev pub leaf_touched : DataType → ℕ → List (ℕ × ℕ) → ℕ → ℕ → List Place
-leaf_touched t base [] s e = []
-leaf_touched t base (g ∷ segments) s e =
-    (if nat_lt (max base s) (min (base + g.1) e) then record { path = []; dtype = t; rows = g.1; id = g.0 } ∷ [] else []) ++ leaf_touched t (base + g.1) segments s e
+-- the segments of a leaf that hold one of the rows from s up to e, where the first begins at the row base
+abbrev pub leaf_touched : ℕ → List Place → ℕ → ℕ → List Place
+leaf_touched base [] s e = []
+leaf_touched base (p ∷ places) s e =
+    (if nat_lt (max base s) (min (base + p.rows) e) then p ∷ [] else []) ++ leaf_touched (base + p.rows) places s e
 
 -- an offset as a row of the elements
 abbrev pub row_at : ℤ → ℕ
@@ -70,7 +64,7 @@ struct_steps _ = []
 -- what the rows from s up to e of a layout touch
 abbrev mutual
   pub touched : Layout → Store → ℕ → ℕ → List Place
-  touched (node t rows (Leaf segments) kids) store s e = leaf_touched t 0 segments s e
+  touched (node t rows (Leaf segments spelling) kids) store s e = leaf_touched 0 (places_of t spelling segments) s e
   touched (node t rows Struct kids) store s e = if nat_lt s e then all_touched kids (struct_steps t) store s e else []
   touched (node t rows (List' p) kids) store s e =
       if nat_lt s e then under_step to_validity (nth_touched kids 2 store s e)

@@ -1,5 +1,5 @@
 -- How values are written into a segment.
-use Rattle.std.specs.Prelude.{ℕ, ℤ, ◌<◌, ◌^◌, List, [], ◌∷◌, ◌++◌, length, replicate, Bool, true, false}
+use Rattle.std.specs.Prelude.{ℕ, zero, suc, ℤ, ◌+◌, ◌*◌, ◌<◌, ◌^◌, List, [], ◌∷◌, ◌++◌, length, take, drop, replicate, Bool, true, false}
 use Rattle.std.specs.Str.{IsUtf8}
 use Rattle.std.specs.Int.{w8, w16, w32, w64, to_le_bytes, cast_unsigned, FitsUnsigned}
 use Rattle.std.specs.Int.RustNames.{FitsSigned}
@@ -11,7 +11,11 @@ use Rattle.scan_values.specs.declared.ptype.Nullability.TheVariants.{NonNullable
 use Rattle.scan_values.specs.DataType.{DataType, nullability_of}
 use Rattle.scan_values.specs.Kinds.{kind_of}
 use Rattle.scan_values.specs.Val.{Val, null_val, bool_val, int_val, text_val, list_val, struct_val}
-use Rattle.scan_layout.specs.Spelling.{width}
+use Rattle.scan_layout.specs.declared.spelling.Spelling.{Spelling}
+use Rattle.scan_layout.specs.declared.spelling.Spelling.TheVariants.{One, Two}
+use Rattle.scan_layout.specs.declared.spelling.write.Bit.{Bit}
+use Rattle.scan_layout.specs.declared.spelling.write.Bit.TheVariants.{There, True}
+use Rattle.scan_layout.specs.Spelling.{width, bytes_for}
 
 abbrev pub IntFits : PType → ℤ → Type 0
 IntFits U8 z = FitsUnsigned w8 z
@@ -44,7 +48,7 @@ HasSlot (DTypeKind.Primitive p) (int_val z) = IntFits p z
 HasSlot DTypeKind.Utf8 (text_val bytes) = IsUtf8 bytes
 HasSlot _ _ = ⊥
 
--- the same, where a text need not be UTF-8
+-- The same, where a text need not be UTF-8: the list of bytes that contracts see of a text does not say that it is.
 abbrev pub IsOfKind : DTypeKind → Val → Type 0
 IsOfKind DTypeKind.List v = ⊥
 IsOfKind DTypeKind.Struct v = ⊥
@@ -98,13 +102,47 @@ abbrev pub flags : List Val → List ℕ
 flags [] = []
 flags (v ∷ vs) = flag_of v ∷ flags vs
 
--- the one way in which values are written: null slots as zeros
-abbrev pub spelling_under : Nullability → DTypeKind → List Val → List ℕ
-spelling_under NonNullable kind vs = slots kind vs
-spelling_under Nullable kind vs = flags vs ++ slots kind vs
+-- the number of these bits, the least significant first
+abbrev pub number : List ℕ → ℕ
+number [] = 0
+number (b ∷ bits) = b + 2 * number bits
 
-abbrev pub spelling : DataType → List Val → List ℕ
-spelling t vs = spelling_under (nullability_of t) (kind_of t) vs
+-- bits in so many bytes, eight in each
+abbrev pub in_bytes : ℕ → List ℕ → List ℕ
+in_bytes zero bits = []
+in_bytes (suc k) bits = number (take 8 bits) ∷ in_bytes k (drop 8 bits)
+
+-- bits in as many bytes as they take
+abbrev pub gathered : List ℕ → List ℕ
+gathered bits = in_bytes (bytes_for (length bits)) bits
+
+-- what a bit of a value tells: that it is there, or that it is true
+abbrev pub bit_in : Bit → Val → ℕ
+bit_in There v = flag_of v
+bit_in True (bool_val b) = bit_of b
+bit_in True _ = 0
+
+-- flags, a byte each or a bit each
+abbrev pub flags_as : Spelling → List ℕ → List ℕ
+flags_as One bytes = bytes
+flags_as Two bytes = gathered bytes
+
+-- slots, where that of a Bool is a byte or a bit
+abbrev pub slots_as : Spelling → DTypeKind → List ℕ → List ℕ
+slots_as One kind bytes = bytes
+slots_as Two DTypeKind.Bool bytes = gathered bytes
+slots_as Two (DTypeKind.Primitive p) bytes = bytes
+slots_as Two DTypeKind.Utf8 bytes = bytes
+slots_as Two DTypeKind.List bytes = bytes
+slots_as Two DTypeKind.Struct bytes = bytes
+
+-- the one way in which values are written: null slots as zeros
+abbrev pub spelling_under : Spelling → Nullability → DTypeKind → List Val → List ℕ
+spelling_under s NonNullable kind vs = slots_as s kind (slots kind vs)
+spelling_under s Nullable kind vs = flags_as s (flags vs) ++ slots_as s kind (slots kind vs)
+
+abbrev pub spelled : Spelling → DataType → List Val → List ℕ
+spelled s t vs = spelling_under s (nullability_of t) (kind_of t) vs
 
 -- a text of which four bytes say the length
 abbrev pub TextFits : Val → Type 0

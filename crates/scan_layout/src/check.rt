@@ -40,7 +40,7 @@ fn serves(kind: &LayoutKind, dtype: &DType) -> bool
     ensures { result ≡ serves kind.now dtype.now }
 {
     match kind {
-        LayoutKind::Leaf(_) => dtype.is_scalar(),
+        LayoutKind::Leaf(_, _) => dtype.is_scalar(),
         LayoutKind::Struct => dtype.as_struct_fields_opt().is_some(),
         LayoutKind::List(_) => dtype.as_list_element_opt().is_some(),
     }
@@ -70,7 +70,7 @@ fn child_count(dtype: &DType, kind: &LayoutKind) -> usize
 {
     let validity = if dtype.is_nullable() { 1 } else { 0 };
     match kind {
-        LayoutKind::Leaf(_) => 0,
+        LayoutKind::Leaf(_, _) => 0,
         LayoutKind::Struct => match dtype.as_struct_fields_opt() {
             Some(fields) => fields.names().len() + validity,
             None => 0,
@@ -166,7 +166,7 @@ fn rows_fault(kind: &LayoutKind, rows: u64, children: &[LayoutRef]) -> Result<()
     ensures { Tells result (rows_fault kind.now rows (nodes (layouts_of children.now))) }
 {
     match kind {
-        LayoutKind::Leaf(segments) => leaf_fault(segments.as_slice(), rows),
+        LayoutKind::Leaf(segments, _) => leaf_fault(segments.as_slice(), rows),
         LayoutKind::Struct => {
             if all_have_rows(rows, children) {
                 Ok(())
@@ -253,7 +253,7 @@ fn walk_children(
     ensures { Tells result (faults_in (nodes (layouts_of children.now)) (child_types dtype.now kind.now)) }
 {
     match kind {
-        LayoutKind::Leaf(_) => Ok(()),
+        LayoutKind::Leaf(_, _) => Ok(()),
         LayoutKind::Struct => match dtype.as_struct_fields_opt() {
             Some(fields) => walk_fields(children, dtype.nullability(), fields),
             None => Ok(()),
@@ -482,7 +482,7 @@ fn dtypes_fault(dtype: &DType, kind: &LayoutKind, children: &[LayoutRef]) -> Res
     ensures { Tells result (dtypes_fault (nodes (layouts_of children.now)) (child_types dtype.now kind.now)) }
 {
     match kind {
-        LayoutKind::Leaf(_) => Ok(()),
+        LayoutKind::Leaf(_, _) => Ok(()),
         LayoutKind::Struct => match dtype.as_struct_fields_opt() {
             Some(fields) => are_of_struct(children, dtype.nullability(), fields),
             None => Ok(()),

@@ -1,8 +1,9 @@
 //! Children that are made at first use. After the Rust's `children`.
-ghost use Rattle.std.specs.Prelude.{◌≡◌, ◌↔◌, ◌≤◌, ◌<◌, length, IfOk, OnOk, OnErr, IsErrOf, replicate, None, Some, is_some, true};
+ghost use Rattle.std.specs.Prelude.{◌≡◌, ◌↔◌, ◌≤◌, ◌<◌, length, IfOk, OnOk, OnErr, IsErrOf, replicate, None, Some, is_some, true, false, slice_get};
 ghost use Rattle.std.specs.Borrow.{sem};
-ghost use Rattle.scan_layout.specs.Lazy.{HaveTypes, child_at, Makes};
-ghost use Rattle.scan_layout.specs.LazyLends.{lends_value, lends_child, lends_made};
+ghost use Rattle.scan_layout.specs.LayoutView.{layouts_of};
+ghost use Rattle.scan_layout.specs.OptionLends.{lends_value};
+ghost use Rattle.scan_layout.specs.Lazy.{HaveTypes, dtypes_in, names_in, child_at, IsMadeOf, Makes};
 
 use crate::node::LayoutRef;
 use crate::reader_context::LayoutReaderContext;
@@ -13,7 +14,14 @@ use thiserror::Error;
 
 /// Makes a child of a node.
 pub trait ChildOpener<V> {
+    ghost use Rattle.std.specs.Prelude.{ℕ, List};
+    ghost use Rattle.scan_values.specs.DataType.{DataType, Name};
+    ghost use Rattle.scan_layout.specs.Layout.{Layout};
+
     type Made: Drop;
+
+    /// What it makes of a node, a dtype, a name and a context.
+    ghost makes: { Self → Layout → DataType → Name → List (ℕ × V) → Self.Made → Type 0 };
 
     /// The child of a node, of a dtype and a name.
     fn make(
@@ -23,7 +31,8 @@ pub trait ChildOpener<V> {
         dtype: &DType,
         name: &Text,
         ctx: &LayoutReaderContext<V>,
-    ) -> Result<Self::Made, NoMemory>;
+    ) -> Result<Self::Made, NoMemory>
+        ensures { IfOk result (λ m. makes self.now node.now.value dtype.now name.now ctx.now m) };
 }
 
 /// Why there is no child.
@@ -42,7 +51,8 @@ enum ChildTypes {
     Uniform(DType, Text),
 }
 
-/// Children that are made at first use, and kept. Contracts see those that are made.
+/// Children that are made at first use, and kept. Contracts see the node, the dtype and the name of each, the context,
+/// the opener, and those that are made.
 #[derive(Drop)]
 pub struct LazyReaderChildren<V, K: ChildOpener<V>> {
     nodes: Vec<LayoutRef>,
@@ -53,21 +63,38 @@ pub struct LazyReaderChildren<V, K: ChildOpener<V>> {
 }
 
 impl<V, K: ChildOpener<V>> Model for LazyReaderChildren<V, K> {
-    ghost use Rattle.std.specs.Prelude.{◌≡◌, List, Option, length};
+    ghost use Rattle.scan_layout.specs.Lazy.{Children};
+    ghost use Rattle.scan_layout.specs.LazyCode.{children_code};
 
-    ghost Value = { List (Option K.Made) };
+    ghost Value = { Children V K K.Made };
 
-    ghost view = { λ a. a.made.items };
+    ghost coded = { children_code V.code K.code K.Made.code };
 
-    ghost use Rattle.scan_layout.specs.Lazy.{HaveTypes};
+    ghost use Rattle.std.specs.Prelude.{◌≡◌, length};
+    ghost use Rattle.scan_layout.specs.LayoutView.{layouts_of};
+    ghost use Rattle.scan_layout.specs.Lazy.{HaveTypes, dtypes_in, names_in};
 
-    ghost invariant = { λ a. record { one : length a.nodes.items ≡ length a.made.items; types : HaveTypes a.types (length a.made.items) } };
+    ghost view = { λ a. record {
+      nodes = layouts_of a.nodes.items;
+      dtypes = dtypes_in a.types (length a.made.items);
+      names = names_in a.types (length a.made.items);
+      ctx = a.ctx;
+      opener = a.opener;
+      made = a.made.items;
+    } };
+
+    ghost invariant = { λ a. record {
+      one : length a.nodes.items ≡ length a.made.items;
+      types : HaveTypes a.types (length a.made.items);
+    } };
 }
 
 // The dtype and the name of a child.
 fn types_at(types: &ChildTypes, idx: usize, count: usize) -> (&DType, &Text)
     requires have { HaveTypes types.now count }
     requires within { idx < count }
+    ensures dtype { slice_get (dtypes_in types.now count) idx ≡ Some result.0.now }
+    ensures name { slice_get (names_in types.now count) idx ≡ Some result.1.now }
 {
     match types {
         ChildTypes::Each(dtypes, names) => (&dtypes[idx], &names[idx]),
@@ -111,7 +138,14 @@ impl<V: Drop, K: ChildOpener<V> + Drop> LazyReaderChildren<V, K> {
     ) -> Result<Self, NoMemory>
         requires dtypes { length dtypes.items ≡ length nodes.items }
         requires names { length names.items ≡ length nodes.items }
-        ensures { IfOk result (λ c. c ≡ replicate (length nodes.items) None) }
+        ensures { IfOk result (λ c. c ≡ record {
+          nodes = layouts_of nodes.items;
+          dtypes = dtypes.items;
+          names = names.items;
+          ctx = ctx;
+          opener = opener;
+          made = replicate (length nodes.items) None;
+        }) }
     {
         let made = unmade(alloc, nodes.len())?;
         Ok(LazyReaderChildren {
@@ -132,7 +166,14 @@ impl<V: Drop, K: ChildOpener<V> + Drop> LazyReaderChildren<V, K> {
         opener: K,
         ctx: LayoutReaderContext<V>,
     ) -> Result<Self, NoMemory>
-        ensures { IfOk result (λ c. c ≡ replicate (length nodes.items) None) }
+        ensures { IfOk result (λ c. c ≡ record {
+          nodes = layouts_of nodes.items;
+          dtypes = replicate (length nodes.items) dtype;
+          names = replicate (length nodes.items) name;
+          ctx = ctx;
+          opener = opener;
+          made = replicate (length nodes.items) None;
+        }) }
     {
         let made = unmade(alloc, nodes.len())?;
         Ok(LazyReaderChildren {
@@ -146,14 +187,16 @@ impl<V: Drop, K: ChildOpener<V> + Drop> LazyReaderChildren<V, K> {
 }
 
 impl<V, K: ChildOpener<V>> LazyReaderChildren<V, K> {
-    /// Makes the child of an index, unless it is made. An own call.
+    ghost use Rattle.scan_layout.specs.LazyLends.{lends_child, lends_made};
+
+    /// Makes the child of an index of its own node, dtype and name, unless it is made. An own call.
     ///
     /// # Errors
     /// `ChildIndex` exactly where no child has the index, and `NoMemory`. Then nothing is made.
     pub fn make_child(&mut self, alloc: Global, idx: usize) -> Result<(), ChildFault>
-        ensures made { OnOk result (Makes idx self.old self.new) }
+        ensures made { OnOk result (Makes K.makes idx self.old self.new) }
         ensures kept { OnErr result (self.new ≡ self.old) }
-        ensures index { IsErrOf result ChildFault.ChildIndex ↔ (length self.old ≤ idx) }
+        ensures index { IsErrOf result ChildFault.ChildIndex ↔ (length self.old.made ≤ idx) }
     {
         if idx >= self.made.len() {
             return Err(ChildFault::ChildIndex);
@@ -174,14 +217,15 @@ impl<V, K: ChildOpener<V>> LazyReaderChildren<V, K> {
         }
     }
 
-    /// The child of an index, which is made at its first use and kept.
+    /// The child of an index, which is made at its first use, of its own node, dtype and name, and kept.
     ///
     /// # Errors
     /// `ChildIndex` exactly where no child has the index, and `NoMemory`. A failed making is not kept.
     pub fn get(&mut self, alloc: Global, idx: usize) -> Result<&mut K::Made, ChildFault>
-        ensures* lends { sem 𝓛 (lends_child V.row K.row K.Made.row self.entry idx result) }
+        ensures* lends { sem 𝓛 (lends_child V.row K.row K.Made.row K.ChildOpener self.entry idx result) }
         ensures kept { IfOk result (λ r. is_some (child_at self.old idx) ≡ true → child_at self.old idx ≡ Some r.now) }
-        ensures index { IsErrOf result ChildFault.ChildIndex ↔ (length self.old ≤ idx) }
+        ensures own { IfOk result (λ r. is_some (child_at self.old idx) ≡ false → IsMadeOf K.makes self.old idx r.now) }
+        ensures index { IsErrOf result ChildFault.ChildIndex ↔ (length self.old.made ≤ idx) }
     {
         self.make_child(alloc, idx)?;
         Ok(self.made_child(idx))
@@ -190,7 +234,7 @@ impl<V, K: ChildOpener<V>> LazyReaderChildren<V, K> {
     // A child that is made.
     fn made_child(&mut self, idx: usize) -> &mut K::Made
         requires { is_some (child_at self.old idx) ≡ true }
-        ensures* lends { sem 𝓛 (lends_made V.row K.row K.Made.row self.entry idx result) }
+        ensures* lends { sem 𝓛 (lends_made V.row K.row K.Made.row K.ChildOpener self.entry idx result) }
         ensures child { child_at self.old idx ≡ Some result.now }
     {
         some_mut(&mut self.made[idx])

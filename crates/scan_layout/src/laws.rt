@@ -1,6 +1,6 @@
 //! Laws of layouts. Each is the contract of a function that does nothing.
 ghost use Rattle.scan_layout.specs.Examples.{WorkedRows};
-ghost use Rattle.scan_layout.specs.Laws.{StandsOnTouched, RowsFitTheDType, CleanWhereDecoded};
+ghost use Rattle.scan_layout.specs.Laws.{StandsOnTouched, RowsFitTheDType, CleanWhereDecoded, MasksSplitByFields};
 
 /// A row's value stands on the segments that the row touches, and on no others.
 pub fn a_row_stands_on_what_it_touches()
@@ -18,7 +18,12 @@ pub fn a_row_is_clean_where_its_segments_decode()
     ensures { CleanWhereDecoded }
 {}
 
-/// Worked rows: a nullable struct, lists, falling offsets, nulls over no elements, no offsets, splits.
+/// The fields that masks match are those by which a struct is split: one rule, over masks and over names.
+pub fn masks_split_by_the_fields_that_they_match()
+    ensures { MasksSplitByFields }
+{}
+
+/// Worked rows: a nullable struct, lists, falling offsets, nulls over no elements, no offsets, splits, bits.
 pub fn worked_rows()
     ensures { WorkedRows }
 {}

@@ -10,14 +10,17 @@ pub mod layouts;
 pub mod node;
 pub mod reader_context;
 pub mod spelling;
-#[cfg(test)]
-mod tests;
 
 pub use children::{ChildFault, ChildOpener, LazyReaderChildren};
 pub use fault::LayoutFault;
-pub use layouts::list::{ListLayout, ListLayoutEncoding, ListLayoutMetadata};
-pub use layouts::struct_::{StructLayout, StructLayoutEncoding};
+pub use layouts::list::{
+    ELEMENTS_CHILD_INDEX, List, ListLayout, ListLayoutEncoding, ListLayoutMetadata,
+    NUM_CHILDREN_NON_NULLABLE, OFFSETS_CHILD_INDEX, VALIDITY_CHILD_INDEX,
+};
+pub use layouts::struct_::{Struct, StructLayout, StructLayoutEncoding};
 pub use layouts::{Layout, MaskFault, SlotFault};
 pub use node::{LayoutKind, LayoutNode, LayoutRef, LeafSegments, Nodes};
 pub use reader_context::LayoutReaderContext;
-pub use spelling::{DecodeFault, EncodeFault, decode_segment, encode_segment};
+pub use spelling::{
+    DecodeFault, EncodeFault, LeafColumn, Spelling, decode_segment, encode_segment, recode_segment,
+};

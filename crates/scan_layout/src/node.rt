@@ -7,6 +7,7 @@ ghost use Rattle.scan_layout.specs.LayoutView.{layouts_of};
 
 use crate::check::total_rows;
 use crate::fault::LayoutFault;
+use crate::spelling::Spelling;
 use scan_segments::SegmentId;
 use scan_values::{DType, NoMemory, PType};
 use std::alloc::Global;
@@ -27,10 +28,11 @@ impl Model for LeafSegments {
     ghost view = { λ a. a.items.items };
 }
 
-/// What a node is: a leaf with its segments, a struct, or a list with the integer type of its offsets.
+/// What a node is: a leaf with its segments and their spelling, a struct, or a list with the integer type of its
+/// offsets.
 #[derive(Drop)]
 pub enum LayoutKind {
-    Leaf(LeafSegments),
+    Leaf(LeafSegments, Spelling),
     Struct,
     List(PType),
 }
@@ -147,17 +149,35 @@ impl LayoutNode {
         }
     }
 
-    /// A leaf of a scalar dtype, its segments in row order.
+    /// A leaf of a scalar dtype in spelling 1, its segments in row order.
     ///
     /// # Errors
     /// The first of: `ChildDType` where the dtype is not scalar, and `RowSum` where the rows sum past u64. `NoMemory`.
-    #[tactic(auto, using(crate::proofs::Kids::sum_of, crate::proofs::Kids::sum_past))]
     pub fn leaf(
         alloc: Global,
         dtype: DType,
         segments: Vec<(SegmentId, u64)>,
     ) -> Result<LayoutRef, LayoutFault>
-        ensures made { IfOk result (λ r. r.value ≡ node dtype (total_rows segments.items) (LayoutKind.Leaf segments.items) no_nodes) }
+        ensures made { IfOk result (λ r. r.value ≡
+            node dtype (total_rows segments.items) (LayoutKind.Leaf segments.items Spelling.One) no_nodes) }
+        ensures first { TellsOrNoMemory result (new_leaf_fault dtype segments.items) }
+    {
+        LayoutNode::leaf_with(alloc, dtype, segments, Spelling::One)
+    }
+
+    /// A leaf of a scalar dtype whose segments, in row order, are in a spelling.
+    ///
+    /// # Errors
+    /// The first of: `ChildDType` where the dtype is not scalar, and `RowSum` where the rows sum past u64. `NoMemory`.
+    #[tactic(auto, using(crate::proofs::Kids::sum_of, crate::proofs::Kids::sum_past))]
+    pub fn leaf_with(
+        alloc: Global,
+        dtype: DType,
+        segments: Vec<(SegmentId, u64)>,
+        spelling: Spelling,
+    ) -> Result<LayoutRef, LayoutFault>
+        ensures made { IfOk result (λ r. r.value ≡
+            node dtype (total_rows segments.items) (LayoutKind.Leaf segments.items spelling) no_nodes) }
         ensures first { TellsOrNoMemory result (new_leaf_fault dtype segments.items) }
     {
         if !dtype.is_scalar() {
@@ -166,7 +186,7 @@ impl LayoutNode {
         let Some(row_count) = total_rows(&segments) else {
             return Err(LayoutFault::RowSum);
         };
-        let kind = LayoutKind::Leaf(LeafSegments::new(segments));
+        let kind = LayoutKind::Leaf(LeafSegments::new(segments), spelling);
         match LayoutNode::from_parts(alloc, dtype, row_count, kind, Vec::new(alloc)) {
             Ok(made) => Ok(made),
             Err(_) => Err(LayoutFault::NoMemory),

@@ -1,18 +1,35 @@
-//! How the values of a leaf are spelled as the bytes of a segment. An own spelling, in place of the Rust's arrays.
+//! How the values of a leaf are spelled as the bytes of a segment. Own spellings, in place of the Rust's arrays.
 //!
-//! A segment of n rows has, where its leaf is nullable, n bytes that are 0 (null) or 1, and then n slots in order. The
-//! slot of a Bool is one byte 0 or 1, that of an integer its bytes, the lowest first, in two's complement where it is
-//! signed, and that of a text its length in four bytes, the lowest first, and so many bytes of UTF-8. Nothing follows.
-//! The slot of a null stands there too, and what it holds is ignored.
+//! A segment of n rows in spelling 1 has, where its leaf is nullable, n bytes that are 0 (null) or 1, and then n slots
+//! in order. The slot of a Bool is one byte 0 or 1, that of an integer its bytes, the lowest first, in two's complement
+//! where it is signed, and that of a text its length in four bytes, the lowest first, and so many bytes of UTF-8.
+//! Nothing follows. The slot of a null stands there too, and what it holds is ignored.
+//!
+//! In spelling 2 the flags of n rows are n bits in as few bytes as have them, and so are the slots of Bools. Row i has
+//! bit i mod 8 of byte i / 8, the least significant being bit 0. The bits after the last row are 0.
 use scan_values::NoMemory;
 use std::alloc::{AllocError, AllocFailed};
 use thiserror::Error;
 
+mod bits;
+mod column;
 mod read;
+mod recode;
+mod texts;
 mod write;
 
+pub use column::LeafColumn;
 pub use read::decode_segment;
+pub use recode::recode_segment;
 pub use write::encode_segment;
+
+/// How a segment is spelled: `One` with a byte for each flag and each Bool, `Two` with a bit.
+#[derive(Clone, Copy, Debug, PartialEq, Eq, Default)]
+pub enum Spelling {
+    #[default]
+    One,
+    Two,
+}
 
 /// Why a segment is not read.
 #[derive(Clone, Copy, Debug, PartialEq, Eq, Error)]

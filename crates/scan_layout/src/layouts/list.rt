@@ -152,7 +152,7 @@ impl Layout<List> {
     pub fn elements(&self) -> &LayoutRef
         ensures { nth_kid (kids_of self.now) 0 ≡ Some result.now.value }
     {
-        match self.node.child_at(0) {
+        match self.node.child_at(ELEMENTS_CHILD_INDEX) {
             Some(elements) => elements,
             None => unreachable!(),
         }
@@ -163,7 +163,7 @@ impl Layout<List> {
     pub fn offsets(&self) -> &LayoutRef
         ensures { nth_kid (kids_of self.now) 1 ≡ Some result.now.value }
     {
-        match self.node.child_at(1) {
+        match self.node.child_at(OFFSETS_CHILD_INDEX) {
             Some(offsets) => offsets,
             None => unreachable!(),
         }
@@ -173,7 +173,7 @@ impl Layout<List> {
     pub fn validity(&self) -> Option<&LayoutRef>
         ensures { option_map (λ r. r.now.value) result ≡ nth_kid (kids_of self.now) 2 }
     {
-        self.node.child_at(2)
+        self.node.child_at(VALIDITY_CHILD_INDEX)
     }
 
     /// The dtype of its elements.
@@ -191,22 +191,22 @@ impl Layout<List> {
     pub fn nslots(&self) -> usize
         ensures { result ≡ 3 }
     {
-        3
+        NUM_CHILDREN_NON_NULLABLE + 1
     }
 
     /// The index of the child that has a slot.
     pub fn slot_to_child(&self, slot: usize) -> Option<usize>
         ensures { result ≡ list_slot (dtype_of self.now) slot }
     {
-        if slot < 2 {
+        if slot < NUM_CHILDREN_NON_NULLABLE {
             return Some(slot);
         }
-        if slot > 2 {
+        if slot > VALIDITY_CHILD_INDEX {
             return None;
         }
         match self.node.dtype().nullability() {
             Nullability::NonNullable => None,
-            Nullability::Nullable => Some(2),
+            Nullability::Nullable => Some(VALIDITY_CHILD_INDEX),
         }
     }
 
@@ -262,16 +262,16 @@ fn slot_dtype(
     requires { element_of dtype.now ≡ Some element.now }
     ensures { TellsSlot result (list_slot_type dtype.now ptype slot) }
 {
-    if slot == 0 {
+    if slot == ELEMENTS_CHILD_INDEX {
         return match element.try_clone(alloc) {
             Ok(element) => Ok(element),
             Err(_) => Err(SlotFault::NoMemory),
         };
     }
-    if slot == 1 {
+    if slot == OFFSETS_CHILD_INDEX {
         return Ok(DType::primitive(ptype, Nullability::NonNullable));
     }
-    if slot > 2 {
+    if slot > VALIDITY_CHILD_INDEX {
         return Err(SlotFault::NoSlot);
     }
     match dtype.nullability() {

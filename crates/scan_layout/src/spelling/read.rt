@@ -1,21 +1,41 @@
 //! Reads a segment.
-ghost use Rattle.std.specs.Prelude.{◌≡◌, length, replicate, if◌then◌else◌, IfOk, List, Some, None, map, IsTrue, true};
+ghost use Rattle.std.specs.Prelude.{◌≡◌, ◌≤◌, length, take, replicate, if◌then◌else◌, IfOk, List, Some, None, map, option_and_then, IsTrue, true};
 ghost use Rattle.scan_values.specs.Fits.{fits_all};
 ghost use Rattle.std.specs.Str.{is_utf8};
 ghost use Rattle.scan_values.specs.Kinds.{is_scalar_type, kind_of};
 ghost use Rattle.scan_values.specs.DataType.{nullability_of};
 ghost use Rattle.scan_values.specs.Val.{Val, bool_val, int_val, text_val, vals_of, marked_all};
 ghost use Rattle.scan_values.specs.Values.{val_of};
-ghost use Rattle.scan_layout.specs.Spelling.{part, framed, slot, content, under_flag, cell, cells, decode, decode_under, width, int_of, bool_of, IsSlot};
+ghost use Rattle.scan_layout.specs.Spelling.{
+  part,
+  framed,
+  slot,
+  content,
+  under_flag,
+  cell,
+  cells,
+  bits_of,
+  bytes_for,
+  decode_slots,
+  decode_under,
+  decode,
+  flags_in,
+  group_size,
+  width,
+  int_of,
+  bool_of,
+  IsSlot,
+};
 ghost use Rattle.scan_layout.specs.Spells.{Spells};
 ghost use Rattle.scan_layout.specs.Decoded.{Gives};
 
-use super::DecodeFault;
+use super::bits::{bit, bytes_for, is_group};
+use super::{DecodeFault, Spelling};
 use scan_values::{Array, DType, DTypeKind, NoMemory, Nullability, PType, Text, Value};
 use std::alloc::Global;
 
-// So many bytes, and those after them.
-fn part(bytes: &[u8], n: usize) -> Result<(&[u8], &[u8]), DecodeFault>
+/// So many bytes, and those after them.
+pub(super) fn part(bytes: &[u8], n: usize) -> Result<(&[u8], &[u8]), DecodeFault>
     ensures { Gives (λ x. (x.0.now, x.1.now)) result (part n bytes.now) }
 {
     if bytes.len() < n {
@@ -24,8 +44,8 @@ fn part(bytes: &[u8], n: usize) -> Result<(&[u8], &[u8]), DecodeFault>
     Ok(bytes.split_at(n))
 }
 
-// A text's bytes, and those after them.
-fn framed(bytes: &[u8]) -> Result<(&[u8], &[u8]), DecodeFault>
+/// A text's bytes, and those after them.
+pub(super) fn framed(bytes: &[u8]) -> Result<(&[u8], &[u8]), DecodeFault>
     ensures { Gives (λ x. (x.0.now, x.1.now)) result (framed bytes.now) }
 {
     match bytes.split_first_chunk::<4>() {
@@ -58,8 +78,8 @@ fn slot(kind: DTypeKind, bytes: &[u8]) -> Result<(&[u8], &[u8]), DecodeFault>
     }
 }
 
-// The number that the bytes are.
-fn int_of(ptype: PType, bytes: &[u8]) -> i128
+/// The number that the bytes are.
+pub(super) fn int_of(ptype: PType, bytes: &[u8]) -> i128
     requires { length bytes.now ≡ width ptype }
     ensures { result ≡ int_of ptype bytes.now }
 {
@@ -143,7 +163,7 @@ fn cells(
 ) -> Result<Vec<Value>, DecodeFault>
     ensures { Gives (λ v. map val_of v.items) result (cells kind flags.now bytes.now) }
 {
-    let mut values = Vec::new(alloc);
+    let mut values = Vec::with_capacity(alloc, flags.len())?;
     let mut rest = bytes;
     for flag in flags {
         let (value, after) = cell(alloc, kind, *flag, rest)?;
@@ -166,7 +186,8 @@ fn plain_cells(
 ) -> Result<Vec<Value>, DecodeFault>
     ensures { Gives (λ v. map val_of v.items) result (cells kind (replicate rows 1) bytes.now) }
 {
-    let mut values = Vec::new(alloc);
+    // Each slot has a byte at least.
+    let mut values = Vec::with_capacity(alloc, rows.min(bytes.len() as u64) as usize)?;
     let mut left = bytes;
     for _row in 0..rows {
         let (value, after) = cell(alloc, kind, 1, left)?;
@@ -179,24 +200,175 @@ fn plain_cells(
     Ok(values)
 }
 
+// The values of all cells, one for each flag, where a flag is a bit.
+#[tactic(auto, using(crate::proofs::Rows::bit_pushed, crate::proofs::Rows::bit_fault, crate::proofs::Rows::bits_end, crate::proofs::Rows::bits_more, crate::proofs::Bits::bits_length))]
+fn bit_cells(
+    alloc: Global,
+    kind: DTypeKind,
+    rows: u64,
+    flags: &[u8],
+    bytes: &[u8],
+) -> Result<Vec<Value>, DecodeFault>
+    requires { length flags.now ≡ bytes_for rows }
+    ensures { Gives (λ v. map val_of v.items) result (cells kind (take rows (bits_of flags.now)) bytes.now) }
+{
+    let mut values = Vec::with_capacity(alloc, rows.min(bytes.len() as u64) as usize)?;
+    let mut rest = bytes;
+    for row in 0..rows {
+        let (value, after) = cell(alloc, kind, bit(flags, row), rest)?;
+        values.push(value)?;
+        rest = after;
+    }
+    if !rest.is_empty() {
+        return Err(DecodeFault::Spelling);
+    }
+    Ok(values)
+}
+
+// A Bool under its flag.
+fn bool_under(flag: u8, value: u8) -> Result<Value, DecodeFault>
+    ensures { Gives val_of result (under_flag flag (bool_of value)) }
+{
+    match flag {
+        0 => Ok(Value::Null),
+        1 => bool_of(value),
+        _ => Err(DecodeFault::Spelling),
+    }
+}
+
+// Bools of which each is a bit, and so is its flag.
+#[tactic(auto, using(crate::proofs::Rows::bool_pushed, crate::proofs::Rows::bool_fault, crate::proofs::Rows::bools_end))]
+fn bit_bools(
+    alloc: Global,
+    rows: u64,
+    flags: &[u8],
+    bools: &[u8],
+) -> Result<Vec<Value>, DecodeFault>
+    requires flags { length flags.now ≡ bytes_for rows }
+    requires bools { length bools.now ≡ bytes_for rows }
+    ensures { Gives (λ v. map val_of v.items) result
+        (cells DTypeKind.Bool (take rows (bits_of flags.now)) (take rows (bits_of bools.now))) }
+{
+    let mut values = Vec::with_capacity(alloc, rows as usize)?;
+    for row in 0..rows {
+        let value = bool_under(bit(flags, row), bit(bools, row))?;
+        values.push(value)?;
+    }
+    Ok(values)
+}
+
+// Bools that are all there, of which each is a bit.
+#[tactic(auto, using(crate::proofs::Rows::plain_pushed, crate::proofs::Rows::plain_fault, crate::proofs::Rows::plain_end))]
+fn plain_bools(alloc: Global, rows: u64, bools: &[u8]) -> Result<Vec<Value>, DecodeFault>
+    requires { length bools.now ≡ bytes_for rows }
+    ensures { Gives (λ v. map val_of v.items) result
+        (cells DTypeKind.Bool (replicate rows 1) (take rows (bits_of bools.now))) }
+{
+    let mut values = Vec::with_capacity(alloc, rows as usize)?;
+    for row in 0..rows {
+        let value = bool_of(bit(bools, row))?;
+        values.push(value)?;
+    }
+    Ok(values)
+}
+
+// The values of so many rows that are all there.
+fn plain_rows(
+    alloc: Global,
+    spelling: Spelling,
+    kind: DTypeKind,
+    rows: u64,
+    bytes: &[u8],
+) -> Result<Vec<Value>, DecodeFault>
+    ensures { Gives (λ v. map val_of v.items) result (decode_slots spelling kind rows (replicate rows 1) bytes.now) }
+{
+    match (spelling, kind) {
+        (Spelling::Two, DTypeKind::Bool) => {
+            if !is_group(bytes, rows) {
+                return Err(DecodeFault::Spelling);
+            }
+            plain_bools(alloc, rows, bytes)
+        }
+        _ => plain_cells(alloc, kind, rows, bytes),
+    }
+}
+
+// The values of so many rows after the bits that are their flags.
+fn rows_after_bits(
+    alloc: Global,
+    kind: DTypeKind,
+    rows: u64,
+    flags: &[u8],
+    bytes: &[u8],
+) -> Result<Vec<Value>, DecodeFault>
+    requires { length flags.now ≡ bytes_for rows }
+    ensures { Gives (λ v. map val_of v.items) result
+        (decode_slots Spelling.Two kind rows (take rows (bits_of flags.now)) bytes.now) }
+{
+    match kind {
+        DTypeKind::Bool => {
+            if !is_group(bytes, rows) {
+                return Err(DecodeFault::Spelling);
+            }
+            bit_bools(alloc, rows, flags, bytes)
+        }
+        _ => bit_cells(alloc, kind, rows, flags, bytes),
+    }
+}
+
+// The values of so many rows after their flags.
+fn rows_after_flags(
+    alloc: Global,
+    spelling: Spelling,
+    kind: DTypeKind,
+    rows: u64,
+    flags: &[u8],
+    bytes: &[u8],
+) -> Result<Vec<Value>, DecodeFault>
+    requires { length flags.now ≡ group_size spelling rows }
+    ensures { Gives (λ v. map val_of v.items) result
+        (option_and_then (λ fs. decode_slots spelling kind rows fs bytes.now) (flags_in spelling rows flags.now)) }
+{
+    match spelling {
+        Spelling::One => cells(alloc, kind, flags, bytes),
+        Spelling::Two => {
+            if !is_group(flags, rows) {
+                return Err(DecodeFault::Spelling);
+            }
+            rows_after_bits(alloc, kind, rows, flags, bytes)
+        }
+    }
+}
+
+/// How many bytes the flags of so many rows take.
+pub(super) fn group_size(spelling: Spelling, rows: u64) -> u64
+    ensures { result ≡ group_size spelling rows }
+{
+    match spelling {
+        Spelling::One => rows,
+        Spelling::Two => bytes_for(rows),
+    }
+}
+
 // The values of so many rows.
 fn read_rows(
     alloc: Global,
+    spelling: Spelling,
     kind: DTypeKind,
     nullability: Nullability,
     rows: u64,
     bytes: &[u8],
 ) -> Result<Vec<Value>, DecodeFault>
-    ensures { Gives (λ v. map val_of v.items) result (decode_under nullability kind rows bytes.now) }
+    ensures { Gives (λ v. map val_of v.items) result (decode_under spelling nullability kind rows bytes.now) }
 {
     match nullability {
-        Nullability::NonNullable => plain_cells(alloc, kind, rows, bytes),
+        Nullability::NonNullable => plain_rows(alloc, spelling, kind, rows, bytes),
         Nullability::Nullable => {
-            let Ok(count) = usize::try_from(rows) else {
+            let Ok(size) = usize::try_from(group_size(spelling, rows)) else {
                 return Err(DecodeFault::Spelling);
             };
-            let (flags, rest) = part(bytes, count)?;
-            cells(alloc, kind, flags, rest)
+            let (flags, rest) = part(bytes, size)?;
+            rows_after_flags(alloc, spelling, kind, rows, flags, rest)
         }
     }
 }
@@ -213,22 +385,36 @@ fn array_of(alloc: Global, dtype: &DType, values: Vec<Value>) -> Result<Array, N
 // The values of so many rows of a dtype.
 fn read_segment(
     alloc: Global,
+    spelling: Spelling,
     dtype: &DType,
     rows: u64,
     bytes: &[u8],
 ) -> Result<Vec<Value>, DecodeFault>
-    ensures { Gives (λ v. map val_of v.items) result (decode dtype.now rows bytes.now) }
+    ensures { Gives (λ v. map val_of v.items) result (decode spelling dtype.now rows bytes.now) }
 {
-    read_rows(alloc, dtype.kind(), dtype.nullability(), rows, bytes)
+    read_rows(
+        alloc,
+        spelling,
+        dtype.kind(),
+        dtype.nullability(),
+        rows,
+        bytes,
+    )
 }
 
 // The same as an array.
 #[tactic(auto, using(crate::proofs::Fitting::decoded_fit))]
-fn read_array(alloc: Global, dtype: &DType, rows: u64, bytes: &[u8]) -> Result<Array, DecodeFault>
+fn read_array(
+    alloc: Global,
+    spelling: Spelling,
+    dtype: &DType,
+    rows: u64,
+    bytes: &[u8],
+) -> Result<Array, DecodeFault>
     ensures dtype { IfOk result (λ a. a.dtype ≡ dtype.now) }
-    ensures exact { Gives (λ a. a.items) result (decode dtype.now rows bytes.now) }
+    ensures exact { Gives (λ a. a.items) result (decode spelling dtype.now rows bytes.now) }
 {
-    let values = read_segment(alloc, dtype, rows, bytes)?;
+    let values = read_segment(alloc, spelling, dtype, rows, bytes)?;
     Ok(array_of(alloc, dtype, values)?)
 }
 
@@ -238,6 +424,7 @@ fn read_array(alloc: Global, dtype: &DType, rows: u64, bytes: &[u8]) -> Result<A
 /// `Spelling` exactly where the bytes are not the spelling of so many rows, and `NoMemory`.
 pub fn decode_segment(
     alloc: Global,
+    spelling: Spelling,
     dtype: &DType,
     rows: u64,
     bytes: &[u8],
@@ -246,11 +433,12 @@ pub fn decode_segment(
     ensures dtype { IfOk result (λ a. a.dtype ≡ dtype.now) }
 
     // What is read is spelled so, and what is spelled so is read.
-    ensures found { IfOk result (λ a. Spells dtype.now rows a.items bytes.now) }
-    ensures only { (vs : List Val) → Spells dtype.now rows vs bytes.now → Gives (λ a. a.items) result (Some vs) }
+    ensures found { IfOk result (λ a. Spells spelling dtype.now rows a.items bytes.now) }
+    ensures only { (vs : List Val) → Spells spelling dtype.now rows vs bytes.now →
+        Gives (λ a. a.items) result (Some vs) }
 
     // Where nothing is spelled, that is told.
-    ensures exact { Gives (λ a. a.items) result (decode dtype.now rows bytes.now) }
+    ensures exact { Gives (λ a. a.items) result (decode spelling dtype.now rows bytes.now) }
 {
-    read_array(alloc, dtype, rows, bytes)
+    read_array(alloc, spelling, dtype, rows, bytes)
 }

@@ -26,4 +26,14 @@ returns c =
       mapped = refl;
       not_first = refl;
       not_last = refl;
+      bits_written = refl;
+      bits_read = refl;
+      null_bit_ignored = refl;
+      spare_flag = refl;
+      spare_bool = refl;
+      bytes_first = refl;
+      bits_after = refl;
+      ints_by_bits = refl;
+      null_by_bits = refl;
+      there_by_bits = refl;
     }

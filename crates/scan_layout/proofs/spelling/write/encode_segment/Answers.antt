@@ -11,16 +11,16 @@ use Rattle.scan_layout.proofs.spelling.write.encode_segment.Goals as goal
 
 pub push_rows-requires : goal.push_rows-requires
 push_rows-requires c =
-    subst (λ kind. All (λ v. IsOfKind kind (val_of v)) c.as_slice-items.result.now) (sym (c.kind.ensures ∙ ap kind_of c.dtype.ensures))
+    subst (λ kind. All (λ v. IsOfKind kind (val_of v)) c.as_slice-items.result.now) (sym (c.kind-kind.ensures ∙ ap kind_of c.dtype.ensures))
     (of_kind c.args.a.now.dtype c.as_slice-items.result.now c.args.a.now.items c.as_slice-items.ensures.items c.requires c.as_slice-items.ensures.fit)
 
 pub returns-in-Ok-clause-again : goal.returns-in-Ok-clause-again
 returns-in-Ok-clause-again c =
-    again c.args.a.now.dtype c.args.a.now.items c.push_rows.new.out.items c.requires c.as_slice-items.ensures.fit
+    again c.args.spelling c.args.a.now.dtype c.args.a.now.items c.push_rows.new.out.items c.requires c.as_slice-items.ensures.fit
     (subst (All TextFits) c.as_slice-items.ensures.items (All-map TextFits val_of c.as_slice-items.result.now c.in-Ok.ensures.short))
     (subst (All IsText) c.as_slice-items.ensures.items (All-map IsText val_of c.as_slice-items.result.now c.in-Ok.ensures.text))
     c.in-Ok.ensures.bytes
-    (c.in-Ok.ensures.written ∙ (λ i. (c.new-out.ensures.items i) ++ spelling_under ((c.nullability.ensures ∙ ap nullability_of c.dtype-2.ensures) i) ((c.kind.ensures ∙ ap kind_of c.dtype.ensures) i) (c.as_slice-items.ensures.items i)))
+    (c.in-Ok.ensures.written ∙ (λ i. (c.in_ok-out.ensures.items i) ++ spelling_under c.args.spelling ((c.nullability.ensures ∙ ap nullability_of c.dtype-2.ensures) i) ((c.kind-kind.ensures ∙ ap kind_of c.dtype.ensures) i) (c.as_slice-items.ensures.items i)))
 
 pub returns-in-Ok-clause-short : goal.returns-in-Ok-clause-short
 returns-in-Ok-clause-short c = subst (All TextFits) c.as_slice-items.ensures.items (All-map TextFits val_of c.as_slice-items.result.now c.in-Ok.ensures.short)

@@ -8,7 +8,7 @@ on_ok (Ok u) P p = p
 on_ok (Err e) P p = tt
 
 pub returns-in-NonNullable-clause-bytes : goal.returns-in-NonNullable-clause-bytes
-returns-in-NonNullable-clause-bytes c = on_ok _ _ (small_items c.push_slots.new.out.items (λ i h. omega (arith, c.type_inv.out i, h)))
+returns-in-NonNullable-clause-bytes c = on_ok _ _ (small_items c.push_values.new.out.items (λ i h. omega (arith, c.type_inv.out i, h)))
 
 pub returns-else-is_err-clause-bytes : goal.returns-else-is_err-clause-bytes
-returns-else-is_err-clause-bytes c = on_ok _ _ (small_items c.push_slots-in-Nullable.new.out.items (λ i h. omega (arith, c.type_inv.out i, h)))
+returns-else-is_err-clause-bytes c = on_ok _ _ (small_items c.push_values-in-Nullable.new.out.items (λ i h. omega (arith, c.type_inv.out i, h)))

@@ -1,0 +1,716 @@
+//! A leaf's segment, read in place. Texts are not of one width, and of them it is kept where each ends.
+ghost use Rattle.std.specs.Prelude.{◌≡◌, ◌<◌, ◌≤◌, ◌+◌, ◌*◌, ◌==◌, length, replicate, take, drop, map, get_or, slice_get, is_some, option_and_then, option_map, IfOk, IsTrue, List, Some, true, false};
+ghost use Rattle.std.specs.List.{items_where_true};
+ghost use Rattle.scan_values.specs.Arrays.{of_parts};
+ghost use Rattle.scan_values.specs.Kinds.{is_scalar_type, kind_of};
+ghost use Rattle.scan_values.specs.DataType.{nullability_of};
+ghost use Rattle.scan_values.specs.Val.{Val, marked, marked_all, vals_of};
+ghost use Rattle.scan_values.specs.Marked.{is_true};
+ghost use Rattle.scan_values.specs.Fits.{is_bool_type};
+ghost use Rattle.scan_values.specs.Values.{val_of};
+ghost use Rattle.scan_layout.specs.Spelling.{content, bool_of, under_flag, cells, bits_of, bytes_for, group_size, flags_in, decode_slots, decode_under, decode};
+ghost use Rattle.scan_layout.specs.Spells.{Spells};
+ghost use Rattle.scan_layout.specs.Decoded.{Gives};
+ghost use Rattle.scan_layout.specs.LeafColumns.{slot_width, has_width, or_none, spelled, spread, are_flags, is_row, are_rows, is_here, is_set};
+ghost use Rattle.scan_layout.specs.TextColumns.{ends_under};
+
+use super::bits::{bit, is_group};
+use super::read::{group_size, int_of, width};
+use super::texts::{ends_under, flag_bytes, flag_of, text_under};
+use super::{DecodeFault, Spelling};
+use scan_segments::ByteBuffer;
+use scan_values::{Array, DType, DTypeKind, Mask, NoMemory, Nullability, Value};
+use std::alloc::Global;
+use std::marker::Model;
+
+/// The values of a leaf as the bytes of its segment. Contracts see the dtype and the values.
+#[derive(Drop)]
+pub struct LeafColumn {
+    spelling: Spelling,
+    dtype: DType,
+    rows: u64,
+    bytes: ByteBuffer,
+    // Where each value ends where they are texts, else empty.
+    ends: Vec<usize>,
+}
+
+impl Model for LeafColumn {
+    ghost use Rattle.std.specs.Prelude.{◌≡◌, Some, false};
+    ghost use Rattle.scan_values.specs.declared.dtype.DTypeKind.{DTypeKind};
+    ghost use Rattle.scan_values.specs.Arrays.{ArrayData, array_code};
+    ghost use Rattle.scan_values.specs.DataType.{nullability_of};
+    ghost use Rattle.scan_values.specs.Kinds.{kind_of};
+    ghost use Rattle.scan_layout.specs.Spelling.{decode};
+    ghost use Rattle.scan_layout.specs.LeafColumns.{has_width, spelled};
+    ghost use Rattle.scan_layout.specs.TextColumns.{ends_under};
+
+    ghost Value = { ArrayData };
+
+    ghost coded = { array_code };
+
+    ghost view = { λ a. record { dtype = a.dtype; items = spelled a.spelling a.dtype a.rows a.bytes } };
+
+    ghost invariant = { λ a. (decode a.spelling a.dtype a.rows a.bytes ≡ Some (spelled a.spelling a.dtype a.rows a.bytes)) × (has_width (kind_of a.dtype) ≡ false → (kind_of a.dtype ≡ DTypeKind.Utf8) × (ends_under a.spelling (nullability_of a.dtype) a.rows a.bytes ≡ Some a.ends.items)) };
+}
+
+// The bytes of a slot.
+fn slot_width(kind: DTypeKind) -> usize
+    ensures same { result ≡ slot_width kind }
+    ensures low { result ≤ 8 }
+{
+    match kind {
+        DTypeKind::Bool => 1,
+        DTypeKind::Primitive(ptype) => width(ptype),
+        DTypeKind::Utf8 | DTypeKind::List | DTypeKind::Struct => 0,
+    }
+}
+
+// Whether each byte is 0 or 1.
+fn are_flags(flags: &[u8]) -> bool
+    ensures { result ≡ are_flags flags.now }
+{
+    for flag in flags {
+        if *flag >= 2 {
+            return false;
+        }
+    }
+    true
+}
+
+// Whether a Bool's byte may stand under its flag.
+fn is_row(flag: u8, byte: u8) -> bool
+    ensures { result ≡ is_row flag byte }
+{
+    match flag {
+        0 => true,
+        1 => match byte {
+            0 | 1 => true,
+            _ => false,
+        },
+        _ => false,
+    }
+}
+
+// Whether each Bool's byte may stand under its flag.
+fn are_rows(flags: &[u8], bytes: &[u8]) -> bool
+    requires { length flags.now ≡ length bytes.now }
+    ensures { result ≡ are_rows flags.now bytes.now }
+{
+    for i in 0..flags.len() {
+        if !is_row(flags[i], bytes[i]) {
+            return false;
+        }
+    }
+    true
+}
+
+// Whether so many slots of a width are so many bytes.
+fn is_long(rows: u64, width: usize, bytes: &[u8]) -> bool
+    requires { width ≤ 8 }
+    ensures { result ≡ (rows * width == length bytes.now) }
+{
+    (rows as u128) * (width as u128) == bytes.len() as u128
+}
+
+// Whether these are the slots of so many rows.
+fn are_plain(kind: DTypeKind, rows: u64, bytes: &[u8]) -> bool
+    requires { has_width kind ≡ true }
+    ensures { result ≡ is_some (cells kind (replicate rows 1) bytes.now) }
+{
+    if !is_long(rows, slot_width(kind), bytes) {
+        return false;
+    }
+    match kind {
+        DTypeKind::Bool => are_flags(bytes),
+        _ => true,
+    }
+}
+
+// Whether these are the slots under these flags.
+fn are_flagged(kind: DTypeKind, flags: &[u8], bytes: &[u8]) -> bool
+    requires { has_width kind ≡ true }
+    ensures { result ≡ is_some (cells kind flags.now bytes.now) }
+{
+    if !is_long(flags.len() as u64, slot_width(kind), bytes) {
+        return false;
+    }
+    match kind {
+        DTypeKind::Bool => are_rows(flags, bytes),
+        _ => are_flags(flags),
+    }
+}
+
+// Whether these are the slots of so many rows that are all there.
+fn are_plain_slots(spelling: Spelling, kind: DTypeKind, rows: u64, bytes: &[u8]) -> bool
+    requires { has_width kind ≡ true }
+    ensures { result ≡ is_some (decode_slots spelling kind rows (replicate rows 1) bytes.now) }
+{
+    match (spelling, kind) {
+        (Spelling::Two, DTypeKind::Bool) => is_group(bytes, rows),
+        _ => are_plain(kind, rows, bytes),
+    }
+}
+
+// Whether these are the slots of so many rows under bits.
+fn are_under_bits(kind: DTypeKind, rows: u64, flags: &[u8], bytes: &[u8]) -> bool
+    requires width { has_width kind ≡ true }
+    requires flags { length flags.now ≡ bytes_for rows }
+    ensures { result ≡ is_some (decode_slots Spelling.Two kind rows (take rows (bits_of flags.now)) bytes.now) }
+{
+    match kind {
+        DTypeKind::Bool => is_group(bytes, rows),
+        _ => is_long(rows, slot_width(kind), bytes),
+    }
+}
+
+// Whether these are the flags and the slots of so many rows.
+fn are_flagged_slots(
+    spelling: Spelling,
+    kind: DTypeKind,
+    rows: u64,
+    flags: &[u8],
+    bytes: &[u8],
+) -> bool
+    requires width { has_width kind ≡ true }
+    requires flags { length flags.now ≡ group_size spelling rows }
+    ensures { result ≡ is_some
+        (option_and_then (λ fs. decode_slots spelling kind rows fs bytes.now) (flags_in spelling rows flags.now)) }
+{
+    match spelling {
+        Spelling::One => are_flagged(kind, flags, bytes),
+        Spelling::Two => {
+            if !is_group(flags, rows) {
+                return false;
+            }
+            are_under_bits(kind, rows, flags, bytes)
+        }
+    }
+}
+
+// Whether the bytes spell so many rows.
+fn is_spelling(
+    spelling: Spelling,
+    kind: DTypeKind,
+    nullability: Nullability,
+    rows: u64,
+    bytes: &[u8],
+) -> bool
+    requires { has_width kind ≡ true }
+    ensures { result ≡ is_some (decode_under spelling nullability kind rows bytes.now) }
+{
+    match nullability {
+        Nullability::NonNullable => are_plain_slots(spelling, kind, rows, bytes),
+        Nullability::Nullable => {
+            let Ok(size) = usize::try_from(group_size(spelling, rows)) else {
+                return false;
+            };
+            if bytes.len() < size {
+                return false;
+            }
+            let (flags, slots) = bytes.split_at(size);
+            are_flagged_slots(spelling, kind, rows, flags, slots)
+        }
+    }
+}
+
+// The slot at a place.
+fn slot_at(bytes: &[u8], i: usize, width: usize) -> &[u8]
+    requires { i * width + width ≤ length bytes.now }
+    ensures { result.now ≡ take width (drop (i * width) bytes.now) }
+{
+    let start = i * width;
+    &bytes[start..start + width]
+}
+
+// The value of a slot under its flag.
+fn value_of(kind: DTypeKind, flag: u8, slot: &[u8]) -> Value
+    requires width { has_width kind ≡ true }
+    requires long { length slot.now ≡ slot_width kind }
+    requires there { is_some (under_flag flag (content kind slot.now)) ≡ true }
+    ensures { Some (val_of result) ≡ under_flag flag (content kind slot.now) }
+{
+    if flag == 0 {
+        return Value::Null;
+    }
+    match kind {
+        DTypeKind::Primitive(ptype) => Value::Int(int_of(ptype, slot)),
+        _ => Value::Bool(slot[0] == 1),
+    }
+}
+
+// The value at a place of slots that are all there.
+fn plain_at(kind: DTypeKind, rows: u64, bytes: &[u8], i: usize) -> Value
+    requires width { has_width kind ≡ true }
+    requires spelled { cells kind (replicate rows 1) bytes.now
+        ≡ Some (or_none (cells kind (replicate rows 1) bytes.now)) }
+    requires within { i < rows }
+    ensures { Some (val_of result) ≡ slice_get (or_none (cells kind (replicate rows 1) bytes.now)) i }
+{
+    let width = slot_width(kind);
+    value_of(kind, 1, slot_at(bytes, i, width))
+}
+
+// The value at a place of slots under their flags.
+fn flagged_at(kind: DTypeKind, flags: &[u8], bytes: &[u8], i: usize) -> Value
+    requires width { has_width kind ≡ true }
+    requires spelled { cells kind flags.now bytes.now ≡ Some (or_none (cells kind flags.now bytes.now)) }
+    requires within { i < length flags.now }
+    ensures { Some (val_of result) ≡ slice_get (or_none (cells kind flags.now bytes.now)) i }
+{
+    let width = slot_width(kind);
+    value_of(kind, flags[i], slot_at(bytes, i, width))
+}
+
+// A Bool under its flag, of which each is a bit.
+fn bool_value(flag: u8, bit: u8) -> Value
+    requires flag { flag < 2 }
+    requires bit { bit < 2 }
+    ensures { Some (val_of result) ≡ under_flag flag (bool_of bit) }
+{
+    if flag == 0 {
+        return Value::Null;
+    }
+    Value::Bool(bit == 1)
+}
+
+// The value at a place of slots that are all there, in either spelling.
+fn plain_value(spelling: Spelling, kind: DTypeKind, rows: u64, bytes: &[u8], i: usize) -> Value
+    requires width { has_width kind ≡ true }
+    requires spelled { decode_slots spelling kind rows (replicate rows 1) bytes.now
+        ≡ Some (or_none (decode_slots spelling kind rows (replicate rows 1) bytes.now)) }
+    requires within { i < rows }
+    ensures { Some (val_of result)
+        ≡ slice_get (or_none (decode_slots spelling kind rows (replicate rows 1) bytes.now)) i }
+{
+    match (spelling, kind) {
+        (Spelling::Two, DTypeKind::Bool) => bool_value(1, bit(bytes, i as u64)),
+        _ => plain_at(kind, rows, bytes, i),
+    }
+}
+
+// The value at a place of slots under bits.
+fn value_under_bits(kind: DTypeKind, rows: u64, flags: &[u8], bytes: &[u8], i: usize) -> Value
+    requires width { has_width kind ≡ true }
+    requires flags { length flags.now ≡ bytes_for rows }
+    requires spelled { decode_slots Spelling.Two kind rows (take rows (bits_of flags.now)) bytes.now
+        ≡ Some (or_none (decode_slots Spelling.Two kind rows (take rows (bits_of flags.now)) bytes.now)) }
+    requires within { i < rows }
+    ensures { Some (val_of result)
+        ≡ slice_get (or_none (decode_slots Spelling.Two kind rows (take rows (bits_of flags.now)) bytes.now)) i }
+{
+    let flag = bit(flags, i as u64);
+    match kind {
+        DTypeKind::Bool => bool_value(flag, bit(bytes, i as u64)),
+        _ => {
+            let width = slot_width(kind);
+            value_of(kind, flag, slot_at(bytes, i, width))
+        }
+    }
+}
+
+// The value at a place of slots under their flags, in either spelling.
+fn flagged_value(
+    spelling: Spelling,
+    kind: DTypeKind,
+    rows: u64,
+    flags: &[u8],
+    bytes: &[u8],
+    i: usize,
+) -> Value
+    requires width { has_width kind ≡ true }
+    requires flags { length flags.now ≡ group_size spelling rows }
+    requires spelled { decode_slots spelling kind rows (spread spelling rows flags.now) bytes.now
+        ≡ Some (or_none (decode_slots spelling kind rows (spread spelling rows flags.now) bytes.now)) }
+    requires within { i < rows }
+    ensures { Some (val_of result)
+        ≡ slice_get (or_none (decode_slots spelling kind rows (spread spelling rows flags.now) bytes.now)) i }
+{
+    match spelling {
+        Spelling::One => flagged_at(kind, flags, bytes, i),
+        Spelling::Two => value_under_bits(kind, rows, flags, bytes, i),
+    }
+}
+
+// The value at a place.
+fn value_at(
+    spelling: Spelling,
+    kind: DTypeKind,
+    nullability: Nullability,
+    rows: u64,
+    bytes: &[u8],
+    i: usize,
+) -> Value
+    requires width { has_width kind ≡ true }
+    requires spelled { decode_under spelling nullability kind rows bytes.now
+        ≡ Some (or_none (decode_under spelling nullability kind rows bytes.now)) }
+    requires within { i < rows }
+    ensures { Some (val_of result) ≡ slice_get (or_none (decode_under spelling nullability kind rows bytes.now)) i }
+{
+    match nullability {
+        Nullability::NonNullable => plain_value(spelling, kind, rows, bytes, i),
+        Nullability::Nullable => {
+            let (flags, slots) = bytes.split_at(group_size(spelling, rows) as usize);
+            flagged_value(spelling, kind, rows, flags, slots, i)
+        }
+    }
+}
+
+// Whether a flag is set.
+fn is_set(flag: u8) -> bool
+    ensures { result ≡ is_set flag }
+{
+    flag != 0
+}
+
+// Whether each flag is set.
+fn set_flags(alloc: Global, flags: &[u8]) -> Result<Mask, NoMemory>
+    ensures { IfOk result (λ m. m ≡ map is_set flags.now) }
+{
+    let mut bits = Vec::with_capacity(alloc, flags.len())?;
+    for flag in flags {
+        bits.push(*flag != 0)?;
+    }
+    Ok(Mask::from_bools(bits))
+}
+
+// Whether each of so many bits is set.
+#[tactic(auto, using(crate::proofs::BitColumns::bit_pushed))]
+fn set_bits(alloc: Global, rows: u64, flags: &[u8]) -> Result<Mask, NoMemory>
+    requires { length flags.now ≡ bytes_for rows }
+    ensures { IfOk result (λ m. m ≡ map is_set (take rows (bits_of flags.now))) }
+{
+    let mut bits = Vec::with_capacity(alloc, rows as usize)?;
+    for row in 0..rows {
+        bits.push(is_set(bit(flags, row)))?;
+    }
+    Ok(Mask::from_bools(bits))
+}
+
+// Whether each of so many flags is set, in either spelling.
+fn flags_set(alloc: Global, spelling: Spelling, rows: u64, flags: &[u8]) -> Result<Mask, NoMemory>
+    requires { length flags.now ≡ group_size spelling rows }
+    ensures { IfOk result (λ m. m ≡ map is_set (spread spelling rows flags.now)) }
+{
+    match spelling {
+        Spelling::One => set_flags(alloc, flags),
+        Spelling::Two => set_bits(alloc, rows, flags),
+    }
+}
+
+// Whether each row is there.
+fn rows_here(
+    alloc: Global,
+    spelling: Spelling,
+    kind: DTypeKind,
+    nullability: Nullability,
+    rows: u64,
+    bytes: &[u8],
+) -> Result<Mask, NoMemory>
+    requires { decode_under spelling nullability kind rows bytes.now
+        ≡ Some (or_none (decode_under spelling nullability kind rows bytes.now)) }
+    ensures { IfOk result (λ m. m ≡ map is_here (or_none (decode_under spelling nullability kind rows bytes.now))) }
+{
+    match nullability {
+        Nullability::NonNullable => Mask::new_true(alloc, rows as usize),
+        Nullability::Nullable => {
+            let (flags, _slots) = bytes.split_at(group_size(spelling, rows) as usize);
+            flags_set(alloc, spelling, rows, flags)
+        }
+    }
+}
+
+// Whether a row is there.
+fn row_here(
+    spelling: Spelling,
+    kind: DTypeKind,
+    nullability: Nullability,
+    rows: u64,
+    bytes: &[u8],
+    i: usize,
+) -> bool
+    requires spelled { decode_under spelling nullability kind rows bytes.now
+        ≡ Some (or_none (decode_under spelling nullability kind rows bytes.now)) }
+    requires within { i < rows }
+    ensures { Some result
+        ≡ option_map is_here (slice_get (or_none (decode_under spelling nullability kind rows bytes.now)) i) }
+{
+    let (flags, _slots) = bytes.split_at(flag_bytes(spelling, nullability, rows) as usize);
+    is_set(flag_of(spelling, nullability, rows, flags, i as u64))
+}
+
+// Whether all slots of the kind are of one width.
+fn has_width(kind: DTypeKind) -> bool
+    ensures { result ≡ has_width kind }
+{
+    match kind {
+        DTypeKind::Bool | DTypeKind::Primitive(_) => true,
+        DTypeKind::Utf8 | DTypeKind::List | DTypeKind::Struct => false,
+    }
+}
+
+// Whether the bytes spell so many rows of a dtype.
+fn is_spelt(spelling: Spelling, dtype: &DType, rows: u64, bytes: &[u8]) -> bool
+    requires { has_width (kind_of dtype.now) ≡ true }
+    ensures { result ≡ is_some (decode spelling dtype.now rows bytes.now) }
+{
+    is_spelling(spelling, dtype.kind(), dtype.nullability(), rows, bytes)
+}
+
+// Where each text of a segment ends.
+fn text_ends(
+    alloc: Global,
+    spelling: Spelling,
+    dtype: &DType,
+    rows: u64,
+    bytes: &[u8],
+) -> Result<Vec<usize>, DecodeFault>
+    requires { kind_of dtype.now ≡ DTypeKind.Utf8 }
+    ensures ends { IfOk result (λ v. ends_under spelling (nullability_of dtype.now) rows bytes.now ≡ Some v.items) }
+    ensures exact { Gives (λ v. spelled spelling dtype.now rows bytes.now) result
+        (decode spelling dtype.now rows bytes.now) }
+{
+    ends_under(alloc, spelling, dtype.nullability(), rows, bytes)
+}
+
+// The text of a row, by where each ends.
+fn text_at(
+    alloc: Global,
+    spelling: Spelling,
+    dtype: &DType,
+    rows: u64,
+    bytes: &[u8],
+    ends: &[usize],
+    i: usize,
+) -> Result<Value, NoMemory>
+    requires text { kind_of dtype.now ≡ DTypeKind.Utf8 }
+    requires spelled { decode spelling dtype.now rows bytes.now ≡ Some (spelled spelling dtype.now rows bytes.now) }
+    requires ends { ends_under spelling (nullability_of dtype.now) rows bytes.now ≡ Some ends.now }
+    requires within { i < rows }
+    ensures { IfOk result (λ v. Some (val_of v) ≡ slice_get (spelled spelling dtype.now rows bytes.now) i) }
+{
+    text_under(alloc, spelling, dtype.nullability(), rows, bytes, ends, i)
+}
+
+impl LeafColumn {
+    // The column of bytes that are known to spell its values, with where each ends where they are texts.
+    fn of_spelled(
+        spelling: Spelling,
+        dtype: DType,
+        rows: u64,
+        bytes: ByteBuffer,
+        ends: Vec<usize>,
+    ) -> LeafColumn
+        requires spelled { decode spelling dtype rows bytes ≡ Some (spelled spelling dtype rows bytes) }
+        requires ends { has_width (kind_of dtype) ≡ false →
+            (kind_of dtype ≡ DTypeKind.Utf8)
+            × (ends_under spelling (nullability_of dtype) rows bytes ≡ Some ends.items) }
+        ensures { result ≡ of_parts dtype (spelled spelling dtype rows bytes) }
+    {
+        LeafColumn {
+            spelling,
+            dtype,
+            rows,
+            bytes,
+            ends,
+        }
+    }
+
+    // A segment of slots of one width, whose bytes are tested.
+    fn read_places(
+        alloc: Global,
+        spelling: Spelling,
+        dtype: &DType,
+        rows: u64,
+        bytes: ByteBuffer,
+    ) -> Result<LeafColumn, DecodeFault>
+        requires { has_width (kind_of dtype.now) ≡ true }
+        ensures dtype { IfOk result (λ a. a.dtype ≡ dtype.now) }
+        ensures exact { Gives (λ a. a.items) result (decode spelling dtype.now rows bytes) }
+    {
+        if !is_spelt(spelling, dtype, rows, bytes.as_slice()) {
+            return Err(DecodeFault::Spelling);
+        }
+        let kept = dtype.try_clone(alloc)?;
+        Ok(LeafColumn::of_spelled(spelling, kept, rows, bytes, Vec::new(alloc)))
+    }
+
+    // A segment of texts, of which it is kept where each ends.
+    fn read_texts(
+        alloc: Global,
+        spelling: Spelling,
+        dtype: &DType,
+        rows: u64,
+        bytes: ByteBuffer,
+    ) -> Result<LeafColumn, DecodeFault>
+        requires { kind_of dtype.now ≡ DTypeKind.Utf8 }
+        ensures dtype { IfOk result (λ a. a.dtype ≡ dtype.now) }
+        ensures exact { Gives (λ a. a.items) result (decode spelling dtype.now rows bytes) }
+    {
+        let ends = text_ends(alloc, spelling, dtype, rows, bytes.as_slice())?;
+        let kept = dtype.try_clone(alloc)?;
+        Ok(LeafColumn::of_spelled(spelling, kept, rows, bytes, ends))
+    }
+
+    // The column, by what is read alone.
+    fn read_kept(
+        alloc: Global,
+        spelling: Spelling,
+        dtype: &DType,
+        rows: u64,
+        bytes: ByteBuffer,
+    ) -> Result<LeafColumn, DecodeFault>
+        requires { IsTrue (is_scalar_type dtype.now) }
+        ensures dtype { IfOk result (λ a. a.dtype ≡ dtype.now) }
+        ensures exact { Gives (λ a. a.items) result (decode spelling dtype.now rows bytes) }
+    {
+        if has_width(dtype.kind()) {
+            LeafColumn::read_places(alloc, spelling, dtype, rows, bytes)
+        } else {
+            LeafColumn::read_texts(alloc, spelling, dtype, rows, bytes)
+        }
+    }
+
+    /// The segment of so many rows of a scalar dtype, whose bytes are tested once and kept. No value is made, and
+    /// memory is taken for a row where it is a text alone.
+    ///
+    /// # Errors
+    /// `Spelling` exactly where the bytes are not the spelling of so many rows, and `NoMemory`.
+    pub fn read(
+        alloc: Global,
+        spelling: Spelling,
+        dtype: &DType,
+        rows: u64,
+        bytes: ByteBuffer,
+    ) -> Result<LeafColumn, DecodeFault>
+        requires { IsTrue (is_scalar_type dtype.now) }
+        ensures dtype { IfOk result (λ a. a.dtype ≡ dtype.now) }
+
+        // What is read is spelled so, and what is spelled so is read.
+        ensures found { IfOk result (λ a. Spells spelling dtype.now rows a.items bytes) }
+        ensures only { (vs : List Val) → Spells spelling dtype.now rows vs bytes →
+            Gives (λ a. a.items) result (Some vs) }
+
+        // Where nothing is spelled, that is told.
+        ensures exact { Gives (λ a. a.items) result (decode spelling dtype.now rows bytes) }
+    {
+        LeafColumn::read_kept(alloc, spelling, dtype, rows, bytes)
+    }
+
+    /// The dtype of the values.
+    pub fn dtype(&self) -> &DType
+        ensures { result.now ≡ self.now.dtype }
+    {
+        &self.dtype
+    }
+
+    /// How many rows.
+    pub fn len(&self) -> usize
+        ensures { result ≡ length self.now.items }
+    {
+        self.rows as usize
+    }
+
+    /// Whether there is no row.
+    pub fn is_empty(&self) -> bool
+        ensures { result ≡ (length self.now.items == 0) }
+    {
+        self.len() == 0
+    }
+
+    /// The value of a row.
+    ///
+    /// # Errors
+    /// `NoMemory`.
+    pub fn value(&self, alloc: Global, i: usize) -> Result<Value, NoMemory>
+        requires { i < length self.now.items }
+        ensures { IfOk result (λ v. Some (val_of v) ≡ slice_get self.now.items i) }
+    {
+        if !has_width(self.dtype.kind()) {
+            return text_at(
+                alloc,
+                self.spelling,
+                &self.dtype,
+                self.rows,
+                self.bytes.as_slice(),
+                self.ends.as_slice(),
+                i,
+            );
+        }
+        Ok(value_at(
+            self.spelling,
+            self.dtype.kind(),
+            self.dtype.nullability(),
+            self.rows,
+            self.bytes.as_slice(),
+            i,
+        ))
+    }
+
+    /// Whether a row is not null. No value is made.
+    pub fn is_valid(&self, i: usize) -> bool
+        requires { i < length self.now.items }
+        ensures { Some result ≡ option_map is_here (slice_get self.now.items i) }
+    {
+        row_here(
+            self.spelling,
+            self.dtype.kind(),
+            self.dtype.nullability(),
+            self.rows,
+            self.bytes.as_slice(),
+            i,
+        )
+    }
+
+    /// The values of the true rows, which alone are made.
+    ///
+    /// # Errors
+    /// `NoMemory`.
+    #[tactic(auto, using(crate::proofs::Columns::pick_pushed, crate::proofs::Columns::pick_passed))]
+    pub fn picked(&self, alloc: Global, mask: &Mask) -> Result<Vec<Value>, NoMemory>
+        requires { length mask.now ≡ length self.now.items }
+        ensures { IfOk result (λ v. map val_of v.items ≡ items_where_true mask.now self.now.items) }
+    {
+        let bits = mask.as_slice();
+        let mut items = Vec::with_capacity(alloc, mask.true_count())?;
+        for (i, bit) in bits.iter().enumerate() {
+            if *bit {
+                items.push(self.value(alloc, i)?)?;
+            }
+        }
+        Ok(items)
+    }
+
+    /// For each row, whether it is not null. No value is made.
+    ///
+    /// # Errors
+    /// `NoMemory`.
+    pub fn validity(&self, alloc: Global) -> Result<Mask, NoMemory>
+        ensures { IfOk result (λ m. m ≡ map is_here self.now.items) }
+    {
+        rows_here(
+            alloc,
+            self.spelling,
+            self.dtype.kind(),
+            self.dtype.nullability(),
+            self.rows,
+            self.bytes.as_slice(),
+        )
+    }
+
+    /// For each row of a Bool, whether it is true.
+    ///
+    /// # Errors
+    /// `NoMemory`.
+    #[tactic(auto, using(crate::proofs::Columns::truth_pushed))]
+    pub fn to_mask(&self, alloc: Global) -> Result<Mask, NoMemory>
+        requires { is_bool_type self.now.dtype ≡ true }
+        ensures { IfOk result (λ m. m ≡ map (λ v. is_true (marked v)) self.now.items) }
+    {
+        let mut bits = Vec::with_capacity(alloc, self.len())?;
+        for i in 0..self.len() {
+            let value = self.value(alloc, i)?;
+            bits.push(value.is_true())?;
+        }
+        Ok(Mask::from_bools(bits))
+    }
+}
