@@ -5,7 +5,7 @@ use Rattle.scan_values.specs.declared.ptype.Nullability.{Nullability}
 use Rattle.scan_values.specs.declared.ptype.Nullability.TheVariants.{NonNullable, Nullable}
 use Rattle.scan_values.specs.FieldLists.{dtype_named}
 use Rattle.scan_expr.specs.Needs.{other_names, Demand, fields, asked}
-use Rattle.scan_expr.specs.Infer.{type_or_bool, field_type, struct_fields, infer, infer_all, chosen, without, unary_type, binary_type}
+use Rattle.scan_expr.specs.Infer.{type_or_bool, field_type, struct_fields, infer, infer_all, chosen, without, unary_type, binary_type, ptype_or_u64}
 use Rattle.scan_values.specs.NameFaults.{has_name}
 use Rattle.scan_values.specs.declared.ptype.PType.TheVariants.{U64}
 use Rattle.scan_partition.specs.declared.item.Item.{Item}
@@ -17,7 +17,8 @@ use Rattle.scan_partition.specs.Partition.{step_into, step_into_all, or_root}
 use Rattle.scan_expr.specs.declared.op.Unary.{Unary}
 use Rattle.scan_expr.specs.declared.op.Unary.TheVariants.{GetItem, Select, Exclude, Not, IsNull, IsNotNull, ListLength}
 use Rattle.scan_expr.specs.declared.op.Binary.{Binary}
-use Rattle.scan_expr.specs.declared.op.Binary.TheVariants.{Mask}
+use Rattle.scan_expr.specs.declared.op.Binary.TheVariants.{Mask, And, Or, Equal, NotEqual, Less, LessOrEqual, Greater, GreaterOrEqual, CheckedAdd, CheckedSub}
+use Rattle.scan_values.specs.Kinds.{ptype_of}
 use Rattle.scan_partition.specs.Rows.{Distinct, item_type}
 use Rattle.scan_values.specs.Marked.{struct}
 use Rattle.scan_partition.specs.Bare.{bare, bare_all}
@@ -90,9 +91,28 @@ fields-same d e h = sym (fields_of-bare d) ∙ ap struct_fields h ∙ fields_of-
 pub unary-same : (u : Unary) (d e : DataType) → bare d ≡ bare e → bare (unary_type u d) ≡ bare (unary_type u e)
 unary-same u d e h = unary-bare u d ∙ ap (bare_unary u) (fields-same d e h) ∙ sym (unary-bare u e)
 
+ptype-bare : (d : DataType) → ptype_of (bare d) ≡ ptype_of d
+ptype-bare (bool_type n) = refl
+ptype-bare (int_type p n) = refl
+ptype-bare (utf8_type n) = refl
+ptype-bare (list_type d n) = refl
+ptype-bare (struct_type fs n) = refl
+
+pub ptypes-same : (d e : DataType) → bare d ≡ bare e → ptype_of d ≡ ptype_of e
+ptypes-same d e h = sym (ptype-bare d) ∙ ap ptype_of h ∙ ptype-bare e
+
 pub binary-same : (b : Binary) (d e f g : DataType) → bare d ≡ bare e → bare (binary_type b d f) ≡ bare (binary_type b e g)
 binary-same Mask d e f g h = bare-with Nullable d ∙ h ∙ sym (bare-with Nullable e)
-binary-same _ d e f g h = refl
+binary-same And d e f g h = refl
+binary-same Or d e f g h = refl
+binary-same Equal d e f g h = refl
+binary-same NotEqual d e f g h = refl
+binary-same Less d e f g h = refl
+binary-same LessOrEqual d e f g h = refl
+binary-same Greater d e f g h = refl
+binary-same GreaterOrEqual d e f g h = refl
+binary-same CheckedAdd d e f g h = ap (λ p. int_type (ptype_or_u64 p) Nullable) (ptypes-same d e h)
+binary-same CheckedSub d e f g h = ap (λ p. int_type (ptype_or_u64 p) Nullable) (ptypes-same d e h)
 
 pub asked-same : (u : Unary) (d e : DataType) (k : Demand) → bare d ≡ bare e → asked u (struct_fields d) k ≡ asked u (struct_fields e) k
 asked-same (GetItem f) d e k h = refl

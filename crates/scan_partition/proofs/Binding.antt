@@ -17,18 +17,16 @@ use Rattle.scan_expr.specs.declared.op.BindFault.TheVariants.{Deep, Literal, NoF
 use Rattle.scan_expr.specs.declared.op.Unary.{Unary}
 use Rattle.scan_expr.specs.declared.op.Unary.TheVariants.{GetItem, Select, Exclude, Not, IsNull, IsNotNull, ListLength}
 use Rattle.scan_expr.specs.Bound.{Bound, bound_of}
-use Rattle.scan_expr.specs.Expr.{is_root, Expr, root, row_index, literal, unary, binary, pack, Parts, no_parts, part, expr_depth}
+use Rattle.scan_expr.specs.Expr.{Expr, root, row_index, literal, unary, binary, pack, Parts, no_parts, part, expr_depth}
 use Rattle.scan_expr.specs.Infer.{infer, infer_all, struct_fields, fields_or_none}
-use Rattle.scan_expr.specs.Typing.{Fault, unless, or_fault, of_names, depth_fault, has_field, have_fields, in_struct, choice_fault, repeats, unary_fault, binary_fault, pack_fault, nodes_fault, parts_fault, bind_fault, typed}
+use Rattle.scan_expr.specs.Typing.{Fault, unless, or_fault, of_names, depth_fault, has_field, have_fields, in_struct, choice_fault, repeats, unary_fault, binary_fault, pack_fault, nodes_fault, parts_fault, bind_fault, bind_type, typed}
 use Rattle.scan_partition.specs.Items.{validity_name}
 use Rattle.scan_partition.specs.Rows.{Distinct}
-use Rattle.scan_partition.specs.Found.{AllFound, FoundBy, FoundAt, NamesFound, AllNamesFound}
-use Rattle.scan_partition.specs.Shallow.{NodesWithin, AllNodesWithin}
-use Rattle.scan_partition.specs.Conditions.{IsStruct, IsOverStruct}
-use Rattle.scan_partition.specs.RowSplit.{IsOverRows}
-use Rattle.scan_partition.specs.Binding.{BoundOverAStruct, BoundOverRows}
-use Rattle.scan_partition.proofs.Expanded.{is_root-sound}
+use Rattle.scan_partition.specs.Found.{AllFound, FoundBy, FoundAt}
+use Rattle.scan_partition.specs.Shallow.{NodesWithin, AllNodesWithin, IsPart}
+use Rattle.scan_partition.specs.Conditions.{IsStruct}
 use Rattle.scan_partition.proofs.Names.{false_if, bytes_eq-refl}
+use Rattle.scan_partition.proofs.Part.{shallow_part}
 
 -- ---- no fault
 first_none : (f g : Fault) → or_fault f g ≡ None → f ≡ None
@@ -117,25 +115,9 @@ found_by s IsNull h = tt
 found_by s IsNotNull h = tt
 found_by s ListLength h = tt
 
-found_at : (s : DataType) (u : Unary) (e : Expr) (b : Bool) → (b ≡ true → e ≡ root) → unary_fault u (infer s e) ≡ None → FoundAt b (FoundBy (struct_fields s) u)
+pub found_at : (s : DataType) (u : Unary) (e : Expr) (b : Bool) → (b ≡ true → e ≡ root) → unary_fault u (infer s e) ≡ None → FoundAt b (FoundBy (struct_fields s) u)
 found_at s u e true r h = found_by s u (ap (λ x. unary_fault u (infer s x)) (sym (r refl)) ∙ h)
 found_at s u e false r h = tt
-
-mutual
-  names_found : (s : DataType) (e : Expr) → nodes_fault s e ≡ None → NamesFound (struct_fields s) e
-  names_found s root h = tt
-  names_found s row_index h = tt
-  names_found s (literal d v) h = tt
-  names_found s (unary u e) h =
-      (found_at s u e (is_root e) (is_root-sound e) (first_none (unary_fault u (infer s e)) (depth_fault (infer s (unary u e))) (second_none (nodes_fault s e) (or_fault (unary_fault u (infer s e)) (depth_fault (infer s (unary u e)))) h)), names_found s e (first_none (nodes_fault s e) (or_fault (unary_fault u (infer s e)) (depth_fault (infer s (unary u e)))) h))
-  names_found s (binary b x y) h =
-      let r = second_none (nodes_fault s x) (or_fault (nodes_fault s y) (or_fault (binary_fault b (infer s x) (infer s y)) (depth_fault (infer s (binary b x y))))) h in
-      (names_found s x (first_none (nodes_fault s x) (or_fault (nodes_fault s y) (or_fault (binary_fault b (infer s x) (infer s y)) (depth_fault (infer s (binary b x y))))) h), names_found s y (first_none (nodes_fault s y) (or_fault (binary_fault b (infer s x) (infer s y)) (depth_fault (infer s (binary b x y)))) r))
-  names_found s (pack ps n) h = all_names_found s ps (first_none (parts_fault s ps) (or_fault (pack_fault (infer_all s ps)) (depth_fault (infer s (pack ps n)))) h)
-
-  all_names_found : (s : DataType) (ps : Parts) → parts_fault s ps ≡ None → AllNamesFound (struct_fields s) ps
-  all_names_found s no_parts h = tt
-  all_names_found s (part n e ps) h = (names_found s e (first_none (nodes_fault s e) (parts_fault s ps) h), all_names_found s ps (second_none (nodes_fault s e) (parts_fault s ps) h))
 
 -- ---- names that stand once, and none that is reserved
 name_steps : (a b : Bool) (r : Option NameFault) → cond a (Some Reserved) (cond b (Some Repeated) r) ≡ None → (a ≡ false) × (b ≡ false) × (r ≡ None)
@@ -143,7 +125,7 @@ name_steps true b r h = cc
 name_steps false true r h = cc
 name_steps false false r h = (refl, refl, h)
 
-unreserved : (seen ns : List Name) → names_fault seen ns ≡ None → has_name validity_name ns ≡ false
+pub unreserved : (seen ns : List Name) → names_fault seen ns ≡ None → has_name validity_name ns ≡ false
 unreserved seen [] h = refl
 unreserved seen (n ∷ ns) h =
     let s = name_steps (bytes_eq n validity_name) (has_name n seen) (names_fault (seen ++ n ∷ []) ns) h in
@@ -181,64 +163,44 @@ once n seen (m ∷ ms) s h =
     clash : true ≡ false → ⊥
     clash q = cc
 
-distinct : (seen : List Name) (fs : Fields) → names_fault seen (field_names fs) ≡ None → Distinct fs
+pub distinct : (seen : List Name) (fs : Fields) → names_fault seen (field_names fs) ≡ None → Distinct fs
 distinct seen no_fields h = tt
 distinct seen (field n d fs) h =
     let r = name_steps (bytes_eq n validity_name) (has_name n seen) (names_fault (seen ++ n ∷ []) (field_names fs)) h in
     (once n (seen ++ n ∷ []) (field_names fs) (has_last n seen) r.2, distinct (seen ++ n ∷ []) fs r.2)
 
-first_of_two : (f g : Option NameFault) → or_else f g ≡ None → f ≡ None
+pub first_of_two : (f g : Option NameFault) → or_else f g ≡ None → f ≡ None
 first_of_two None g h = refl
 first_of_two (Some x) g h = cc
 
-struct_names : (s : DataType) → dtype_fault s ≡ None → IsStruct s → names_fault [] (field_names (struct_fields s)) ≡ None
+pub second_of_two : (f g : Option NameFault) → or_else f g ≡ None → g ≡ None
+second_of_two None g h = h
+second_of_two (Some x) g h = cc
+
+pub struct_names : (s : DataType) → dtype_fault s ≡ None → IsStruct s → names_fault [] (field_names (struct_fields s)) ≡ None
 struct_names s h st = subst (λ (t : DataType). dtype_fault t ≡ None → names_fault [] (field_names (struct_fields t)) ≡ None) st (λ q. first_of_two (names_fault [] (field_names (struct_fields s))) (fields_fault (struct_fields s)) q) h
 
-pub bound_over : BoundOverAStruct
-bound_over s e d h st =
+-- the scope's names, its depth, and the nodes
+pub bind_parts : (s : DataType) (e : Expr) (d : DataType) → bind_type s e ≡ Ok d → (dtype_fault s ≡ None) × (depth_of s ≤ 64) × IsPart s e
+bind_parts s e d h =
     let none : bind_fault s e ≡ None = no_fault (bind_fault s e) (infer s e) d h in
     let rest = second_none (depth_fault s) (or_fault (of_names (dtype_fault s)) (or_fault (unless (leb (expr_depth e) 100) Deep) (nodes_fault s e))) none in
-    let names = no_name_fault (dtype_fault s) (first_none (of_names (dtype_fault s)) (or_fault (unless (leb (expr_depth e) 100) Deep) (nodes_fault s e)) rest) in
-    let nodes = second_none (unless (leb (expr_depth e) 100) Deep) (nodes_fault s e) (second_none (of_names (dtype_fault s)) (or_fault (unless (leb (expr_depth e) 100) Deep) (nodes_fault s e)) rest) in
-    let once_each = struct_names s names st in
-    record {
-      structure = st;
-      distinct = distinct [] (struct_fields s) once_each;
-      free = unreserved [] (field_names (struct_fields s)) once_each;
-      found = names_found s e nodes;
-      shallow = nodes_shallow s e nodes;
-    }
-
-pub bound_over_rows : BoundOverRows
-bound_over_rows s e d h =
-    let none : bind_fault s e ≡ None = no_fault (bind_fault s e) (infer s e) d h in
-    let rest = second_none (depth_fault s) (or_fault (of_names (dtype_fault s)) (or_fault (unless (leb (expr_depth e) 100) Deep) (nodes_fault s e))) none in
-    let nodes = second_none (unless (leb (expr_depth e) 100) Deep) (nodes_fault s e) (second_none (of_names (dtype_fault s)) (or_fault (unless (leb (expr_depth e) 100) Deep) (nodes_fault s e)) rest) in
-    record {
-      scope = shallow_if s (first_none (depth_fault s) (or_fault (of_names (dtype_fault s)) (or_fault (unless (leb (expr_depth e) 100) Deep) (nodes_fault s e))) none);
-      nodes = nodes_shallow s e nodes;
-    }
+    let nodes = second_none (unless (leb (expr_depth e) 100) Deep) (nodes_fault s e) (second_none (of_names (dtype_fault s)) (or_fault (unless (leb (expr_depth e) 100) Deep) (nodes_fault s e)) rest) in (
+      no_name_fault (dtype_fault s) (first_none (of_names (dtype_fault s)) (or_fault (unless (leb (expr_depth e) 100) Deep) (nodes_fault s e)) rest),
+      shallow_if s (first_none (depth_fault s) (or_fault (of_names (dtype_fault s)) (or_fault (unless (leb (expr_depth e) 100) Deep) (nodes_fault s e))) none),
+      shallow_part s e (nodes_shallow s e nodes),
+    )
 
 -- ---- for callers
 pub is_struct : (d : DataType) (fs : Fields) (n : Nullability) → d ≡ struct_type fs n → IsStruct d
 is_struct d fs n h = subst IsStruct (sym h) refl
 
-one_bound : (f : Fault) (b x : Bound) → Ok b ≡ typed f x → (f ≡ None) × (b ≡ x)
+pub one_bound : (f : Fault) (b x : Bound) → Ok b ≡ typed f x → (f ≡ None) × (b ≡ x)
 one_bound None b x h = (refl, same h)
   where
     same : ◌≡◌ {A = Result Bound BindFault} (Ok b) (Ok x) → b ≡ x
     same q = cc
 one_bound (Some f) b x h = cc
-
-pub bound_meets : (s : DataType) (e : Expr) (b : Bound) → Ok b ≡ typed (bind_fault s e) (bound_of s e) → IsStruct s → IsOverStruct b
-bound_meets s e b h st =
-    let r = one_bound (bind_fault s e) b (bound_of s e) h in
-    subst IsOverStruct (sym r.1) (bound_over s e (infer s e) (ap (λ (f : Fault). typed f (infer s e)) r.0) st)
-
-pub bound_meets_rows : (s : DataType) (e : Expr) (b : Bound) → Ok b ≡ typed (bind_fault s e) (bound_of s e) → IsOverRows b
-bound_meets_rows s e b h =
-    let r = one_bound (bind_fault s e) b (bound_of s e) h in
-    subst IsOverRows (sym r.1) (bound_over_rows s e (infer s e) (ap (λ (f : Fault). typed f (infer s e)) r.0))
 
 pub bound_is : (s : DataType) (e : Expr) (b : Bound) → Ok b ≡ typed (bind_fault s e) (bound_of s e) → b ≡ bound_of s e
 bound_is s e b h = (one_bound (bind_fault s e) b (bound_of s e) h).1

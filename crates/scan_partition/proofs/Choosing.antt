@@ -25,6 +25,7 @@ use Rattle.scan_partition.specs.Found.{NamesFound, AllNamesFound, FoundAt, Found
 use Rattle.scan_partition.specs.Conditions.{IsOverStruct}
 use Rattle.scan_partition.specs.Direct.{Choice, same_names, field_item, field_of, chose, direct_parts, direct_at, if_here, direct, chosen_directly, chosen_types, chosen_values, Projection, place, projected}
 use Rattle.scan_partition.specs.Split.{name_at, type_at, projected_value, KeepsWhole}
+use Rattle.scan_partition.proofs.StructOverflows.{direct_calm}
 use Rattle.scan_partition.proofs.Through.{Seen}
 use Rattle.scan_partition.proofs.Expanded.{blank, blank-even}
 use Rattle.scan_partition.proofs.Directly.{direct_is}
@@ -160,6 +161,7 @@ module _ (fs : Fields) (e : Expr) (c : Choice) (d : Distinct fs) (found : NamesF
     record {
       dtype = ap (λ (gs : Fields). struct_type gs NonNullable) (types_are fs c there) ∙ sym (ap (λ (x : Seen). x.0) (direct_is fs (blank fs) 0 e c d (blank-even fs) h));
       values = values;
+      overflow = λ v w k r a. sym (direct_calm (struct_type fs NonNullable) v k fs e c h);
     },
   )
 

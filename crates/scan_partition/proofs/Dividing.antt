@@ -1,5 +1,5 @@
 -- The parts and the root of an expression that is not deep are not too deep.
-use Rattle.std.proofs.Common.{◌≡◌, ℕ, ◌+◌, ◌<◌, ◌≤◌, ◌^◌, suc, Bool, true, false, cond, is_some, Some, None, List, [], ◌∷◌, ◌++◌, length, map, refl, ap, sym, subst, ◌∙◌, bytes_eq, arith, lit≤, append_assoc}
+use Rattle.std.proofs.Common.{◌≡◌, ℕ, ◌+◌, ◌<◌, ◌≤◌, ◌^◌, suc, Bool, true, false, cond, is_some, Some, None, List, [], ◌∷◌, ◌++◌, length, map, refl, ap, sym, subst, ◌∙◌, bytes_eq, arith, append_assoc}
 use Rattle.std.specs.Fmt.{decimal}
 use Rattle.scan_values.specs.DataType.{DataType, Fields, field, Name, depth_of, fields_depth}
 use Rattle.scan_values.specs.declared.ptype.Nullability.TheVariants.{NonNullable}
@@ -15,9 +15,9 @@ use Rattle.scan_partition.specs.declared.item.Item.{Item}
 use Rattle.scan_partition.specs.Items.{item_name, same_item, item_of, Use, no_use, one, many, use_of, IsExpanded, AreExpanded}
 use Rattle.scan_partition.specs.Partition.{Reads, Cut, Group, cut_or, cuts, all_cuts, cuts_of, count_item, added, collected, groups_of, found, step_into, step_into_all, numbered, part_of, leaf_of, leaf_or, root_of, roots_of, joined_fields, stepped_type}
 use Rattle.scan_partition.specs.Rewrite.{NodesHold, AllNodesHold}
-use Rattle.scan_partition.specs.Shallow.{NodesWithin, AllNodesWithin}
+use Rattle.scan_partition.specs.Shallow.{NodesWithin, AllNodesWithin, IsPart}
 use Rattle.scan_partition.specs.Rows.{AllPlain}
-use Rattle.scan_partition.specs.Divided.{kept, stepped, type_of_part}
+use Rattle.scan_partition.specs.Divided.{kept, stepped, type_of_part, group_part}
 use Rattle.scan_partition.specs.Dividing.{GroupsFit}
 use Rattle.scan_partition.specs.Items.{AtMost}
 use Rattle.scan_partition.proofs.Through.{through, same_item-sound}
@@ -25,7 +25,8 @@ use Rattle.scan_partition.proofs.Parted.{NotOne, expanded_part, whole, item_seen
 use Rattle.scan_partition.proofs.Grouping.{found_collected}
 use Rattle.scan_partition.proofs.Names.{bytes_eq-refl}
 use Rattle.scan_partition.proofs.Typed.{NodesTyped, AllNodesTyped, ThroughTyped, AllThroughTyped, step_typed}
-use Rattle.scan_partition.proofs.Depths.{top_within, within_fits, ThroughWithin, AllThroughWithin, through_within}
+use Rattle.scan_partition.proofs.Depths.{ThroughWithin, AllThroughWithin, through_within}
+use Rattle.scan_partition.proofs.Part.{shallow_part, part_depth, part_fits, ThroughPart, through_part, pack_through}
 
 -- ---- cuts that are not deep, each of its item alone
 abbrev pub StepOk : Reads → ℕ → Item → Expr → Type 0
@@ -42,7 +43,7 @@ pub all_append : (P : Item → Expr → Type 0) (cs ds : List Cut) → CutsAll P
 all_append P [] ds a b = b
 all_append P (c ∷ cs) ds a b = (a.0, all_append P cs ds a.1 b)
 
-all_by : (P : Item → Expr → Type 0) (w : Use) (e : Expr) (cs : List Cut) → w ≡ use_of e → ((i : Item) → AtMost i (use_of e) → P i e) → (NotOne w → CutsAll P cs) → CutsAll P (cut_or w e cs)
+pub all_by : (P : Item → Expr → Type 0) (w : Use) (e : Expr) (cs : List Cut) → w ≡ use_of e → ((i : Item) → AtMost i (use_of e) → P i e) → (NotOne w → CutsAll P cs) → CutsAll P (cut_or w e cs)
 all_by P no_use e cs u p f = f tt
 all_by P (one i) e cs u p f = (p i (subst (AtMost i) u refl), tt)
 all_by P many e cs u p f = f tt
@@ -59,7 +60,7 @@ mutual
       all_by (StepOk r k) (use_of (binary b x y)) (binary b x y) (cuts x ++ cuts y) refl (λ i a. (p, a, h, g)) (λ _. all_append (StepOk r k) (cuts x) (cuts y) (cuts_step r k x p.0 h.1 g.1) (cuts_step r k y p.1 h.2 g.2))
   cuts_step r k (pack ps n) p h g = all_by (StepOk r k) (use_of (pack ps n)) (pack ps n) (all_cuts ps) refl (λ i a. (p, a, h, g)) (λ _. all_cuts_step r k ps p h.1 g)
 
-  all_cuts_step : (r : Reads) (k : ℕ) (ps : Parts) → AreExpanded ps → AllThroughWithin r k ps → AllThroughTyped r k ps → CutsAll (StepOk r k) (all_cuts ps)
+  pub all_cuts_step : (r : Reads) (k : ℕ) (ps : Parts) → AreExpanded ps → AllThroughWithin r k ps → AllThroughTyped r k ps → CutsAll (StepOk r k) (all_cuts ps)
   all_cuts_step r k no_parts p h g = tt
   all_cuts_step r k (part n e ps) p h g = all_append (StepOk r k) (cuts e) (all_cuts ps) (cuts_step r k e p.0 h.0 g.0) (all_cuts_step r k ps p.1 h.1 g.1)
 
@@ -73,7 +74,7 @@ mutual
       all_by (KeepOk s) (use_of (binary b x y)) (binary b x y) (cuts x ++ cuts y) refl (λ i a. (h, t)) (λ _. all_append (KeepOk s) (cuts x) (cuts y) (cuts_keep s x h.1 t.1) (cuts_keep s y h.2 t.2))
   cuts_keep s (pack ps n) h t = all_by (KeepOk s) (use_of (pack ps n)) (pack ps n) (all_cuts ps) refl (λ i a. (h, t)) (λ _. all_cuts_keep s ps h.1 t)
 
-  all_cuts_keep : (s : DataType) (ps : Parts) → AllNodesWithin 64 s ps → AllNodesTyped s ps → CutsAll (KeepOk s) (all_cuts ps)
+  pub all_cuts_keep : (s : DataType) (ps : Parts) → AllNodesWithin 64 s ps → AllNodesTyped s ps → CutsAll (KeepOk s) (all_cuts ps)
   all_cuts_keep s no_parts h t = tt
   all_cuts_keep s (part n e ps) h t = all_append (KeepOk s) (cuts e) (all_cuts ps) (cuts_keep s e h.0 t.0) (all_cuts_keep s ps h.1 t.1)
 
@@ -115,31 +116,37 @@ abbrev AllWithin : DataType → List Expr → Type 0
 AllWithin d [] = Unit {0}
 AllWithin d (e ∷ es) = (NodesWithin 64 d e × NodesTyped d e) × AllWithin d es
 
-numbered_deep : (d : DataType) (k : ℕ) (es : List Expr) → AllWithin d es → fields_depth (infer_all d (numbered k es)) ≤ 64
-numbered_deep d k [] h = omega arith
-numbered_deep d k (e ∷ es) h = let t : depth_of (infer d e) ≤ 64 = top_within 64 d e (lit≤ tt) h.0.0 in omega (arith, numbered_deep d (k + 1) es h.1)
+numbered_within : (d : DataType) (k : ℕ) (es : List Expr) → AllWithin d es → AllNodesWithin 64 d (numbered k es) × AllNodesTyped d (numbered k es)
+numbered_within d k [] h = (tt, tt)
+numbered_within d k (e ∷ es) h = let t = numbered_within d (k + 1) es h.1 in ((h.0.0, t.0), (h.0.1, t.1))
 
-numbered_fits : (d : DataType) (k : ℕ) (es : List Expr) → AllWithin d es → AllNodesHold d (numbered k es)
-numbered_fits d k [] h = tt
-numbered_fits d k (e ∷ es) h = (within_fits 64 d e (lit≤ tt) h.0.0 h.0.1, numbered_fits d (k + 1) es h.1)
+-- a part over a dtype, each node's conditions held
+abbrev pub IsTypedPart : DataType → Expr → Type 0
+IsTypedPart d e = IsPart d e × NodesTyped d e
 
-part_fits : (d : DataType) (e : Expr) (es : List Expr) → AllWithin d (e ∷ es) → NodesHold d (part_of (e ∷ es)) × (depth_of (infer d (part_of (e ∷ es))) ≤ 65)
-part_fits d e [] h = (within_fits 64 d e (lit≤ tt) h.0.0 h.0.1, omega (arith, top_within 64 d e (lit≤ tt) h.0.0))
-part_fits d e (f ∷ es) h =
-    let deep : fields_depth (infer_all d (numbered 0 (e ∷ f ∷ es))) ≤ 64 = numbered_deep d 0 (e ∷ f ∷ es) h in
-    ((omega arith, numbered_fits d 0 (e ∷ f ∷ es) h), omega arith)
+part_within : (d : DataType) (e : Expr) (es : List Expr) → AllWithin d (e ∷ es) → IsTypedPart d (part_of (e ∷ es))
+part_within d e [] h = (shallow_part d e h.0.0, h.0.1)
+part_within d e (f ∷ es) h = numbered_within d 0 (e ∷ f ∷ es) h
+
+abbrev pub AllParts : (Item → Expr → Bound) → List Group → Type 0
+AllParts b [] = Unit {0}
+AllParts b (g ∷ gs) = IsTypedPart (group_part b g).scope (group_part b g).expr × AllParts b gs
+
+pub parts_fit : (b : Item → Expr → Bound) (gs : List Group) → AllParts b gs → GroupsFit b gs
+parts_fit b [] a = tt
+parts_fit b (g ∷ gs) a = ((part_fits (group_part b g).scope (group_part b g).expr a.0.0 a.0.1, part_depth (group_part b g).scope (group_part b g).expr a.0.0), parts_fit b gs a.1)
 
 kept_within : (s : DataType) (i : Item) (es : List Expr) → AllOf (KeepOk s) i es → AllWithin s es
 kept_within s i [] a = tt
 kept_within s i (e ∷ es) a = (a.0, kept_within s i es a.1)
 
-pub kept_fit : (s : DataType) (gs : List Group) → GroupsAll (KeepOk s) gs → GroupsFit (kept s) gs
-kept_fit s [] a = tt
-kept_fit s (g ∷ gs) a = (go g.1 a.0, kept_fit s gs a.1)
+kept_parts : (s : DataType) (gs : List Group) → GroupsAll (KeepOk s) gs → AllParts (kept s) gs
+kept_parts s [] a = tt
+kept_parts s (g ∷ gs) a = (go g.1 a.0, kept_parts s gs a.1)
   where
-    go : (es : List Expr) → SomeOf (KeepOk s) g.0 es → NodesHold s (part_of es) × (depth_of (infer s (part_of es)) ≤ 65)
+    go : (es : List Expr) → SomeOf (KeepOk s) g.0 es → IsTypedPart s (part_of es)
     go [] b = absurd b
-    go (e ∷ es) b = part_fits s e es (kept_within s g.0 (e ∷ es) b)
+    go (e ∷ es) b = part_within s e es (kept_within s g.0 (e ∷ es) b)
 
 steps_numbered : (k : ℕ) (es : List Expr) → step_into_all (numbered k es) ≡ numbered k (map step_into es)
 steps_numbered k [] = refl
@@ -154,13 +161,58 @@ steps_within : (r : Reads) (k : ℕ) (i : Item) (es : List Expr) → AllOf (Step
 steps_within r k i [] a = tt
 steps_within r k i (e ∷ es) a = ((through_within r k i e a.0.0 a.0.1 a.0.2, step_typed r k i e a.0.0 a.0.1 a.0.3), steps_within r k i es a.1)
 
-step_fits : (r : Reads) (k : ℕ) (i : Item) (es : List Expr) → SomeOf (StepOk r k) i es → NodesHold (r i).0 (step_into (part_of es)) × (depth_of (infer (r i).0 (step_into (part_of es))) ≤ 65)
-step_fits r k i [] a = absurd a
-step_fits r k i (e ∷ es) a = subst (λ x. NodesHold (r i).0 x × (depth_of (infer (r i).0 x) ≤ 65)) (sym (step_part (e ∷ es))) (part_fits (r i).0 (step_into e) (map step_into es) (steps_within r k i (e ∷ es) a))
+step_is_part : (r : Reads) (k : ℕ) (i : Item) (es : List Expr) → SomeOf (StepOk r k) i es → IsTypedPart (r i).0 (step_into (part_of es))
+step_is_part r k i [] a = absurd a
+step_is_part r k i (e ∷ es) a = subst (IsTypedPart (r i).0) (sym (step_part (e ∷ es))) (part_within (r i).0 (step_into e) (map step_into es) (steps_within r k i (e ∷ es) a))
 
-pub stepped_fit : (s : DataType) (w : Item → Marked) (k : ℕ) (gs : List Group) → GroupsAll (StepOk (λ i. ((stepped s i root).scope, w i)) k) gs → GroupsFit (stepped s) gs
-stepped_fit s w k [] a = tt
-stepped_fit s w k (g ∷ gs) a = (step_fits (λ i. ((stepped s i root).scope, w i)) k g.0 g.1 a.0, stepped_fit s w k gs a.1)
+stepped_parts : (s : DataType) (w : Item → Marked) (k : ℕ) (gs : List Group) → GroupsAll (StepOk (λ i. ((stepped s i root).scope, w i)) k) gs → AllParts (stepped s) gs
+stepped_parts s w k [] a = tt
+stepped_parts s w k (g ∷ gs) a = (step_is_part (λ i. ((stepped s i root).scope, w i)) k g.0 g.1 a.0, stepped_parts s w k gs a.1)
+
+-- ---- the parts of a part: a pack at the top is a cut of its own, or its cuts are its parts'
+kept_by : (s : DataType) (e : Expr) → NodesWithin 64 s e → NodesTyped s e → AllParts (kept s) (groups_of (cuts e))
+kept_by s e h t = kept_parts s (groups_of (cuts e)) (collected_all (KeepOk s) [] (cuts e) tt (cuts_keep s e h t))
+
+pub kept_cuts : (s : DataType) (e : Expr) → IsPart s e → NodesTyped s e → AllParts (kept s) (groups_of (cuts e))
+kept_cuts s root h t = tt
+kept_cuts s row_index h t = tt
+kept_cuts s (literal d v) h t = tt
+kept_cuts s (unary u e) h t = kept_by s (unary u e) h t
+kept_cuts s (binary b x y) h t = kept_by s (binary b x y) h t
+kept_cuts s (pack ps n) h t = go (use_of (pack ps n))
+  where
+    below : AllParts (kept s) (groups_of (all_cuts ps))
+    below = kept_parts s (groups_of (all_cuts ps)) (collected_all (KeepOk s) [] (all_cuts ps) tt (all_cuts_keep s ps h t))
+
+    go : (w : Use) → AllParts (kept s) (groups_of (cut_or w (pack ps n) (all_cuts ps)))
+    go no_use = below
+    go (one i) = ((h, t), tt)
+    go many = below
+
+module _ (s : DataType) (w : Item → Marked) (k : ℕ) where
+  abbrev item_reads : Reads
+  item_reads i = ((stepped s i root).scope, w i)
+
+  stepped_by : (e : Expr) → IsExpanded e → ThroughWithin item_reads k e → ThroughTyped item_reads k e → AllParts (stepped s) (groups_of (cuts e))
+  stepped_by e p h t = stepped_parts s w k (groups_of (cuts e)) (collected_all (StepOk item_reads k) [] (cuts e) tt (cuts_step item_reads k e p h t))
+
+  pub stepped_cuts : (e : Expr) → IsExpanded e → ThroughPart item_reads k e → ThroughTyped item_reads k e → AllParts (stepped s) (groups_of (cuts e))
+  stepped_cuts root p h t = tt
+  stepped_cuts row_index p h t = tt
+  stepped_cuts (literal d v) p h t = tt
+  stepped_cuts (unary u e) p h t = stepped_by (unary u e) p h t
+  stepped_cuts (binary b x y) p h t = stepped_by (binary b x y) p h t
+  stepped_cuts (pack ps n) p h t = go (use_of (pack ps n)) refl
+    where
+      below : AllParts (stepped s) (groups_of (all_cuts ps))
+      below = stepped_parts s w k (groups_of (all_cuts ps)) (collected_all (StepOk item_reads k) [] (all_cuts ps) tt (all_cuts_step item_reads k ps p h t))
+
+      go : (x : Use) → use_of (pack ps n) ≡ x → AllParts (stepped s) (groups_of (cut_or x (pack ps n) (all_cuts ps)))
+      go no_use u = below
+      go (one i) u =
+          let a : AtMost i (use_of (pack ps n)) = subst (AtMost i) (sym u) refl in
+          ((through_part item_reads k i (pack ps n) p a h, step_typed item_reads k i (pack ps n) p a t), tt)
+      go many u = below
 
 pub joined_deep : (b : Item → Expr → Bound) (gs : List Group) → GroupsFit b gs → fields_depth (joined_fields (type_of_part b) gs) ≤ 65
 joined_deep b [] a = omega arith
@@ -227,10 +279,10 @@ module _ (r : Reads) (k : ℕ) (all : List Cut) (plain : AllPlain all) (few : le
   or_leaf_holds (one i) e f cs before after h g = leaf_holds i e before after (h ∙ append_assoc before ((i, e) ∷ []) after)
   or_leaf_holds many e f cs before after h g = g tt h
 
-  pack_shallow : (w : Use) (before : List Cut) (f : Expr) (d : DataType) → NotOne w → infer (whole r k all).0 (leaf_or w all before f) ≡ d → depth_of d ≤ 64 → depth_of (infer (whole r k all).0 f) ≤ 66
-  pack_shallow no_use before f d n h l = omega (arith, subst (λ x. depth_of x ≤ 64) (sym h) l)
+  pack_shallow : (w : Use) (before : List Cut) (f : Expr) (d : DataType) → NotOne w → infer (whole r k all).0 (leaf_or w all before f) ≡ d → depth_of d ≤ 65 → depth_of (infer (whole r k all).0 f) ≤ 66
+  pack_shallow no_use before f d n h l = omega (arith, subst (λ x. depth_of x ≤ 65) (sym h) l)
   pack_shallow (one i) before f d n h l = absurd n
-  pack_shallow many before f d n h l = omega (arith, subst (λ x. depth_of x ≤ 64) (sym h) l)
+  pack_shallow many before f d n h l = omega (arith, subst (λ x. depth_of x ≤ 65) (sym h) l)
 
   -- the dtype of a part of the root
   at : (e : Expr) (before after : List Cut) → IsExpanded e → all ≡ (before ++ cuts e) ++ after → infer (whole r k all).0 (root_of all before e) ≡ (through r k e).0
@@ -257,7 +309,7 @@ module _ (r : Reads) (k : ℕ) (all : List Cut) (plain : AllPlain all) (few : le
     root_fits (pack ps n) before after p h w t =
         or_leaf_holds (use_of (pack ps n)) (pack ps n) (pack (roots_of all before ps) n) (all_cuts ps) before after h
         (λ m q. (
-          pack_shallow (use_of (pack ps n)) before (pack (roots_of all before ps) n) (through r k (pack ps n)).0 m (at (pack ps n) before after p h) w.0,
+          pack_shallow (use_of (pack ps n)) before (pack (roots_of all before ps) n) (through r k (pack ps n)).0 m (at (pack ps n) before after p h) (pack_through r k ps n p w.1),
           roots_fit ps before after p q w.1 t,
         ))
 
@@ -265,3 +317,17 @@ module _ (r : Reads) (k : ℕ) (all : List Cut) (plain : AllPlain all) (few : le
     roots_fit no_parts before after p h w t = tt
     roots_fit (part n e ps) before after p h w t =
         (root_fits e before (all_cuts ps ++ after) p.0 (append_first all before (cuts e) (all_cuts ps) after h) w.0 t.0, roots_fit ps (before ++ cuts e) after p.1 (append_second all before (cuts e) (all_cuts ps) after h) w.1 t.1)
+
+  -- of a part
+  pub part_root_fits : (e : Expr) (before after : List Cut) → IsExpanded e → all ≡ (before ++ cuts e) ++ after → ThroughPart r k e → ThroughTyped r k e → NodesHold (whole r k all).0 (root_of all before e)
+  part_root_fits root before after p h w t = absurd p
+  part_root_fits row_index before after p h w t = tt
+  part_root_fits (literal d v) before after p h w t = t
+  part_root_fits (unary u e) before after p h w t = root_fits (unary u e) before after p h w t
+  part_root_fits (binary b x y) before after p h w t = root_fits (binary b x y) before after p h w t
+  part_root_fits (pack ps n) before after p h w t =
+      or_leaf_holds (use_of (pack ps n)) (pack ps n) (pack (roots_of all before ps) n) (all_cuts ps) before after h
+      (λ m q. (
+        pack_shallow (use_of (pack ps n)) before (pack (roots_of all before ps) n) (through r k (pack ps n)).0 m (at (pack ps n) before after p h) (pack_through r k ps n p w),
+        roots_fit ps before after p q w t,
+      ))

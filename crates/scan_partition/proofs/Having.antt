@@ -11,34 +11,17 @@ use Rattle.scan_expr.specs.Expr.{is_root, Expr, root, row_index, literal, unary,
 use Rattle.scan_partition.specs.Expand.{masked, items_of, expanded_fields, expanded_struct_root, null_root, here_root, expand_at, expand, expand_all}
 use Rattle.scan_expr.specs.Needs.{other_names}
 use Rattle.scan_partition.specs.Found.{AllFound, FoundBy, FoundAt, NamesFound, AllNamesFound, NoneReserved}
-use Rattle.scan_partition.specs.Rows.{IsItemOf, IsPlain, AllPlain}
+use Rattle.scan_partition.specs.Had.{IsItemOf, ItemOf, ItemsOf, AllItemsOf}
+use Rattle.scan_partition.specs.Rows.{IsPlain, AllPlain}
 use Rattle.scan_partition.specs.Partition.{Cut, cut_or, cuts, all_cuts}
 use Rattle.scan_expr.specs.declared.op.Unary.{Unary}
 use Rattle.scan_expr.specs.declared.op.Unary.TheVariants.{GetItem, Select, Exclude, Not, IsNull, IsNotNull, ListLength}
 use Rattle.scan_partition.proofs.Names.{bytes_eq-refl}
 use Rattle.scan_partition.proofs.Expanded.{expand-expanded, not_root}
 
-module _ (fs : Fields) (n : Nullability) where
-  abbrev ItemOf : Option Item → Type 0 → Type 0
-  ItemOf None P = P
-  ItemOf (Some i) P = IsItemOf fs n i
-
-  abbrev mutual
-    pub ItemsOf : Expr → Type 0
-    ItemsOf root = Unit {0}
-    ItemsOf row_index = Unit {0}
-    ItemsOf (literal d m) = Unit {0}
-    ItemsOf (unary u e) = ItemOf (item_of u e) (ItemsOf e)
-    ItemsOf (binary b x y) = ItemsOf x × ItemsOf y
-    ItemsOf (pack ps m) = AllItemsOf ps
-
-    pub AllItemsOf : Parts → Type 0
-    AllItemsOf no_parts = Unit {0}
-    AllItemsOf (part m e ps) = ItemsOf e × AllItemsOf ps
-
-  items_found : (ns : List Name) → AllFound fs ns → AllItemsOf (items_of ns)
-  items_found [] h = tt
-  items_found (m ∷ ns) h = (h.0, items_found ns h.1)
+items_found : (fs : Fields) (n : Nullability) (ns : List Name) → AllFound fs ns → AllItemsOf fs n (items_of ns)
+items_found fs n [] h = tt
+items_found fs n (m ∷ ns) h = (h.0, items_found fs n ns h.1)
 
 found_weaken : (fs : Fields) (n m : Name) (d : DataType) → has_name m (field_names fs) ≡ true → has_name m (field_names (field n d fs)) ≡ true
 found_weaken fs n m d h = go (bytes_eq m n)
@@ -127,7 +110,7 @@ mutual
   expand_all-items fs n (part m e ps) h = (expand-items fs n e h.0, expand_all-items fs n ps h.1)
 
 -- ---- the items of cuts
-abbrev UseOf : Fields → Nullability → Use → Type 0
+abbrev pub UseOf : Fields → Nullability → Use → Type 0
 UseOf fs n no_use = Unit {0}
 UseOf fs n (one i) = IsItemOf fs n i
 UseOf fs n many = Unit {0}
@@ -144,7 +127,7 @@ both_of fs n (one i) many p q = tt
 both_of fs n many w p q = tt
 
 mutual
-  use_items : (fs : Fields) (n : Nullability) (e : Expr) → ItemsOf fs n e → UseOf fs n (use_of e)
+  pub use_items : (fs : Fields) (n : Nullability) (e : Expr) → ItemsOf fs n e → UseOf fs n (use_of e)
   use_items fs n root h = tt
   use_items fs n row_index h = tt
   use_items fs n (literal d m) h = tt

@@ -1,6 +1,6 @@
 -- Rows of columns, and the root's value on each.
-use Rattle.std.proofs.Common.{◌≡◌, ℕ, ◌+◌, ◌<◌, ◌≤◌, ◌^◌, zero, suc, Bool, true, ◌&&◌, None, List, [], ◌∷◌, ◌++◌, length, map, zip, get_or, take, drop, set, refl, ap, sym, subst, ◌∙◌, arith, add-one, append_assoc}
-use Rattle.std.specs.List.{range_with_len}
+use Rattle.std.proofs.Common.{◌≡◌, ℕ, ◌+◌, ◌<◌, ◌≤◌, ◌^◌, zero, suc, Bool, true, false, ◌&&◌, ◌||◌, None, List, [], ◌∷◌, ◌++◌, length, map, zip, get_or, take, drop, set, refl, ap, sym, subst, ◌∙◌, arith, add-one, append_assoc}
+use Rattle.std.specs.List.{list_any, range_with_len}
 use Rattle.std.proofs.lemmas.List.{length-map, at_drop_more, drop_more, drop_all, drop-set-lt, take_more_set, map-append, append-nil}
 use Rattle.std.proofs.lemmas.List.FromFn.{map-range_with_len_more}
 use Rattle.scan_values.specs.DataType.{DataType, Name, fields_of}
@@ -13,12 +13,13 @@ use Rattle.scan_values.specs.Fits.{fits, fits_all, fits_fields}
 use Rattle.scan_expr.specs.Bound.{Bound}
 use Rattle.scan_expr.specs.Infer.{infer}
 use Rattle.scan_expr.specs.Eval.{eval}
+use Rattle.scan_expr.specs.Overflow.{overflows}
 use Rattle.scan_expr.specs.Typing.{typing_fault}
 use Rattle.scan_expr.proofs.Evals.{mark}
 use Rattle.scan_expr.proofs.Fitting.{and_left, and_right}
 use Rattle.scan_expr.proofs.Sound.{eval_fits}
 use Rattle.scan_partition.proofs.Loops.{take_whole}
-use Rattle.scan_partition.specs.Joining.{heads, AreAsLong, AreFitting, IsScopeOf, row_at, joined_at}
+use Rattle.scan_partition.specs.Joining.{heads, AreAsLong, AreFitting, IsScopeOf, row_at, joined_at, root_overflows}
 
 -- ---- a row, column by column
 module _ (cs : List (List Val)) (k : ℕ) (c : List Val) (l : k < length cs) (e : c ≡ get_or cs k c) where
@@ -107,3 +108,27 @@ module _ (root : Bound) (xs : List ArrayData) (n : ℕ) (s : IsScopeOf xs root.s
 
   pub joined_fit : fits_all (chained (map (joined_at root xs) (range_with_len 0 n))) (infer root.scope root.expr) ≡ true
   joined_fit = rows_fit 0 n (omega arith)
+
+-- ---- where the root overflows
+none_of : (f : ℕ → Bool) (a n : ℕ) → ((r : ℕ) → r < a + n → f r ≡ false) → list_any f (range_with_len a n) ≡ false
+none_of f a zero h = refl
+none_of f a (suc n) h = λ i. h a (omega arith) i || none_of f (a + 1) n (λ r l. h r (omega arith)) i
+
+or_first : (a b : Bool) → a ≡ true → a || b ≡ true
+or_first a b h = ap (λ c. c || b) h
+
+or_second : (a b : Bool) → b ≡ true → a || b ≡ true
+or_second true b h = refl
+or_second false b h = h
+
+-- the row at distance d from the first
+one_of : (f : ℕ → Bool) (a n d : ℕ) → d < n → f (a + d) ≡ true → list_any f (range_with_len a n) ≡ true
+one_of f a zero d l h = absurd (omega arith)
+one_of f a (suc n) zero l h = or_first (f a) (list_any f (range_with_len (a + 1) n)) (let e : a + 0 ≡ a = omega arith in subst (λ m. f m ≡ true) e h)
+one_of f a (suc n) (suc d) l h = or_second (f a) (list_any f (range_with_len (a + 1) n)) (let e : a + suc d ≡ (a + 1) + d = omega arith in one_of f (a + 1) n d (omega arith) (subst (λ m. f m ≡ true) e h))
+
+pub none_overflows : (root : Bound) (xs : List ArrayData) (n : ℕ) → ((r : ℕ) → r < n → overflows root.scope root.expr (marked (row_at xs r)) r ≡ false) → root_overflows root xs n ≡ false
+none_overflows root xs n h = none_of (λ r. overflows root.scope root.expr (marked (row_at xs r)) r) 0 n (λ r l. h r (omega arith))
+
+pub one_overflows : (root : Bound) (xs : List ArrayData) (n r : ℕ) → r < n → overflows root.scope root.expr (marked (row_at xs r)) r ≡ true → root_overflows root xs n ≡ true
+one_overflows root xs n r l h = let e : r ≡ 0 + r = omega arith in one_of (λ k. overflows root.scope root.expr (marked (row_at xs k)) k) 0 n r l (subst (λ k. overflows root.scope root.expr (marked (row_at xs k)) k ≡ true) e h)

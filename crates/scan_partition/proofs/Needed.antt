@@ -16,7 +16,7 @@ use Rattle.scan_expr.specs.Needs.{other_names, Demand, whole, null_alone, length
 use Rattle.scan_partition.specs.Partition.{step_into, step_into_all, or_root}
 use Rattle.scan_values.specs.Paths.{to_field, to_validity, Path}
 use Rattle.scan_partition.specs.Needing.{item_step}
-use Rattle.scan_partition.specs.Rows.{IsItemOf}
+use Rattle.scan_partition.specs.Had.{IsItemOf}
 use Rattle.scan_partition.proofs.Wants.{IsValidity, IsLeaf, IsFieldLeaf, IsLeafOf, IsLeafOfAny, NeedsNull, NeedsLength, NeedsFields, NeedsAt, Asks, Needs, AnyNeeds}
 use Rattle.scan_expr.specs.declared.op.Unary.{Unary}
 use Rattle.scan_expr.specs.declared.op.Unary.TheVariants.{GetItem, Select, Exclude, Not, IsNull, IsNotNull, ListLength}

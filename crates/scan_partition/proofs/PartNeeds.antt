@@ -14,12 +14,14 @@ use Rattle.scan_partition.specs.Direct.{Choice, chosen_directly, projected}
 use Rattle.scan_partition.specs.Expand.{expand}
 use Rattle.scan_partition.specs.Partition.{Cut, Group, cut_or, cuts, all_cuts, groups_of, numbered, part_of, step_into, step_into_all}
 use Rattle.scan_partition.specs.Divided.{group_part, kept, stepped}
-use Rattle.scan_partition.specs.Rows.{Distinct, IsItemOf, item_type}
+use Rattle.scan_partition.specs.Rows.{Distinct, item_type}
+use Rattle.scan_partition.specs.Had.{IsItemOf}
 use Rattle.scan_partition.specs.Found.{NamesFound}
 use Rattle.scan_partition.specs.Split.{split, split_by, split_by_items, direct_or}
 use Rattle.scan_partition.specs.Needing.{item_step, item_path, LiesUnder, EachLiesUnder, SplitNeedsNoMore, PartsNeedNoMore, KeptPartsNeedNoMore}
 use Rattle.scan_partition.proofs.Parted.{NotOne, expanded_part}
 use Rattle.scan_partition.proofs.Expanded.{expand-expanded}
+use Rattle.scan_partition.proofs.Partable.{partable_over}
 use Rattle.scan_partition.proofs.Having.{CutsOf, cuts_items, expand-items}
 use Rattle.scan_partition.proofs.Uses.{cuts_of_one}
 use Rattle.scan_partition.proofs.Dividing.{CutsAll, all_append, AllOf, SomeOf, GroupsAll, collected_all}
@@ -151,7 +153,7 @@ module _ (fs : Fields) (n : Nullability) (e : Expr) where
         go (Some c) h = direct_needs c h
 
 pub parts_need : PartsNeedNoMore
-parts_need b o = subst (λ (t : DataType). SplitNeedsNoMore (bound_of t b.expr) (split t b.expr)) o.structure (all_lie (struct_fields b.scope) (nullability_of b.scope) b.expr o.distinct o.found)
+parts_need b p st = let o = partable_over b p st in subst (λ (t : DataType). SplitNeedsNoMore (bound_of t b.expr) (split t b.expr)) st (all_lie (struct_fields b.scope) (nullability_of b.scope) b.expr o.distinct o.found)
 
 -- ---- parts that are kept
 -- over any scope, what is needed is named

@@ -1,28 +1,11 @@
 -- The places of the fields that an expression chooses.
-use Rattle.std.proofs.Common.{◌≡◌, ℕ, ◌+◌, ◌<◌, ◌≤◌, Bool, true, false, cond, not, nat_lt, List, [], ◌∷◌, ◌++◌, length, map, get_or, drop, Option, Some, None, refl, ap, sym, ◌∙◌, arith, append_assoc, bytes_eq}
-use Rattle.std.specs.Prelude.{option_map, unwrap_or}
-use Rattle.std.specs.List.{position, position_or_len}
-use Rattle.std.proofs.lemmas.Bool.{ltb-false}
-use Rattle.std.proofs.lemmas.List.{length-map, append-nil, at_drop_more, drop_all}
-use Rattle.std.proofs.lemmas.List.Sums.{prefix_len-le-length}
-use Rattle.scan_values.specs.DataType.{DataType, Name, Fields, fields_of}
-use Rattle.scan_values.specs.FieldLists.{names_of}
+use Rattle.std.proofs.Common.{◌≡◌, ℕ, ◌+◌, ◌<◌, ◌≤◌, List, [], ◌∷◌, ◌++◌, length, map, get_or, drop, Option, Some, None, refl, ap, sym, ◌∙◌, arith, append_assoc}
+use Rattle.std.specs.Prelude.{option_map}
+use Rattle.std.proofs.lemmas.List.{append-nil, at_drop_more, drop_all}
+use Rattle.scan_values.specs.DataType.{Name, Fields}
 use Rattle.scan_expr.specs.Bound.{Bound, exprs_of}
 use Rattle.scan_expr.specs.Expr.{Expr, parts_of}
 use Rattle.scan_partition.specs.Direct.{Choice, same_names, chose, field_of, direct_parts, Projection, place, projected, before_all, read_places}
-use Rattle.scan_partition.proofs.FieldParts.{names_are}
-
--- ---- one place
-unwrapped : {X : Type 0} (p : X → Bool) (xs : List X) → unwrap_or (position p xs) (length xs) ≡ position_or_len p xs
-unwrapped p xs = go (nat_lt (position_or_len p xs) (length xs)) (λ h. let l = prefix_len-le-length (λ x. not (p x)) xs in omega (arith, ltb-false _ _ h))
-  where
-    go : (b : Bool) → (b ≡ false → length xs ≡ position_or_len p xs) → unwrap_or (cond b (Some (position_or_len p xs)) None) (length xs) ≡ position_or_len p xs
-    go true h = refl
-    go false h = h refl
-
-pub place_found : (n : Name) (fs : List (Name × DataType)) (o : Option ℕ) (k r : ℕ) → o ≡ position (bytes_eq n) (names_of fs) → k ≡ length fs → r ≡ unwrap_or o k → r ≡ place (fields_of fs) n
-place_found n fs o k r h l e =
-    e ∙ (λ i. unwrap_or (h i) ((l ∙ sym (length-map fs (λ (f : Name × DataType). f.0))) i)) ∙ unwrapped (bytes_eq n) (names_of fs) ∙ ap (position_or_len (bytes_eq n)) (sym (names_are fs))
 
 -- ---- under their own names
 own_names : (ns : List Name) → map (λ (x : Name × Name). x.0) (same_names ns) ≡ ns

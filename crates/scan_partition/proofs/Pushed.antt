@@ -4,7 +4,7 @@ use Rattle.scan_values.specs.DataType.{DataType, bool_type, int_type, utf8_type,
 use Rattle.scan_values.specs.declared.ptype.Nullability.{Nullability}
 use Rattle.scan_values.specs.declared.ptype.Nullability.TheVariants.{NonNullable, Nullable}
 use Rattle.scan_values.specs.FieldLists.{dtype_named}
-use Rattle.scan_expr.specs.Infer.{type_or_bool, field_type, struct_fields, either, infer_all, chosen, without, unary_type, binary_type}
+use Rattle.scan_expr.specs.Infer.{type_or_bool, field_type, struct_fields, either, infer_all, chosen, without, unary_type, sum_type, ptype_or_u64, binary_type}
 use Rattle.scan_values.specs.NameFaults.{field_names, has_name}
 use Rattle.scan_values.specs.declared.ptype.PType.TheVariants.{U64}
 use Rattle.scan_values.specs.Marked.{Marked, lost, null, boolean, struct, Markeds, none, more}
@@ -15,7 +15,8 @@ use Rattle.scan_expr.specs.Needs.{other_names}
 use Rattle.scan_expr.specs.declared.op.Unary.{Unary}
 use Rattle.scan_expr.specs.declared.op.Unary.TheVariants.{GetItem, Select, Exclude, Not, IsNull, IsNotNull, ListLength}
 use Rattle.scan_expr.specs.declared.op.Binary.{Binary}
-use Rattle.scan_expr.specs.declared.op.Binary.TheVariants.{Mask}
+use Rattle.scan_expr.specs.declared.op.Binary.TheVariants.{Mask, And, Or, Equal, NotEqual, Less, LessOrEqual, Greater, GreaterOrEqual, CheckedAdd, CheckedSub}
+use Rattle.scan_values.specs.Kinds.{ptype_of}
 use Rattle.scan_partition.proofs.Through.{Seen, SeenAll, seen, seen_all, seen_unary, seen_binary, seen_pack, seen_part}
 use Rattle.scan_partition.proofs.Parted.{with_own}
 use Rattle.scan_partition.specs.Rows.{Distinct, IsRow}
@@ -106,6 +107,14 @@ nullability_of-nulled (int_type p n) = refl
 nullability_of-nulled (utf8_type n) = refl
 nullability_of-nulled (list_type d n) = refl
 nullability_of-nulled (struct_type fs n) = refl
+
+ptype_of-pushed : (d : DataType) → ptype_of (pushed d) ≡ ptype_of d
+ptype_of-pushed (bool_type n) = refl
+ptype_of-pushed (int_type p n) = refl
+ptype_of-pushed (utf8_type n) = refl
+ptype_of-pushed (list_type d n) = refl
+ptype_of-pushed (struct_type fs NonNullable) = refl
+ptype_of-pushed (struct_type fs Nullable) = refl
 
 field_type-pushed : (n : Name) (fs : Fields) → field_type n (pushed_all fs) ≡ pushed (field_type n fs)
 field_type-pushed n no_fields = refl
@@ -278,6 +287,12 @@ like_unary u x y h = record {
 like_null : (x y : Seen) → Like x y → nullability_of x.0 ≡ nullability_of y.0
 like_null x y h = sym (nullability_of-pushed x.0) ∙ ap nullability_of h.dtype ∙ nullability_of-pushed y.0
 
+pub like_ptype : (x y : Seen) → Like x y → ptype_of x.0 ≡ ptype_of y.0
+like_ptype x y h = sym (ptype_of-pushed x.0) ∙ ap ptype_of h.dtype ∙ ptype_of-pushed y.0
+
+pub like_sum : (x y z w : Seen) → Like x y → Like z w → sum_type x.0 z.0 ≡ sum_type y.0 w.0
+like_sum x y z w h g = λ i. int_type (ptype_or_u64 (like_ptype x y h i)) (either (like_null x y h i) (like_null z w g i))
+
 mask_type_like : (x y : Seen) → Like x y → pushed (with_nullability Nullable x.0) ≡ pushed (with_nullability Nullable y.0)
 mask_type_like x y h = pushed-null x.0 ∙ sym (nulled-pushed x.0) ∙ ap nulled h.dtype ∙ nulled-pushed y.0 ∙ sym (pushed-null y.0)
 
@@ -290,13 +305,34 @@ like_binary b x y z w h g = record {
     logic : bool_type (either (nullability_of x.0) (nullability_of z.0)) ≡ bool_type (either (nullability_of y.0) (nullability_of w.0))
     logic = λ i. bool_type (either (like_null x y h i) (like_null z w g i))
 
+    sums : sum_type x.0 z.0 ≡ sum_type y.0 w.0
+    sums = like_sum x y z w h g
+
     type_like : (b : Binary) → pushed (binary_type b x.0 z.0) ≡ pushed (binary_type b y.0 w.0)
     type_like Mask = mask_type_like x y h
-    type_like _ = logic
+    type_like And = logic
+    type_like Or = logic
+    type_like Equal = logic
+    type_like NotEqual = logic
+    type_like Less = logic
+    type_like LessOrEqual = logic
+    type_like Greater = logic
+    type_like GreaterOrEqual = logic
+    type_like CheckedAdd = sums
+    type_like CheckedSub = sums
 
     value_like : (b : Binary) → binary_value b (binary_type b x.0 z.0) x.1 z.1 ≡ binary_value b (binary_type b y.0 w.0) y.1 w.1
     value_like Mask = λ i. mask_value (h.value i) (g.value i)
-    value_like c = λ i. binary_value c (logic i) (h.value i) (g.value i)
+    value_like And = λ i. binary_value And (logic i) (h.value i) (g.value i)
+    value_like Or = λ i. binary_value Or (logic i) (h.value i) (g.value i)
+    value_like Equal = λ i. binary_value Equal (logic i) (h.value i) (g.value i)
+    value_like NotEqual = λ i. binary_value NotEqual (logic i) (h.value i) (g.value i)
+    value_like Less = λ i. binary_value Less (logic i) (h.value i) (g.value i)
+    value_like LessOrEqual = λ i. binary_value LessOrEqual (logic i) (h.value i) (g.value i)
+    value_like Greater = λ i. binary_value Greater (logic i) (h.value i) (g.value i)
+    value_like GreaterOrEqual = λ i. binary_value GreaterOrEqual (logic i) (h.value i) (g.value i)
+    value_like CheckedAdd = λ i. binary_value CheckedAdd (sums i) (h.value i) (g.value i)
+    value_like CheckedSub = λ i. binary_value CheckedSub (sums i) (h.value i) (g.value i)
 
 like_pack : (n : Nullability) (x y : SeenAll) → LikeAll x y → Like (seen_pack n x) (seen_pack n y)
 like_pack n x y h = record { dtype = go n; value = ap struct h.values }

@@ -18,7 +18,7 @@ use Rattle.scan_partition.proofs.Lifted.{lift-expanded}
 use Rattle.scan_partition.proofs.Expanded.{not_root}
 use Rattle.scan_partition.proofs.Dividing.{CutsAll, SomeOf, AllOf, GroupsAll, collected_all}
 
-neither : (a b : Bool) → a ≡ false → b ≡ false → a || b ≡ false
+pub neither : (a b : Bool) → a ≡ false → b ≡ false → a || b ≡ false
 neither a b h k = ap (λ c. c || b) h ∙ k
 
 -- ---- without a row's number
@@ -48,7 +48,7 @@ mutual
   all_number_free no_parts = refl
   all_number_free (part n e ps) = neither (uses_row_index (over_number e)) (any_uses_row_index (all_over_number ps)) (number_free e) (all_number_free ps)
 
-split : (a b : Bool) → a || b ≡ false → (a ≡ false) × (b ≡ false)
+pub split : (a b : Bool) → a || b ≡ false → (a ≡ false) × (b ≡ false)
 split true b h = ((cc), (cc))
 split false b h = (refl, h)
 
@@ -80,7 +80,7 @@ or_leaf_free (one i) all before e h = leaf_free (cuts_of i all) i (count_item i 
 or_leaf_free many all before e h = h
 
 mutual
-  root_free : (all before : List Cut) (e : Expr) → uses_row_index e ≡ false → uses_row_index (root_of all before e) ≡ false
+  pub root_free : (all before : List Cut) (e : Expr) → uses_row_index e ≡ false → uses_row_index (root_of all before e) ≡ false
   root_free all before root h = refl
   root_free all before row_index h = h
   root_free all before (literal d m) h = refl

@@ -9,12 +9,10 @@ use Rattle.scan_expr.specs.Bound.{Bound, bound_of}
 use Rattle.scan_expr.specs.Infer.{struct_fields, unary_type, binary_type, infer, infer_all}
 use Rattle.scan_expr.specs.Eval.{eval}
 use Rattle.scan_expr.specs.Typing.{typing_fault, unary_fault, binary_fault}
-use Rattle.scan_expr.specs.Expr.{is_root, Expr, root, row_index, literal, unary, binary, pack, Parts, no_parts, part, uses_row_index}
-use Rattle.scan_expr.proofs.Clean.{any_row}
+use Rattle.scan_expr.specs.Expr.{is_root, Expr, root, row_index, literal, unary, binary, pack, Parts, no_parts, part}
 use Rattle.scan_partition.specs.declared.item.Item.{Item}
 use Rattle.scan_partition.specs.declared.rewrite.Rewriting.TheVariants.{Number, Lift}
 use Rattle.scan_partition.specs.declared.row_idx.Partition.{Partition}
-use Rattle.scan_partition.specs.declared.row_idx.Partitioning.TheVariants.{RowIdx, Child, Both}
 use Rattle.scan_partition.specs.Items.{item_of, ItemOr}
 use Rattle.scan_partition.specs.Lift.{lift, lift_all}
 use Rattle.scan_partition.specs.Partition.{Reads, Group, cuts, groups_of, part_of, root_of, joined_values, joined_type, stepped_type, stepped_value, step_into}
@@ -22,18 +20,19 @@ use Rattle.scan_partition.specs.Rewrite.{rewritten, all_rewritten, or_kept, Node
 use Rattle.scan_partition.specs.Rewritings.{rules_of}
 use Rattle.scan_partition.specs.Rows.{item_type, AllPlain}
 use Rattle.scan_partition.specs.Found.{NamesFound, AllNamesFound, FoundAt, FoundBy}
-use Rattle.scan_partition.specs.Shallow.{NodesWithin, AllNodesWithin}
+use Rattle.scan_partition.specs.Shallow.{NodesWithin, AllNodesWithin, IsPart}
 use Rattle.scan_partition.specs.Divided.{Divided, divided, stepped, type_of_part, group_part}
 use Rattle.scan_partition.specs.Dividing.{GroupsFit}
 use Rattle.scan_partition.specs.RowDivided.{uses_root, any_uses_root, number_type, over_number, all_over_number, numbered_scope, partition_of, RowDivided, by_partitions, row_divided}
-use Rattle.scan_partition.specs.RowSplit.{IsOverRows, read_value, row_values, KeepsRows}
+use Rattle.scan_partition.specs.RowSplit.{IsOverRows, read_value, row_values}
 use Rattle.scan_partition.proofs.Through.{Seen, seen, seen_all, seen_unary, seen_pack, same_binary, same_part, through, through_all}
 use Rattle.scan_partition.proofs.Lifted.{lift-expanded}
 use Rattle.scan_partition.proofs.Expanded.{not_root, through-under}
 use Rattle.scan_partition.proofs.Parted.{with_own, partition_seen}
 use Rattle.scan_partition.proofs.Keeping.{plain_cuts}
-use Rattle.scan_partition.proofs.Depths.{within_fits, ThroughWithin, AllThroughWithin}
-use Rattle.scan_partition.proofs.Dividing.{StepOk, cuts_step, collected_all, stepped_fit, root_fits}
+use Rattle.scan_partition.proofs.Depths.{ThroughWithin, AllThroughWithin}
+use Rattle.scan_partition.proofs.Part.{shallow_part, part_depth, part_fits, ThroughPart}
+use Rattle.scan_partition.proofs.Dividing.{AllParts, stepped_cuts, parts_fit, part_root_fits}
 use Rattle.scan_partition.proofs.Typed.{NodesTyped, AllNodesTyped, ThroughTyped, AllThroughTyped, typed_nodes}
 
 -- ---- by rewriting
@@ -68,13 +67,13 @@ mutual
   all_lifts s (part n e ps) = λ i. part n (lifts s e i) (all_lifts s ps i)
 
 -- ---- over the row's number
-neither : (a b : Bool) → a || b ≡ false → (a ≡ false) × (b ≡ false)
+pub neither : (a b : Bool) → a || b ≡ false → (a ≡ false) × (b ≡ false)
 neither true b h = ((cc), (cc))
 neither false b h = (refl, h)
 
 module _ (s : DataType) (v : Marked) (k j : ℕ) where
   mutual
-    number_seen : (e : Expr) → uses_root e ≡ false → seen number_type (integer (pos k)) j (over_number e) ≡ seen s v k e
+    pub number_seen : (e : Expr) → uses_root e ≡ false → seen number_type (integer (pos k)) j (over_number e) ≡ seen s v k e
     number_seen root h = cc
     number_seen row_index h = refl
     number_seen (literal d m) h = refl
@@ -87,7 +86,7 @@ module _ (s : DataType) (v : Marked) (k j : ℕ) where
     all_number_seen (part n e ps) h = let a = neither (uses_root e) (any_uses_root ps) h in same_part n _ _ _ _ (number_seen e a.0) (all_number_seen ps a.1)
 
 module _ (s : DataType) where
-  number_infers : (e : Expr) → uses_root e ≡ false → infer number_type (over_number e) ≡ infer s e
+  pub number_infers : (e : Expr) → uses_root e ≡ false → infer number_type (over_number e) ≡ infer s e
   number_infers e h = ap (λ (x : Seen). x.0) (number_seen s null 0 0 e h)
 
   number_depth : (e : Expr) → uses_root e ≡ false → depth_of (infer s e) ≤ 64 → depth_of (infer number_type (over_number e)) ≤ 64
@@ -106,8 +105,19 @@ module _ (s : DataType) where
     all_number_within no_parts h w = tt
     all_number_within (part n e ps) h w = let a = neither (uses_root e) (any_uses_root ps) h in (number_within e a.0 w.0, all_number_within ps a.1 w.1)
 
+  number_shallow : (e : Expr) → uses_root e ≡ false → NodesWithin 64 s e → IsPart number_type (over_number e)
+  number_shallow e h w = shallow_part number_type (over_number e) (number_within e h w)
+
+  pub number_part : (e : Expr) → uses_root e ≡ false → IsPart s e → IsPart number_type (over_number e)
+  number_part root h w = number_shallow root h w
+  number_part row_index h w = number_shallow row_index h w
+  number_part (literal d m) h w = w
+  number_part (unary u e) h w = number_shallow (unary u e) h w
+  number_part (binary b x y) h w = number_shallow (binary b x y) h w
+  number_part (pack ps n) h w = all_number_within ps h w
+
   mutual
-    number_typed : (e : Expr) → uses_root e ≡ false → NodesTyped s e → NodesTyped number_type (over_number e)
+    pub number_typed : (e : Expr) → uses_root e ≡ false → NodesTyped s e → NodesTyped number_type (over_number e)
     number_typed root h t = tt
     number_typed row_index h t = tt
     number_typed (literal d m) h t = t
@@ -145,8 +155,8 @@ module _ (s : DataType) where
     lift_all_infers no_parts = refl
     lift_all_infers (part n e ps) = λ i. field n (lift_infers e i) (lift_all_infers ps i)
 
-  pack_depth : (ps : Parts) (n : Nullability) → depth_of (infer s (pack ps n)) ≤ 64 → depth_of (infer (numbered_scope s) (lift (pack ps n))) ≤ 66
-  pack_depth ps n w = let h : depth_of (infer (numbered_scope s) (lift (pack ps n))) ≤ 64 = subst (λ (d : DataType). depth_of d ≤ 64) (sym (lift_infers (pack ps n))) w in omega arith
+  pack_depth : (ps : Parts) (n : Nullability) → AllNodesWithin 64 s ps → depth_of (infer (numbered_scope s) (lift (pack ps n))) ≤ 66
+  pack_depth ps n w = let h : depth_of (infer (numbered_scope s) (lift (pack ps n))) ≤ 65 = subst (λ (d : DataType). depth_of d ≤ 65) (sym (lift_infers (pack ps n))) (part_depth s (pack ps n) w) in omega arith
 
   mutual
     lift_holds : (e : Expr) → NodesWithin 64 s e → NodesTyped s e → NodesHold (numbered_scope s) (lift e)
@@ -155,11 +165,19 @@ module _ (s : DataType) where
     lift_holds (literal d m) w t = t
     lift_holds (unary u e) w t = (ap (unary_fault u) (lift_infers e) ∙ t.0, lift_holds e w.1 t.1)
     lift_holds (binary b x y) w t = ((λ i. binary_fault b (lift_infers x i) (lift_infers y i)) ∙ t.0, lift_holds x w.1 t.1, lift_holds y w.2 t.2)
-    lift_holds (pack ps n) w t = (pack_depth ps n w.0, lift_all_hold ps w.1 t)
+    lift_holds (pack ps n) w t = (pack_depth ps n w.1, lift_all_hold ps w.1 t)
 
     lift_all_hold : (ps : Parts) → AllNodesWithin 64 s ps → AllNodesTyped s ps → AllNodesHold (numbered_scope s) (lift_all ps)
     lift_all_hold no_parts w t = tt
     lift_all_hold (part n e ps) w t = (lift_holds e w.0 t.0, lift_all_hold ps w.1 t.1)
+
+  lift_part_holds : (e : Expr) → IsPart s e → NodesTyped s e → NodesHold (numbered_scope s) (lift e)
+  lift_part_holds root w t = lift_holds root w t
+  lift_part_holds row_index w t = lift_holds row_index w t
+  lift_part_holds (literal d m) w t = lift_holds (literal d m) w t
+  lift_part_holds (unary u e) w t = lift_holds (unary u e) w t
+  lift_part_holds (binary b x y) w t = lift_holds (binary b x y) w t
+  lift_part_holds (pack ps n) w t = (pack_depth ps n w, lift_all_hold ps w t)
 
   mutual
     lift_found : (e : Expr) → NamesFound (struct_fields (numbered_scope s)) (lift e)
@@ -174,7 +192,7 @@ module _ (s : DataType) where
     lift_all_found no_parts = tt
     lift_all_found (part n e ps) = (lift_found e, lift_all_found ps)
 
-  lift_plain : (e : Expr) → AllPlain (cuts (lift e))
+  pub lift_plain : (e : Expr) → AllPlain (cuts (lift e))
   lift_plain e = plain_cuts (struct_fields (numbered_scope s)) (lift e) refl (lift_found e)
 
 module _ (s : DataType) (v : Marked) (k j : ℕ) where
@@ -182,7 +200,7 @@ module _ (s : DataType) (v : Marked) (k j : ℕ) where
   row_reads i = (item_type (struct_fields (numbered_scope s)) i, read_value v k (partition_of i))
 
   mutual
-    lift_through : (e : Expr) → through row_reads j (lift e) ≡ seen s v k e
+    pub lift_through : (e : Expr) → through row_reads j (lift e) ≡ seen s v k e
     lift_through root = refl
     lift_through row_index = refl
     lift_through (literal d m) = refl
@@ -210,6 +228,15 @@ module _ (s : DataType) (v : Marked) (k j : ℕ) where
     lift_all_within no_parts w = tt
     lift_all_within (part n e ps) w = (lift_within e w.0, lift_all_within ps w.1)
 
+  -- what `lift` gives is never `$`, and a pack where a pack was
+  lift_part : (e : Expr) → IsPart s e → ThroughPart row_reads j (lift e)
+  lift_part root w = lift_within root w
+  lift_part row_index w = lift_within row_index w
+  lift_part (literal d m) w = lift_within (literal d m) w
+  lift_part (unary u e) w = lift_within (unary u e) w
+  lift_part (binary b x y) w = lift_within (binary b x y) w
+  lift_part (pack ps n) w = lift_all_within ps w
+
   mutual
     lift_typed : (e : Expr) → NodesTyped s e → ThroughTyped row_reads j (lift e)
     lift_typed root t = tt
@@ -223,12 +250,12 @@ module _ (s : DataType) (v : Marked) (k j : ℕ) where
     lift_all_typed no_parts t = tt
     lift_all_typed (part n e ps) t = (lift_typed e t.0, lift_all_typed ps t.1)
 
-  rows_joined : (gs : List Group) → row_values v k j (map partition_of (map (λ (g : Group). g.0) gs)) (map (group_part (stepped (numbered_scope s))) gs)
+  pub rows_joined : (gs : List Group) → row_values v k j (map partition_of (map (λ (g : Group). g.0) gs)) (map (group_part (stepped (numbered_scope s))) gs)
       ≡ joined_values (stepped_value (item_type (struct_fields (numbered_scope s))) (λ i. read_value v k (partition_of i)) j) gs
   rows_joined [] = refl
   rows_joined (g ∷ gs) = ap (more (eval (item_type (struct_fields (numbered_scope s)) g.0) (step_into (part_of g.1)) (read_value v k (partition_of g.0)) j)) (rows_joined gs)
 
-  both_seen : (e : Expr) → length (cuts (lift e)) < 2 ^ 64
+  pub both_seen : (e : Expr) → length (cuts (lift e)) < 2 ^ 64
       → seen (joined_type (stepped_type (item_type (struct_fields (numbered_scope s)))) (cuts (lift e))) (struct (joined_values (stepped_value (item_type (struct_fields (numbered_scope s))) (λ i. read_value v k (partition_of i)) j) (groups_of (cuts (lift e))))) j (root_of (cuts (lift e)) [] (lift e)) ≡ seen s v k e
   both_seen e few = partition_seen row_reads j (lift e) (lift-expanded e) (lift_plain s e) few ∙ lift_through e
 
@@ -237,46 +264,27 @@ module _ (b : Bound) (o : IsOverRows b) (typed : typing_fault b.scope b.expr ≡
   nodes : NodesTyped b.scope b.expr
   nodes = typed_nodes b.scope b.expr typed
 
-  within : ThroughWithin (row_reads b.scope null 0 0) 0 (lift b.expr)
-  within = lift_within b.scope null 0 0 b.expr o.nodes
+  within : ThroughPart (row_reads b.scope null 0 0) 0 (lift b.expr)
+  within = lift_part b.scope null 0 0 b.expr o.nodes
 
   through_nodes : ThroughTyped (row_reads b.scope null 0 0) 0 (lift b.expr)
   through_nodes = lift_typed b.scope null 0 0 b.expr nodes
 
   pub number_fits : uses_root b.expr ≡ false → NodesHold number_type (over_number b.expr)
-  number_fits h = within_fits 64 number_type (over_number b.expr) (lit≤ tt) (number_within b.scope b.expr h o.nodes) (number_typed b.scope b.expr h nodes)
+  number_fits h = part_fits number_type (over_number b.expr) (number_part b.scope b.expr h o.nodes) (number_typed b.scope b.expr h nodes)
 
   pub lift_fits : NodesHold (numbered_scope b.scope) (lift b.expr)
-  lift_fits = lift_holds b.scope b.expr o.nodes nodes
+  lift_fits = lift_part_holds b.scope b.expr o.nodes nodes
+
+  pub row_parts_are : AllParts (stepped (numbered_scope b.scope)) (groups_of (cuts (lift b.expr)))
+  row_parts_are = stepped_cuts (numbered_scope b.scope) (λ i. read_value null 0 (partition_of i)) 0 (lift b.expr) (lift-expanded b.expr) within through_nodes
 
   pub row_parts_fit : GroupsFit (stepped (numbered_scope b.scope)) (groups_of (cuts (lift b.expr)))
-  row_parts_fit =
-      stepped_fit (numbered_scope b.scope) (λ i. read_value null 0 (partition_of i)) 0 (groups_of (cuts (lift b.expr)))
-      (collected_all (StepOk (row_reads b.scope null 0 0) 0) [] (cuts (lift b.expr)) tt (cuts_step (row_reads b.scope null 0 0) 0 (lift b.expr) (lift-expanded b.expr) within through_nodes))
+  row_parts_fit = parts_fit (stepped (numbered_scope b.scope)) (groups_of (cuts (lift b.expr))) row_parts_are
 
   pub row_root_fits : length (cuts (lift b.expr)) < 2 ^ 64 → NodesHold (joined_type (type_of_part (stepped (numbered_scope b.scope))) (cuts (lift b.expr))) (root_of (cuts (lift b.expr)) [] (lift b.expr))
   row_root_fits few =
-      root_fits (row_reads b.scope null 0 0) 0 (cuts (lift b.expr)) (lift_plain b.scope b.expr) few (lift b.expr) [] [] (lift-expanded b.expr) (sym (append-nil (cuts (lift b.expr)))) within through_nodes
-
-pub number_keeps : (b : Bound) → uses_root b.expr ≡ false → KeepsRows b (RowIdx (bound_of number_type (over_number b.expr)))
-number_keeps b h = record {
-  dtype = number_infers b.scope b.expr h;
-  values = λ v k j. ap (λ (x : Seen). x.1) (number_seen b.scope v k j b.expr h);
-}
-
-pub child_keeps : (b : Bound) → uses_row_index b.expr ≡ false → KeepsRows b (Child (bound_of b.scope b.expr))
-child_keeps b h = record {
-  dtype = refl;
-  values = λ v k j. any_row b.scope b.expr v j k h;
-}
-
-pub both_keeps : (b : Bound) → length (cuts (lift b.expr)) < 2 ^ 64 → KeepsRows b (Both (row_divided b.scope b.expr))
-both_keeps b few = record {
-  dtype = ap (λ (x : Seen). x.0) (both_seen b.scope null 0 0 b.expr few);
-  values = λ v k j.
-      ap (λ ms. eval (joined_type (stepped_type (item_type (struct_fields (numbered_scope b.scope)))) (cuts (lift b.expr))) (root_of (cuts (lift b.expr)) [] (lift b.expr)) (struct ms) j) (rows_joined b.scope v k j (groups_of (cuts (lift b.expr))))
-      ∙ ap (λ (x : Seen). x.1) (both_seen b.scope v k j b.expr few);
-}
+      part_root_fits (row_reads b.scope null 0 0) 0 (cuts (lift b.expr)) (lift_plain b.scope b.expr) few (lift b.expr) [] [] (lift-expanded b.expr) (sym (append-nil (cuts (lift b.expr)))) within through_nodes
 
 -- ---- what a contract sees of them
 abbrev pub rows_of : List Partition → Divided → RowDivided

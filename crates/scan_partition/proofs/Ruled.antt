@@ -1,10 +1,11 @@
 -- Each rewriting by its rules.
-use Rattle.std.proofs.Common.{◌≡◌, ◌≤◌, ℕ, Bool, true, false, cond, Some, None, List, [], ◌∷◌, refl, ap, sym, ◌∙◌}
-use Rattle.scan_values.specs.DataType.{DataType, struct_type, Fields, depth_of}
+use Rattle.std.proofs.Common.{◌≡◌, ◌≤◌, Bool, true, false, cond, ◌||◌, max, Some, None, List, [], ◌∷◌, refl, ap, ◌∙◌, bytes_eq, arith}
+use Rattle.scan_values.specs.DataType.{DataType, struct_type, Fields, no_fields, field, Name, depth_of, fields_depth}
+use Rattle.scan_values.specs.FieldLists.{dtype_named}
 use Rattle.scan_values.specs.declared.ptype.Nullability.{Nullability}
 use Rattle.scan_values.specs.declared.ptype.Nullability.TheVariants.{NonNullable, Nullable}
-use Rattle.scan_values.specs.NameFaults.{field_names}
-use Rattle.scan_expr.specs.Infer.{infer}
+use Rattle.scan_values.specs.NameFaults.{field_names, has_name}
+use Rattle.scan_expr.specs.Infer.{infer, infer_all, field_type, type_or_bool}
 use Rattle.scan_expr.specs.declared.op.Unary.{Unary}
 use Rattle.scan_expr.specs.declared.op.Unary.TheVariants.{GetItem, Select, Exclude, Not, IsNull, IsNotNull, ListLength}
 use Rattle.scan_expr.specs.Expr.{is_root, Expr, root, row_index, literal, unary, binary, pack, Parts, no_parts, part}
@@ -13,8 +14,7 @@ use Rattle.scan_partition.specs.Expand.{masked, items_of, expanded_struct_root, 
 use Rattle.scan_partition.specs.Lists.{at_validity, rewrite_validity, rewrite_validity_all, at_offsets, rewrite_offsets, rewrite_offsets_all}
 use Rattle.scan_partition.specs.Rewrite.{rewritten, all_rewritten, or_kept, NodesHold, AllNodesHold}
 use Rattle.scan_partition.specs.Rewritings.{rules_of, validity_operator, length_operator}
-use Rattle.scan_partition.specs.Rows.{Distinct}
-use Rattle.scan_partition.proofs.Bare.{bare-with, expand-bare}
+use Rattle.scan_partition.proofs.Bare.{bare-with}
 use Rattle.scan_partition.proofs.Depths.{as_deep}
 use Rattle.scan_partition.proofs.Expanded.{is_root-sound}
 use Rattle.scan_partition.specs.Found.{AllFound}
@@ -86,11 +86,23 @@ module _ (s : DataType) where
     all_lengths (part n e ps) = λ i. part n (lengths e i) (all_lengths ps i)
 
 -- ---- no pack gets too deep
-expanded_pack_fits : (fs : Fields) (n m : Nullability) (e : Expr) → depth_of (infer (struct_type fs n) (masked m e)) ≤ 66 → depth_of (infer (struct_type fs n) e) ≤ 66
-expanded_pack_fits fs n NonNullable e h = h
-expanded_pack_fits fs n Nullable e h = as_deep 66 (infer (struct_type fs n) e) _ (sym (bare-with Nullable (infer (struct_type fs n) e))) h
+-- a field that there is, is no deeper than the fields
+own_depth : (f : Name) (fs : Fields) → has_name f (field_names fs) ≡ true → depth_of (field_type f fs) ≤ fields_depth fs
+own_depth f no_fields h = cc
+own_depth f (field m d fs) h = go (bytes_eq f m) h (own_depth f fs)
+  where
+    go : (b : Bool) → b || has_name f (field_names fs) ≡ true → (has_name f (field_names fs) ≡ true → depth_of (field_type f fs) ≤ fields_depth fs) → depth_of (type_or_bool (cond b (Some d) (dtype_named f fs))) ≤ max (depth_of d) (fields_depth fs)
+    go true q r = omega arith
+    go false q r = let small : depth_of (field_type f fs) ≤ fields_depth fs = r q in omega arith
 
-items_fit : (fs : Fields) (n : Nullability) (ns : List (List ℕ)) → AllFound fs ns → AllNodesHold (struct_type fs n) (items_of ns)
+items_depth : (fs : Fields) (n : Nullability) (ns : List Name) → AllFound fs ns → fields_depth (infer_all (struct_type fs n) (items_of ns)) ≤ fields_depth fs
+items_depth fs n [] h = omega arith
+items_depth fs n (f ∷ ns) h =
+    let here : depth_of (infer (struct_type fs n) (unary (GetItem f) root)) ≤ fields_depth fs = as_deep (fields_depth fs) (infer (struct_type fs n) (unary (GetItem f) root)) (field_type f fs) (bare-with _ (field_type f fs)) (own_depth f fs h.0) in
+    let rest : fields_depth (infer_all (struct_type fs n) (items_of ns)) ≤ fields_depth fs = items_depth fs n ns h.1 in
+    omega arith
+
+items_fit : (fs : Fields) (n : Nullability) (ns : List Name) → AllFound fs ns → AllNodesHold (struct_type fs n) (items_of ns)
 items_fit fs n [] h = tt
 items_fit fs n (f ∷ ns) h = ((get_typed f fs h.0, tt), items_fit fs n ns h.1)
 
@@ -98,7 +110,7 @@ mask_fits : (s : DataType) (m : Nullability) (e : Expr) → NodesHold s e → No
 mask_fits s NonNullable e h = h
 mask_fits s Nullable e h = (refl, h, (refl, tt))
 
-pub expanded_root_fits : (fs : Fields) (n : Nullability) → Distinct fs → depth_of (struct_type fs n) ≤ 66 → NodesHold (struct_type fs n) (expanded_struct_root (struct_type fs n))
-expanded_root_fits fs n d h =
-    mask_fits (struct_type fs n) n (pack (items_of (field_names fs)) NonNullable)
-    (expanded_pack_fits fs n n (pack (items_of (field_names fs)) NonNullable) (as_deep 66 (infer (struct_type fs n) (expanded_struct_root (struct_type fs n))) (struct_type fs n) (expand-bare fs n d root) h), items_fit fs n (field_names fs) (names_found fs))
+pub expanded_root_fits : (fs : Fields) (n : Nullability) → depth_of (struct_type fs n) ≤ 66 → NodesHold (struct_type fs n) (expanded_struct_root (struct_type fs n))
+expanded_root_fits fs n h =
+    let deep : fields_depth (infer_all (struct_type fs n) (items_of (field_names fs))) ≤ fields_depth fs = items_depth fs n (field_names fs) (names_found fs) in
+    mask_fits (struct_type fs n) n (pack (items_of (field_names fs)) NonNullable) (omega (arith, h), items_fit fs n (field_names fs) (names_found fs))

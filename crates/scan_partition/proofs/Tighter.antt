@@ -10,9 +10,9 @@ use Rattle.scan_expr.specs.declared.op.BindFault.TheVariants.{NotBool}
 use Rattle.scan_expr.specs.declared.op.Unary.{Unary}
 use Rattle.scan_expr.specs.declared.op.Unary.TheVariants.{GetItem, Select, Exclude, Not, IsNull, IsNotNull, ListLength}
 use Rattle.scan_expr.specs.declared.op.Binary.{Binary}
-use Rattle.scan_expr.specs.declared.op.Binary.TheVariants.{Mask, And, Or, Equal, NotEqual, Less, LessOrEqual, Greater, GreaterOrEqual}
+use Rattle.scan_expr.specs.declared.op.Binary.TheVariants.{Mask, And, Or, Equal, NotEqual, Less, LessOrEqual, Greater, GreaterOrEqual, CheckedAdd, CheckedSub}
 use Rattle.scan_expr.specs.Expr.{Expr, root, row_index, literal, unary, binary, pack, Parts, no_parts, part}
-use Rattle.scan_expr.specs.Infer.{either, raised, struct_fields, type_or_bool, field_type, chosen, without, unary_type, binary_type, infer, infer_all}
+use Rattle.scan_expr.specs.Infer.{either, raised, struct_fields, type_or_bool, field_type, chosen, without, unary_type, ptype_or_u64, binary_type, infer, infer_all}
 use Rattle.scan_expr.specs.Typing.{unless, binary_fault}
 use Rattle.scan_partition.specs.Bare.{bare, bare_all}
 use Rattle.scan_partition.specs.declared.item.Item.{Item}
@@ -21,7 +21,8 @@ use Rattle.scan_partition.specs.Items.{spelled}
 use Rattle.scan_partition.specs.Rows.{item_type}
 use Rattle.scan_partition.specs.Tighter.{IsStricter, IsTighter, AreTighter}
 use Rattle.scan_partition.proofs.Parted.{with_own}
-use Rattle.scan_partition.proofs.Typed.{NodesTyped, AllNodesTyped, unary_fault-same, bools, logics, operands}
+use Rattle.scan_partition.proofs.Typed.{NodesTyped, AllNodesTyped, unary_fault-same, bools, logics, operands, sums}
+use Rattle.scan_partition.proofs.Bare.{ptypes-same}
 
 clash : {A : Type 0} → true ≡ false → A
 clash h = absurd (go h)
@@ -152,9 +153,21 @@ unary_tighter IsNull d e h = tt
 unary_tighter IsNotNull d e h = tt
 unary_tighter ListLength d e h = (refl, null_stricter d e h)
 
+nulls_tighter : (d e f g : DataType) → IsTighter d e → IsTighter f g → IsStricter (either (nullability_of d) (nullability_of f)) (either (nullability_of e) (nullability_of g))
+nulls_tighter d e f g h k = either_stricter (nullability_of d) (nullability_of e) (nullability_of f) (nullability_of g) (null_stricter d e h) (null_stricter f g k)
+
 binary_tighter : (b : Binary) (d e f g : DataType) → IsTighter d e → IsTighter f g → IsTighter (binary_type b d f) (binary_type b e g)
 binary_tighter Mask d e f g h k = with_tighter Nullable Nullable d e tt h
-binary_tighter _ d e f g h k = either_stricter (nullability_of d) (nullability_of e) (nullability_of f) (nullability_of g) (null_stricter d e h) (null_stricter f g k)
+binary_tighter And d e f g h k = nulls_tighter d e f g h k
+binary_tighter Or d e f g h k = nulls_tighter d e f g h k
+binary_tighter Equal d e f g h k = nulls_tighter d e f g h k
+binary_tighter NotEqual d e f g h k = nulls_tighter d e f g h k
+binary_tighter Less d e f g h k = nulls_tighter d e f g h k
+binary_tighter LessOrEqual d e f g h k = nulls_tighter d e f g h k
+binary_tighter Greater d e f g h k = nulls_tighter d e f g h k
+binary_tighter GreaterOrEqual d e f g h k = nulls_tighter d e f g h k
+binary_tighter CheckedAdd d e f g h k = (ap ptype_or_u64 (ptypes-same d e (tighter-bare d e h)), nulls_tighter d e f g h k)
+binary_tighter CheckedSub d e f g h k = (ap ptype_or_u64 (ptypes-same d e (tighter-bare d e h)), nulls_tighter d e f g h k)
 
 mutual
   pub infer_tighter : (d e : DataType) (x : Expr) → IsTighter d e → IsTighter (infer d x) (infer e x)
@@ -200,6 +213,8 @@ binary_typed b d e f g h k t = go b t
     go LessOrEqual t = operands d e f g p q ∙ t
     go Greater t = operands d e f g p q ∙ t
     go GreaterOrEqual t = operands d e f g p q ∙ t
+    go CheckedAdd t = sums d e f g p q ∙ t
+    go CheckedSub t = sums d e f g p q ∙ t
 
 mutual
   pub tighter_typed : (d e : DataType) (x : Expr) → IsTighter d e → NodesTyped e x → NodesTyped d x

@@ -10,7 +10,7 @@ use Rattle.scan_expr.specs.declared.op.BindFault.TheVariants.{NoField, NotBool, 
 use Rattle.scan_expr.specs.declared.op.Unary.{Unary}
 use Rattle.scan_expr.specs.declared.op.Unary.TheVariants.{GetItem, Select, Exclude, Not, IsNull, IsNotNull, ListLength}
 use Rattle.scan_expr.specs.declared.op.Binary.{Binary}
-use Rattle.scan_expr.specs.declared.op.Binary.TheVariants.{Mask, And, Or, Equal, NotEqual, Less, LessOrEqual, Greater, GreaterOrEqual}
+use Rattle.scan_expr.specs.declared.op.Binary.TheVariants.{Mask, And, Or, Equal, NotEqual, Less, LessOrEqual, Greater, GreaterOrEqual, CheckedAdd, CheckedSub}
 use Rattle.scan_expr.specs.Expr.{Expr, root, row_index, literal, unary, binary, pack, Parts, no_parts, part}
 use Rattle.scan_expr.specs.Infer.{infer}
 use Rattle.scan_expr.specs.Typing.{Fault, unless, or_fault, repeats, has_field, have_fields, in_struct, choice_fault, same_ptypes, literal_fault, unary_fault, binary_fault, typing_fault, parts_typing_fault}
@@ -19,6 +19,7 @@ use Rattle.scan_partition.specs.Items.{item_of, AtMost, or_use, use_of, uses_of,
 use Rattle.scan_partition.specs.Partition.{Reads, or_root, step_into, step_into_all}
 use Rattle.scan_partition.specs.Found.{AllFound}
 use Rattle.scan_partition.specs.Bare.{bare, bare_all}
+use Rattle.scan_partition.proofs.Bare.{ptypes-same}
 use Rattle.scan_values.specs.Marked.{Marked}
 use Rattle.scan_partition.proofs.Through.{both-split, through, own_reads, through-seen, step_into-through}
 
@@ -121,13 +122,6 @@ utf8-bare (utf8_type n) = refl
 utf8-bare (list_type d n) = refl
 utf8-bare (struct_type fs n) = refl
 
-ptype-bare : (d : DataType) → ptype_of (bare d) ≡ ptype_of d
-ptype-bare (bool_type n) = refl
-ptype-bare (int_type p n) = refl
-ptype-bare (utf8_type n) = refl
-ptype-bare (list_type d n) = refl
-ptype-bare (struct_type fs n) = refl
-
 length-bare : (d : DataType) → unary_fault ListLength (bare d) ≡ unary_fault ListLength d
 length-bare (bool_type n) = refl
 length-bare (int_type p n) = refl
@@ -154,15 +148,15 @@ module _ (d e f g : DataType) (h : bare d ≡ bare e) (k : bare f ≡ bare g) wh
   utf8s : (d e : DataType) → bare d ≡ bare e → is_utf8_type d ≡ is_utf8_type e
   utf8s d e h = sym (utf8-bare d) ∙ ap is_utf8_type h ∙ utf8-bare e
 
-  ptypes : (d e : DataType) → bare d ≡ bare e → ptype_of d ≡ ptype_of e
-  ptypes d e h = sym (ptype-bare d) ∙ ap ptype_of h ∙ ptype-bare e
-
   pub logics : or_fault (unless (is_bool_type d) NotBool) (unless (is_bool_type f) NotBool) ≡ or_fault (unless (is_bool_type e) NotBool) (unless (is_bool_type g) NotBool)
   logics = λ i. or_fault (unless (bools d e h i) NotBool) (unless (bools f g k i) NotBool)
 
   pub operands : unless (cond (is_bool_type d) (is_bool_type f) (cond (is_utf8_type d) (is_utf8_type f) (same_ptypes (ptype_of d) (ptype_of f)))) Operands
       ≡ unless (cond (is_bool_type e) (is_bool_type g) (cond (is_utf8_type e) (is_utf8_type g) (same_ptypes (ptype_of e) (ptype_of g)))) Operands
-  operands = λ i. unless (cond (bools d e h i) (bools f g k i) (cond (utf8s d e h i) (utf8s f g k i) (same_ptypes (ptypes d e h i) (ptypes f g k i)))) Operands
+  operands = λ i. unless (cond (bools d e h i) (bools f g k i) (cond (utf8s d e h i) (utf8s f g k i) (same_ptypes (ptypes-same d e h i) (ptypes-same f g k i)))) Operands
+
+  pub sums : unless (same_ptypes (ptype_of d) (ptype_of f)) Operands ≡ unless (same_ptypes (ptype_of e) (ptype_of g)) Operands
+  sums = λ i. unless (same_ptypes (ptypes-same d e h i) (ptypes-same f g k i)) Operands
 
   pub binary_fault-same : (b : Binary) → nullability_of f ≡ nullability_of g → binary_fault b d f ≡ binary_fault b e g
   binary_fault-same Mask n = λ i. unless (bools f g k i && not (is_null_kind (n i))) NotBool
@@ -174,6 +168,8 @@ module _ (d e f g : DataType) (h : bare d ≡ bare e) (k : bare f ≡ bare g) wh
   binary_fault-same LessOrEqual n = operands
   binary_fault-same Greater n = operands
   binary_fault-same GreaterOrEqual n = operands
+  binary_fault-same CheckedAdd n = sums
+  binary_fault-same CheckedSub n = sums
 
 -- ---- through the items
 abbrev mutual

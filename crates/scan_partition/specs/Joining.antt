@@ -1,6 +1,6 @@
 -- Parts that were evaluated, joined row by row.
-use Rattle.std.specs.Prelude.{◌≡◌, ℕ, ◌<◌, true, List, [], ◌∷◌, map, zip, take, length, slice_index_or}
-use Rattle.std.specs.List.{flat_map, range_with_len}
+use Rattle.std.specs.Prelude.{◌≡◌, ℕ, ◌<◌, Bool, true, List, [], ◌∷◌, map, zip, take, length, slice_index_or}
+use Rattle.std.specs.List.{flat_map, list_any, range_with_len}
 use Rattle.scan_values.specs.DataType.{DataType, Name, struct_type, nullability_of, fields_of}
 use Rattle.scan_values.specs.declared.ptype.Nullability.TheVariants.{NonNullable}
 use Rattle.scan_values.specs.Arrays.{ArrayData}
@@ -10,6 +10,7 @@ use Rattle.scan_values.specs.Fits.{fits_all}
 use Rattle.scan_expr.specs.Bound.{Bound}
 use Rattle.scan_expr.specs.Infer.{struct_fields, infer}
 use Rattle.scan_expr.specs.Eval.{eval}
+use Rattle.scan_expr.specs.Overflow.{overflows}
 use Rattle.scan_partition.specs.declared.item.Item.{Item}
 use Rattle.scan_partition.specs.declared.struct_.Partitioned.TheVariants.{Multi}
 use Rattle.scan_partition.specs.Rows.{IsRow, Agrees}
@@ -48,6 +49,10 @@ row_at xs r = struct_val (vals_of (map (λ (a : ArrayData). slice_index_or a.ite
 abbrev pub joined_at : Bound → List ArrayData → ℕ → Marked
 joined_at root xs r = eval root.scope root.expr (marked (row_at xs r)) r
 
+-- the root overflows for some row
+abbrev pub root_overflows : Bound → List ArrayData → ℕ → Bool
+root_overflows root xs n = list_any (λ r. overflows root.scope root.expr (marked (row_at xs r)) r) (range_with_len 0 n)
+
 -- ---- the parts' values, joined
 -- each array holds its part's values, on what is read of its item in each row
 abbrev pub HoldParts : (ℕ → Item → Marked) → ℕ → List Item → List Bound → List ArrayData → Type 0
@@ -59,6 +64,10 @@ HoldParts w n (i ∷ is) (p ∷ ps) (a ∷ xs) = (map marked a.items ≡ map (λ
 -- such arrays join to the values of the root over the parts
 abbrev pub JoinsParts : Divided → List ArrayData → ℕ → List Val → Type 0
 JoinsParts d xs n vs = (w : ℕ → Item → Marked) → HoldParts w n d.items d.parts xs → map marked vs ≡ map (λ r. joined_value_of d (w r) r) (range_with_len 0 n)
+
+-- what `join` gives of arrays of the parts are such values
+abbrev pub PartsJoinRowByRow : Type 0
+PartsJoinRowByRow = (d : Divided) (xs : List ArrayData) (n : ℕ) (vs : List Val) → length d.parts ≡ length d.items → AreOfParts n d.parts xs → map marked vs ≡ map (joined_at d.root xs) (range_with_len 0 n) → JoinsParts d xs n vs
 
 -- in each row a value of the struct, and what is read of its items there
 abbrev pub AreRows : DataType → ℕ → (ℕ → Marked) → (ℕ → Item → Marked) → Type 0

@@ -16,7 +16,8 @@ use Rattle.scan_partition.specs.declared.row_idx.Partition.TheVariants.{RowIdx a
 use Rattle.scan_partition.specs.declared.row_idx.Partitioning.{Partitioning}
 use Rattle.scan_partition.specs.declared.row_idx.Partitioning.TheVariants.{RowIdx, Child, Both}
 use Rattle.scan_partition.specs.Items.{IsExpanded}
-use Rattle.scan_partition.specs.Conditions.{IsOverStruct}
+use Rattle.scan_partition.specs.Conditions.{IsStruct}
+use Rattle.scan_partition.specs.Partable.{IsPartable}
 use Rattle.scan_partition.specs.Divided.{divided, kept}
 use Rattle.scan_partition.specs.Expand.{expand}
 use Rattle.scan_partition.specs.Rows.{Distinct}
@@ -51,7 +52,7 @@ SplitNeedsNoMore b (Single i p) = LiesUnder p.scope p.expr (item_path i) b.scope
 SplitNeedsNoMore b (Multi d) = EachLiesUnder item_path b d.items d.parts
 
 abbrev pub PartsNeedNoMore : Type 0
-PartsNeedNoMore = (b : Bound) → IsOverStruct b → SplitNeedsNoMore b (split b.scope b.expr)
+PartsNeedNoMore = (b : Bound) → IsPartable b → IsStruct b.scope → SplitNeedsNoMore b (split b.scope b.expr)
 
 -- parts that are kept over the struct
 abbrev pub KeptPartsNeedNoMore : Type 0

@@ -1,6 +1,8 @@
 -- Where each item's group stands.
 use Rattle.std.specs.Prelude.{◌≡◌, ℕ, suc, cond, bytes_eq, List, [], ◌∷◌, Option, Some, None}
 use Rattle.std.specs.HashMap.{get_by}
+use Rattle.std.specs.List.{position_from}
+use Rattle.scan_values.specs.DataType.{Name}
 use Rattle.scan_partition.specs.declared.item.Item.{Item}
 use Rattle.scan_partition.specs.declared.item.Item.TheVariants.{Field, Validity}
 use Rattle.scan_partition.specs.declared.places.Places.{Places}
@@ -10,6 +12,10 @@ use Rattle.scan_partition.specs.Partition.{Group}
 abbrev pub place_of : Places → Item → Option ℕ
 place_of p (Field n) = get_by (λ k. bytes_eq n k.now) p.fields
 place_of p Validity = p.validity
+
+-- the place of the first of this name
+abbrev pub first_place : Name → List Name → Option ℕ
+first_place n ns = position_from (λ m. bytes_eq m n) 0 ns
 
 abbrev pub one_later : Option ℕ → Option ℕ
 one_later None = None

@@ -1,12 +1,13 @@
 -- An expression by the row's number and the child, and what its parts give together.
-use Rattle.std.specs.Prelude.{◌≡◌, ◌≤◌, ℕ, pos, Bool, true, false, List, [], ◌∷◌}
+use Rattle.std.specs.Prelude.{◌≡◌, ◌≤◌, ℕ, pos, Bool, true, false, ◌||◌, List, [], ◌∷◌}
 use Rattle.scan_values.specs.DataType.{DataType, depth_of}
 use Rattle.scan_values.specs.Marked.{Marked, integer, struct, Markeds, none, more}
 use Rattle.scan_expr.specs.Bound.{Bound, bound_of}
 use Rattle.scan_expr.specs.Infer.{infer}
 use Rattle.scan_expr.specs.Eval.{eval}
+use Rattle.scan_expr.specs.Overflow.{overflows}
 use Rattle.scan_expr.specs.Expr.{Expr, uses_row_index}
-use Rattle.scan_partition.specs.Shallow.{IsShallow}
+use Rattle.scan_partition.specs.Shallow.{IsPart}
 use Rattle.scan_partition.specs.declared.row_idx.Partition.{Partition}
 use Rattle.scan_partition.specs.declared.row_idx.Partition.TheVariants.{RowIdx as TheRowIdx, Child as TheChild}
 use Rattle.scan_partition.specs.declared.row_idx.Partitioning.{Partitioning}
@@ -16,7 +17,7 @@ use Rattle.scan_partition.specs.RowDivided.{RowDivided, uses_root, number_type, 
 -- as binding gives it: neither the scope nor a node is deep
 pub record IsOverRows (b : Bound) : Type 0 where
   pub scope : depth_of b.scope ≤ 64
-  pub nodes : IsShallow b.scope b.expr
+  pub nodes : IsPart b.scope b.expr
 
 -- by whether the row's number stands in it, and whether `$` does
 abbrev pub row_split_by : Bool → Bool → DataType → Expr → Partitioning
@@ -42,15 +43,26 @@ row_values v k j (i ∷ is) (p ∷ ps) = more (eval p.scope p.expr (read_value v
 abbrev pub joined_row : RowDivided → Marked → ℕ → ℕ → Marked
 joined_row d v k j = eval d.root.scope d.root.expr (struct (row_values v k j d.items d.parts)) j
 
--- the dtype of the whole, and its value on each row
-pub record KeepsRow (b : Bound) (d : DataType) (f : Marked → ℕ → ℕ → Marked) : Type 0 where
+-- some part overflows, on what it reads
+abbrev pub row_parts_overflow : Marked → ℕ → ℕ → List Partition → List Bound → Bool
+row_parts_overflow v k j [] ps = false
+row_parts_overflow v k j (i ∷ is) [] = false
+row_parts_overflow v k j (i ∷ is) (p ∷ ps) = overflows p.scope p.expr (read_value v k i) j || row_parts_overflow v k j is ps
+
+-- the root does, over the parts' values, or some part
+abbrev pub joined_row_overflows : RowDivided → Marked → ℕ → ℕ → Bool
+joined_row_overflows d v k j = overflows d.root.scope d.root.expr (struct (row_values v k j d.items d.parts)) j || row_parts_overflow v k j d.items d.parts
+
+-- the dtype of the whole, its value on each row, and where it overflows
+pub record KeepsRow (b : Bound) (d : DataType) (f : Marked → ℕ → ℕ → Marked) (g : Marked → ℕ → ℕ → Bool) : Type 0 where
   pub dtype : d ≡ infer b.scope b.expr
   pub values : (v : Marked) (k j : ℕ) → f v k j ≡ eval b.scope b.expr v k
+  pub overflow : (v : Marked) (k j : ℕ) → g v k j ≡ overflows b.scope b.expr v k
 
 abbrev pub KeepsRows : Bound → Partitioning → Type 0
-KeepsRows b (RowIdx p) = KeepsRow b (infer p.scope p.expr) (λ v k j. eval p.scope p.expr (integer (pos k)) j)
-KeepsRows b (Child p) = KeepsRow b (infer p.scope p.expr) (λ v k j. eval p.scope p.expr v j)
-KeepsRows b (Both d) = KeepsRow b (infer d.root.scope d.root.expr) (joined_row d)
+KeepsRows b (RowIdx p) = KeepsRow b (infer p.scope p.expr) (λ v k j. eval p.scope p.expr (integer (pos k)) j) (λ v k j. overflows p.scope p.expr (integer (pos k)) j)
+KeepsRows b (Child p) = KeepsRow b (infer p.scope p.expr) (λ v k j. eval p.scope p.expr v j) (λ v k j. overflows p.scope p.expr v j)
+KeepsRows b (Both d) = KeepsRow b (infer d.root.scope d.root.expr) (joined_row d) (joined_row_overflows d)
 
 -- ---- what the parts are over
 abbrev pub read_type : DataType → Partition → DataType

@@ -1,5 +1,5 @@
 -- The values of a struct, and what is read of its items there.
-use Rattle.std.specs.Prelude.{◌≡◌, true, false, List, [], ◌∷◌}
+use Rattle.std.specs.Prelude.{◌≡◌, false, List, [], ◌∷◌}
 use Rattle.scan_values.specs.DataType.{DataType, bool_type, Fields, no_fields, field, Name}
 use Rattle.scan_values.specs.declared.ptype.Nullability.{Nullability}
 use Rattle.scan_values.specs.declared.ptype.Nullability.TheVariants.{NonNullable, Nullable}
@@ -58,8 +58,3 @@ IsPlain Validity = Unit {0}
 abbrev pub AllPlain : List Cut → Type 0
 AllPlain [] = Unit {0}
 AllPlain (c ∷ cs) = IsPlain c.0 × AllPlain cs
-
--- an item that the struct has
-abbrev pub IsItemOf : Fields → Nullability → Item → Type 0
-IsItemOf fs n (Field f) = has_name f (field_names fs) ≡ true
-IsItemOf fs n Validity = n ≡ Nullable

@@ -97,40 +97,58 @@ pub(crate) fn items_used(expr: &BoundExpression) -> Sole<'_>
     }
 }
 
-/// Adds the largest parts of an expression that use one item, from left to right.
+/// Adds the largest parts of an expression that use one item, from left to right, and tells the items that it uses.
 #[cycle(cutting)]
 pub(crate) fn add_cuts<'a>(
     expr: &'a BoundExpression,
     found: &mut Vec<Cut<'a>>,
-) -> Result<(), NoMemory>
-    ensures { IfOk result (λ _. map cut_seen found.new.items ≡ map cut_seen found.old.items ++ cuts expr.now.expr) }
+) -> Result<Sole<'a>, NoMemory>
+    ensures used { IfOk result (λ s. sole_of s ≡ use_of expr.now.expr) }
+    ensures cuts { IfOk result (λ _. map cut_seen found.new.items ≡ map cut_seen found.old.items ++ cuts expr.now.expr) }
 {
-    match items_used(expr) {
+    let start = found.len();
+    let used = add_part_cuts(expr, found)?;
+    match used {
         Sole::One(item) => {
+            found.truncate(start);
             found.push(Cut { item, expr })?;
-            Ok(())
+            Ok(used)
         }
-        _ => add_part_cuts(expr, found),
+        Sole::Nothing => Ok(used),
+        Sole::Many => Ok(used),
     }
 }
 
-/// The same of its parts.
+/// Adds those of its parts.
 #[cycle(cutting)]
-fn add_part_cuts<'a>(expr: &'a BoundExpression, found: &mut Vec<Cut<'a>>) -> Result<(), NoMemory>
-    ensures { IfOk result (λ _. map cut_seen found.new.items ≡ map cut_seen found.old.items ++ part_cuts expr.now.expr) }
+fn add_part_cuts<'a>(
+    expr: &'a BoundExpression,
+    found: &mut Vec<Cut<'a>>,
+) -> Result<Sole<'a>, NoMemory>
+    ensures used { IfOk result (λ s. sole_of s ≡ use_of expr.now.expr) }
+    ensures cuts { IfOk result (λ _. map cut_seen found.new.items ≡ map cut_seen found.old.items ++ part_cuts expr.now.expr) }
 {
     match expr.node() {
-        BoundNode::Unary(_, part) => add_cuts(part, found),
+        BoundNode::Unary(op, part) => {
+            if part.is_root() {
+                Ok(sole_at_root(op))
+            } else {
+                add_cuts(part, found)
+            }
+        }
         BoundNode::Binary(_, x, y) => {
-            add_cuts(x, found)?;
-            add_cuts(y, found)
+            let first = add_cuts(x, found)?;
+            let second = add_cuts(y, found)?;
+            Ok(both_soles(first, second))
         }
         BoundNode::Pack(_, parts, _) => {
+            let mut all = Sole::Nothing;
             for part in parts {
-                add_cuts(part, found)?;
+                let used = add_cuts(part, found)?;
+                all = both_soles(all, used);
             }
-            Ok(())
+            Ok(all)
         }
-        _ => Ok(()),
+        _ => Ok(Sole::Nothing),
     }
 }

@@ -17,7 +17,7 @@ use crate::join::joined;
 use crate::parts::{item_dtype, part_over};
 use crate::rewrite::Rewriting;
 use crate::root::{name_of, plant};
-use scan_expr::BoundExpression;
+use scan_expr::{ApplyFault, BoundExpression};
 use scan_values::{Array, DType, FieldName, NoMemory, Nullability, StructFields};
 use std::alloc::Global;
 use std::marker::Model;
@@ -54,11 +54,11 @@ impl Model for PartitionedExpr {
 }
 
 impl PartitionedExpr {
-    ghost use Rattle.std.specs.Prelude.{◌≡◌, ◌<◌, length, map, IfOk, Some, slice_get};
+    ghost use Rattle.std.specs.Prelude.{◌≡◌, ◌<◌, length, map, true, false, IfOk, Some, Err, slice_get};
     ghost use Rattle.std.specs.List.{range_with_len};
     ghost use Rattle.scan_values.specs.Val.{marked};
     ghost use Rattle.scan_expr.specs.Infer.{infer};
-    ghost use Rattle.scan_partition.specs.Joining.{AreOfParts, joined_at, JoinsParts, JoinsWhole};
+    ghost use Rattle.scan_partition.specs.Joining.{AreOfParts, joined_at, root_overflows, JoinsWhole};
 
     /// The items, in order of first appearance. There is a part for each.
     pub fn items(&self) -> &[Item]
@@ -85,13 +85,15 @@ impl PartitionedExpr {
 
     /// For each row the root's value, over the struct of the parts' values in that row. Where the parts keep the whole
     /// of an expression, and each was evaluated on what is read of its item, these are the expression's values.
-    /// Condition: one array for each item, of its part's dtype and of this length.
-    pub fn join(&self, alloc: Global, parts: Vec<Array>, len: usize) -> Result<Array, NoMemory>
+    /// `Overflow` exactly where the root overflows on some row. Condition: one array for each item, of its part's
+    /// dtype and of this length.
+    pub fn join(&self, alloc: Global, parts: Vec<Array>, len: usize) -> Result<Array, ApplyFault>
         requires { AreOfParts len self.now.parts parts.items }
         ensures dtype { IfOk result (λ a. a.dtype ≡ infer self.now.root.scope self.now.root.expr) }
         ensures items { IfOk result (λ a. map marked a.items ≡ map (joined_at self.now.root parts.items) (range_with_len 0 len)) }
-        ensures parts { IfOk result (λ a. JoinsParts self.now parts.items len a.items) }
         ensures whole { IfOk result (λ a. JoinsWhole self.now parts.items len a.items) }
+        ensures within { IfOk result (λ _. root_overflows self.now.root parts.items len ≡ false) }
+        ensures overflow { result ≡ Err ApplyFault.Overflow → root_overflows self.now.root parts.items len ≡ true }
     {
         joined(alloc, &self.root, parts, len)
     }

@@ -11,8 +11,9 @@ ghost use Rattle.scan_expr.specs.Typing.{unary_fault};
 ghost use Rattle.scan_partition.specs.Rewrite.{NodesHold, AllNodesHold};
 ghost use Rattle.scan_partition.specs.Expand.{unnamed, masked, is_here, items_of, expanded_fields, expanded_struct_root, expand_at, null_root, here_root};
 
+use crate::places::Places;
 use scan_expr::{Binary, BoundExpression, Unary};
-use scan_values::{DType, FieldName, Names, NoMemory, Nullability, Value, has_name};
+use scan_values::{DType, FieldName, Names, NoMemory, Nullability, Value};
 use std::alloc::Global;
 use std::sync::Arc;
 
@@ -100,9 +101,10 @@ fn same_names(alloc: Global, names: &[FieldName]) -> Result<Names, NoMemory>
 fn unnamed(alloc: Global, others: &[FieldName], names: &[FieldName]) -> Result<Names, NoMemory>
     ensures { IfOk result (λ ns. ns ≡ unnamed others.now names.now) }
 {
+    let places = Places::of_names(alloc, others)?;
     let mut left = Vec::new(alloc);
     for name in names {
-        let taken = has_name(name, others);
+        let taken = places.has(name);
         if !taken {
             left.push(name.try_clone(alloc)?)?;
         }

@@ -1,14 +1,14 @@
 // Parts of an expression that were evaluated, joined by its root.
-ghost use Rattle.std.specs.Prelude.{◌≡◌, IfOk, map, take, drop, true, option_to_list};
+ghost use Rattle.std.specs.Prelude.{◌≡◌, IfOk, Err, map, take, drop, true, false, option_to_list};
 ghost use Rattle.std.specs.List.{range_with_len};
 ghost use Rattle.scan_values.specs.Arrays.{ArrayData};
 ghost use Rattle.scan_values.specs.Fits.{fits_all};
 ghost use Rattle.scan_values.specs.Val.{struct_val, vals_of, marked, marked_all};
 ghost use Rattle.scan_values.specs.Values.{val_of};
 ghost use Rattle.scan_expr.specs.Infer.{infer};
-ghost use Rattle.scan_partition.specs.Joining.{heads, AreAsLong, AreFitting, IsScopeOf, joined_at};
+ghost use Rattle.scan_partition.specs.Joining.{heads, AreAsLong, AreFitting, IsScopeOf, joined_at, root_overflows};
 
-use scan_expr::BoundExpression;
+use scan_expr::{ApplyFault, BoundExpression};
 use scan_values::{Array, NoMemory, Value, Values};
 use std::alloc::Global;
 use std::marker::Model;
@@ -79,23 +79,26 @@ fn next_row(alloc: Global, columns: &mut [Column]) -> Result<Value, NoMemory>
     Ok(Value::Struct(Values::new(row)))
 }
 
-/// The root's value for each row of the arrays.
+/// The root's value for each row of the arrays. `Overflow` where a sum or a difference in it is none of its type.
 pub(crate) fn joined(
     alloc: Global,
     root: &BoundExpression,
     arrays: Vec<Array>,
     len: usize,
-) -> Result<Array, NoMemory>
+) -> Result<Array, ApplyFault>
     requires scope { IsScopeOf arrays.items root.now.scope }
     requires length { AreAsLong len arrays.items }
     ensures dtype { IfOk result (λ a. a.dtype ≡ infer root.now.scope root.now.expr) }
     ensures items { IfOk result (λ a. map marked a.items ≡ map (joined_at root.now arrays.items) (range_with_len 0 len)) }
+    ensures within { IfOk result (λ _. root_overflows root.now arrays.items len ≡ false) }
+    ensures overflow { result ≡ Err ApplyFault.Overflow → root_overflows root.now arrays.items len ≡ true }
 {
     let mut columns = columns_of(alloc, arrays)?;
     let mut items = Vec::with_capacity(alloc, len)?;
     for number in 0..len {
         let row = next_row(alloc, &mut columns)?;
-        items.push(root.value_at(alloc, &row, number as u64)?)?;
+        let value = root.value_of(alloc, row, number as u64)?;
+        items.push(value)?;
     }
     let dtype = root.dtype().try_clone(alloc)?;
     Ok(Array::of_fitting(dtype, items))

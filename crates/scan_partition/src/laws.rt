@@ -1,18 +1,9 @@
 // Laws of partitioning.
 ghost use Rattle.scan_partition.specs.Laws.{ExpansionKeepsValues, SteppingInKeepsValues, PartsJoinToTheWhole, OnePartIsTheWhole, SteppingInKeepsKnownValues, OwnDTypesAreTighter, SteppingInKeepsTheTyping, RowPartsJoinToTheWhole, RewritingValidityKeepsValues, RewritingOffsetsKeepsValues, ChosenFieldsAreTheWhole};
-ghost use Rattle.scan_partition.specs.Binding.{BoundOverAStruct, BoundOverRows};
+ghost use Rattle.scan_partition.specs.Partable.{BoundIsPartable, StructPartsPartable, KeptPartsPartable, RowPartsArePartable, ExpandedIsPartable, ValidityIsPartable, LengthsArePartable, SteppedIsPartable};
 ghost use Rattle.scan_partition.specs.Needing.{ExpansionNeedsNoMore, PartsNeedNoMore, KeptPartsNeedNoMore, RowPartsNeedNoMore};
+ghost use Rattle.scan_partition.specs.Joining.{PartsJoinRowByRow};
 ghost use Rattle.scan_partition.specs.ListUses.{NecessaryIsNeeded, TypedUsesAreOfTheList};
-
-/// What binds over a struct may be partitioned.
-pub fn what_binds_may_be_partitioned()
-    ensures { BoundOverAStruct }
-{}
-
-/// Also by row numbers, over any scope.
-pub fn what_binds_has_row_parts()
-    ensures { BoundOverRows }
-{}
 
 /// An expression by the fields of a struct gives the same on each value of the struct.
 pub fn expansion_keeps_values()
@@ -39,10 +30,12 @@ pub fn stepping_in_keeps_the_typing()
     ensures { SteppingInKeepsTheTyping }
 {}
 
-/// The parts, each on what is read of its item, joined by the root give the value of the whole, and its dtype.
+/// The parts, each on what is read of its item, joined by the root give the value of the whole, and its dtype; and row by
+/// row the arrays of parts join to the root over the parts' values.
 pub fn parts_join_to_the_whole()
     ensures several { PartsJoinToTheWhole }
     ensures one { OnePartIsTheWhole }
+    ensures rows { PartsJoinRowByRow }
 {}
 
 /// So do the parts over the row's number and over the scope.
@@ -80,4 +73,17 @@ pub fn parts_need_no_more()
     ensures of_struct { PartsNeedNoMore }
     ensures kept { KeptPartsNeedNoMore }
     ensures of_rows { RowPartsNeedNoMore }
+{}
+
+/// What binds may be parted, over a struct and by row numbers, and so may each part again over what it reads; also the
+/// expression by the struct's fields, and the one over a list's validity or its lengths.
+pub fn parts_may_be_parted()
+    ensures bound { BoundIsPartable }
+    ensures of_struct { StructPartsPartable }
+    ensures kept { KeptPartsPartable }
+    ensures of_rows { RowPartsArePartable }
+    ensures expanded { ExpandedIsPartable }
+    ensures validity { ValidityIsPartable }
+    ensures lengths { LengthsArePartable }
+    ensures stepped { SteppedIsPartable }
 {}

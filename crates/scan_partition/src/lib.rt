@@ -8,23 +8,15 @@ mod expand;
 mod groups;
 mod item;
 mod join;
-#[cfg(test)]
-mod join_tests;
 mod laws;
 mod list_;
 mod parts;
 mod places;
 mod rewrite;
-#[cfg(test)]
-mod rewrite_tests;
 mod rewrites;
 mod root;
 mod row_idx;
 mod struct_;
-#[cfg(test)]
-mod struct_tests;
-#[cfg(test)]
-mod tests;
 mod threads;
 
 pub use direct::DirectProjection;
@@ -33,9 +25,9 @@ pub use item::Item;
 pub use laws::{
     chosen_fields_are_the_whole, expansion_keeps_values, expansion_needs_no_more,
     necessary_children_are_needed, own_dtypes_are_tighter, parts_join_to_the_whole,
-    parts_need_no_more, rewriting_over_lists_keeps_values, row_parts_join_to_the_whole,
-    stepping_in_keeps_known_values, stepping_in_keeps_the_typing, stepping_in_keeps_values,
-    what_binds_has_row_parts, what_binds_may_be_partitioned,
+    parts_may_be_parted, parts_need_no_more, rewriting_over_lists_keeps_values,
+    row_parts_join_to_the_whole, stepping_in_keeps_known_values, stepping_in_keeps_the_typing,
+    stepping_in_keeps_values,
 };
 pub use list_::{ListChildrenNeeded, necessary_children};
 pub use rewrites::{

@@ -5,7 +5,7 @@ ghost use Rattle.scan_partition.specs.Soles.{item_seen};
 ghost use Rattle.scan_partition.specs.Places.{place_of};
 
 use crate::cuts::ItemRef;
-use scan_values::NoMemory;
+use scan_values::{FieldName, NoMemory};
 use std::alloc::Global;
 use std::collections::HashMap;
 
@@ -17,11 +17,13 @@ pub(crate) struct Places<'a> {
 }
 
 impl<'a> Places<'a> {
-    ghost use Rattle.std.specs.Prelude.{◌≡◌, IfOk, Some, None, cond};
+    ghost use Rattle.std.specs.Prelude.{◌≡◌, IfOk, Some, None, cond, is_some};
+    ghost use Rattle.scan_values.specs.DataType.{Name};
     ghost use Rattle.scan_partition.specs.declared.item.Item.{Item};
+    ghost use Rattle.scan_partition.specs.declared.item.Item.TheVariants.{Field};
     ghost use Rattle.scan_partition.specs.Items.{same_item};
     ghost use Rattle.scan_partition.specs.Soles.{item_seen};
-    ghost use Rattle.scan_partition.specs.Places.{place_of};
+    ghost use Rattle.scan_partition.specs.Places.{place_of, first_place};
 
     /// None.
     pub(crate) fn new(alloc: Global) -> Places<'a>
@@ -31,6 +33,25 @@ impl<'a> Places<'a> {
             fields: HashMap::new(alloc),
             validity: None,
         }
+    }
+
+    /// The place of the first of each name.
+    pub(crate) fn of_names(alloc: Global, names: &'a [FieldName]) -> Result<Places<'a>, NoMemory>
+        ensures { IfOk result (λ p. (n : Name) → place_of p (Field n) ≡ first_place n names.entry.now) }
+    {
+        let mut places = Places::new(alloc);
+        for k in 0..names.len() {
+            let i = names.len() - 1 - k;
+            places.set(ItemRef::Field(&names[i]), i)?;
+        }
+        Ok(places)
+    }
+
+    /// Whether a field of this name has a number.
+    pub(crate) fn has(&self, name: &FieldName) -> bool
+        ensures { result ≡ is_some (place_of self.now (Field name.now)) }
+    {
+        self.get(ItemRef::Field(name)).is_some()
     }
 
     /// The number of an item.

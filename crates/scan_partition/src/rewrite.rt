@@ -5,6 +5,7 @@ ghost use Rattle.scan_expr.specs.Expr.{Expr, root, unary, binary, literal, pack}
 ghost use Rattle.scan_expr.specs.Bound.{bound_of};
 ghost use Rattle.scan_partition.specs.Rewrite.{rewritten, or_kept, NodesHold};
 ghost use Rattle.scan_partition.specs.Rewritings.{rules_of};
+ghost use Rattle.scan_partition.specs.Shallow.{NodesWithin};
 
 use crate::expand::{expanded_operator, expanded_root};
 use crate::item::{child_item, row_item};
@@ -72,6 +73,26 @@ fn new_operator(
         Rewriting::Validity => validity_operator(alloc, op, scope),
         Rewriting::Lengths => length_operator(alloc, op, scope),
         _ => Ok(None),
+    }
+}
+
+/// No node of an expression has a dtype deeper than dtypes may be.
+pub(crate) fn know_depths(expr: &BoundExpression)
+    ensures { NodesWithin 66 expr.now.scope expr.now.expr }
+{
+    let _depth = expr.dtype().depth();
+    match expr.node() {
+        BoundNode::Unary(_, part) => know_depths(part),
+        BoundNode::Binary(_, x, y) => {
+            know_depths(x);
+            know_depths(y);
+        }
+        BoundNode::Pack(_, parts, _) => {
+            for part in parts {
+                know_depths(part);
+            }
+        }
+        _ => {}
     }
 }
 

@@ -6,12 +6,13 @@ ghost use Rattle.scan_partition.specs.Lift.{lift};
 ghost use Rattle.scan_partition.specs.Partition.{cuts};
 ghost use Rattle.scan_partition.specs.Rewrite.{NodesHold};
 ghost use Rattle.scan_partition.specs.RowDivided.{partition_of, uses_root, number_type, over_number, numbered_scope, row_divided};
+ghost use Rattle.scan_partition.specs.Partable.{IsPartable, RowPartsPartable};
 ghost use Rattle.scan_partition.specs.RowSplit.{IsOverRows, row_split, KeepsRows, AreOver};
 
 use crate::divide::{Parting, PartitionedExpr, divide, struct_within};
 use crate::item::Item;
 use crate::rewrite::{Rewriting, rewritten};
-use scan_expr::{BoundExpression, BoundNode};
+use scan_expr::{ApplyFault, BoundExpression, BoundNode};
 use scan_values::{Array, DType, FieldName, NoMemory, Nullability, PType};
 use std::alloc::Global;
 use std::marker::Model;
@@ -61,11 +62,11 @@ impl Model for PartitionedRowIdx {
 }
 
 impl PartitionedRowIdx {
-    ghost use Rattle.std.specs.Prelude.{◌≡◌, ◌<◌, length, map, IfOk, Some, slice_get};
+    ghost use Rattle.std.specs.Prelude.{◌≡◌, ◌<◌, length, map, true, false, IfOk, Some, Err, slice_get};
     ghost use Rattle.std.specs.List.{range_with_len};
     ghost use Rattle.scan_values.specs.Val.{marked};
     ghost use Rattle.scan_expr.specs.Infer.{infer};
-    ghost use Rattle.scan_partition.specs.Joining.{AreOfParts, joined_at};
+    ghost use Rattle.scan_partition.specs.Joining.{AreOfParts, joined_at, root_overflows};
     ghost use Rattle.scan_partition.specs.RowJoining.{JoinsRows};
 
     /// What is read, in order of first appearance. There is a part for each.
@@ -93,14 +94,17 @@ impl PartitionedRowIdx {
     }
 
     /// For each row the root's value, over the struct of the parts' values in that row. Where the parts keep the whole
-    /// of an expression, and each was evaluated on what it reads, these are the expression's values. Condition: one
-    /// array for each item, of its part's dtype and of this length.
-    pub fn join(&self, alloc: Global, parts: Vec<Array>, len: usize) -> Result<Array, NoMemory>
+    /// of an expression, and each was evaluated on what it reads, these are the expression's values. `Overflow` exactly
+    /// where the root overflows on some row. Condition: one array for each item, of its part's dtype and of this length.
+    pub fn join(&self, alloc: Global, parts: Vec<Array>, len: usize) -> Result<Array, ApplyFault>
         requires { AreOfParts len self.now.parts parts.items }
         ensures dtype { IfOk result (λ a. a.dtype ≡ infer self.now.root.scope self.now.root.expr) }
         ensures items { IfOk result (λ a. map marked a.items ≡ map (joined_at self.now.root parts.items) (range_with_len 0 len)) }
         ensures whole { IfOk result (λ a. JoinsRows self.now parts.items len a.items) }
+        ensures within { IfOk result (λ _. root_overflows self.now.root parts.items len ≡ false) }
+        ensures overflow { result ≡ Err ApplyFault.Overflow → root_overflows self.now.root parts.items len ≡ true }
     {
+        let _even = self.whole.items();
         self.whole.join(alloc, parts, len)
     }
 }
@@ -202,10 +206,11 @@ fn by_both(alloc: Global, expr: &BoundExpression) -> Result<PartitionedRowIdx, N
 /// An expression by the row's number and the child. The parts, each on what it reads, joined by the root give the
 /// expression's value on each row, and its dtype. No row's number stands in a part or in the root: there it is `$`.
 pub fn partition_row_idx(alloc: Global, expr: &BoundExpression) -> Result<Partitioning, NoMemory>
-    requires { IsOverRows expr.now }
+    requires { IsPartable expr.now }
     ensures exact { IfOk result (λ p. p ≡ row_split expr.now.scope expr.now.expr) }
     ensures joined { IfOk result (λ p. KeepsRows expr.now p) }
     ensures over { IfOk result (λ p. AreOver expr.now.scope p) }
+    ensures again { IfOk result (λ p. RowPartsPartable p) }
 {
     let _typed = expr.dtype();
     match (expr.uses_row_idx(), uses_root(expr)) {

@@ -5,7 +5,10 @@ ghost use Rattle.scan_values.specs.Marked.{Marked};
 ghost use Rattle.scan_expr.specs.Infer.{struct_fields, infer};
 ghost use Rattle.scan_expr.specs.Bound.{Bound};
 ghost use Rattle.scan_partition.specs.Items.{IsExpanded};
-ghost use Rattle.scan_partition.specs.Conditions.{IsOverStruct};
+ghost use Rattle.scan_partition.specs.Conditions.{IsStruct};
+ghost use Rattle.scan_partition.specs.Partable.{IsPartable, ArePartable, PartsPartable};
+ghost use Rattle.scan_partition.specs.Had.{AreItemsOf, HasItems, ReadsItemsOf};
+ghost use Rattle.scan_partition.specs.Unnumbered.{IsUnnumbered, DividedUnnumbered, SplitUnnumbered};
 ghost use Rattle.scan_partition.specs.Divided.{divided, kept, stepped, type_of_part};
 ghost use Rattle.scan_partition.specs.Dividing.{GroupsFit};
 ghost use Rattle.scan_partition.specs.Expand.{expand};
@@ -63,10 +66,14 @@ fn several(alloc: Global, expanded: &BoundExpression) -> Result<Partitioned, NoM
 /// what uses none stays in the root. Evaluated on one value of the struct, the root over the parts gives the
 /// expression's value.
 pub fn partition(alloc: Global, expr: &BoundExpression) -> Result<PartitionedExpr, NoMemory>
-    requires over { IsOverStruct expr.now }
+    requires structure { IsStruct expr.now.scope }
+    requires partable { IsPartable expr.now }
     requires expanded { IsExpanded expr.now.expr }
     ensures exact { IfOk result (λ p. p ≡ divided (kept expr.now.scope) expr.now.expr) }
     ensures joined { IfOk result (λ p. KeptJoins expr.now p) }
+    ensures again { IfOk result (λ p. ArePartable p.parts) }
+    ensures items { IfOk result (λ p. ReadsItemsOf expr.now.scope expr.now.expr → AreItemsOf expr.now.scope p.items) }
+    ensures numbers { IfOk result (λ p. IsUnnumbered expr.now → DividedUnnumbered p) }
 {
     let _typed = expr.dtype();
     divide(alloc, Parting::Kept, expr)
@@ -74,7 +81,8 @@ pub fn partition(alloc: Global, expr: &BoundExpression) -> Result<PartitionedExp
 
 /// An expression over a struct, by the items that it uses.
 fn by_items(alloc: Global, expr: &BoundExpression) -> Result<Partitioned, NoMemory>
-    requires { IsOverStruct expr.now }
+    requires structure { IsStruct expr.now.scope }
+    requires partable { IsPartable expr.now }
     ensures exact { IfOk result (λ p. p ≡ split_by_items expr.now.scope (expand expr.now.scope expr.now.expr)) }
     ensures joined { IfOk result (λ p. KeepsWhole expr.now p) }
 {
@@ -91,9 +99,13 @@ fn by_items(alloc: Global, expr: &BoundExpression) -> Result<Partitioned, NoMemo
 /// part over its item. Whatever is read of the fields where the struct is null or lost, the chosen fields, or the
 /// parts joined by the root, give the expression's value, and its dtype.
 pub fn partition_struct(alloc: Global, expr: &BoundExpression) -> Result<Partitioned, NoMemory>
-    requires { IsOverStruct expr.now }
+    requires structure { IsStruct expr.now.scope }
+    requires partable { IsPartable expr.now }
     ensures exact { IfOk result (λ p. p ≡ split expr.now.scope expr.now.expr) }
     ensures joined { IfOk result (λ p. KeepsWhole expr.now p) }
+    ensures again { IfOk result (λ p. PartsPartable p) }
+    ensures items { IfOk result (λ p. HasItems expr.now.scope p) }
+    ensures numbers { IfOk result (λ p. IsUnnumbered expr.now → SplitUnnumbered p) }
 {
     match direct_projection(alloc, expr)? {
         Some(projection) => Ok(Partitioned::Direct(projection)),

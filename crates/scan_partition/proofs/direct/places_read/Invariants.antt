@@ -7,4 +7,4 @@ use Rattle.scan_partition.proofs.direct.places_read.Given as goal
 
 abbrev pub invariant-loop-part : goal.invariant-loop-part
 invariant-loop-part l =
-    option_map (λ js. l.places.items ++ js) (read_places (struct_fields l.scope) (exprs_of (drop l.part-index l.parts))) ≡ read_places (struct_fields l.scope) (exprs_of l.parts)
+    option_map (λ js. l.read.items ++ js) (read_places (struct_fields l.scope) (exprs_of (drop l.part-index l.parts))) ≡ read_places (struct_fields l.scope) (exprs_of l.parts)

@@ -15,7 +15,7 @@ pub struct_within-requires-clause-shallow : goal.struct_within-requires-clause-s
 struct_within-requires-clause-shallow c =
     let e = c.args.expr.now.expr in
     let s = c.args.expr.now.scope in
-    let found = found_cuts e c.new-found.result.items _ c.deref.result.now c.new-found.ensures.items c.in_ok-add_cuts.ensures c.deref.ensures.value in
+    let found = found_cuts e c.new-found.result.items _ c.deref.result.now c.new-found.ensures.items c.in_ok-add_cuts.ensures.cuts c.deref.ensures.value in
     let groups : map group_seen c.deref-2.result.now ≡ groups_of (cuts e) = ap (map group_seen) c.deref-2.ensures.value ∙ c.in_ok-plan.ensures.groups ∙ ap groups_of found in
     subst (λ (fs : Fields). fields_depth fs ≤ 65)
     (sym (assembled c.args.how s c.shared_scope.result.now.value e _ _ _ c.shared_scope.ensures groups c.in_ok-pieces.ensures.names c.in_ok-pieces.ensures.dtypes))
@@ -25,7 +25,7 @@ pub plant-requires : goal.plant-requires
 plant-requires c =
     let e = c.args.expr.now.expr in
     let s = c.args.expr.now.scope in
-    let found = found_cuts e c.new-found.result.items _ c.deref.result.now c.new-found.ensures.items c.in_ok-add_cuts.ensures c.deref.ensures.value in
+    let found = found_cuts e c.new-found.result.items _ c.deref.result.now c.new-found.ensures.items c.in_ok-add_cuts.ensures.cuts c.deref.ensures.value in
     let small : length c.deref.result.now < 2 ^ 64 = omega arith in
     let groups : map group_seen c.deref-2.result.now ≡ groups_of (cuts e) = ap (map group_seen) c.deref-2.ensures.value ∙ c.in_ok-plan.ensures.groups ∙ ap groups_of found in
     let scope : c.in_ok-scope.scope.value ≡ joined_type (type_of_part (parting c.args.how s)) (cuts e) =
@@ -43,7 +43,7 @@ pub returns-clause-exact : goal.returns-clause-exact
 returns-clause-exact c =
     let e = c.args.expr.now.expr in
     let s = c.args.expr.now.scope in
-    let found = found_cuts e c.new-found.result.items _ c.deref.result.now c.new-found.ensures.items c.in_ok-add_cuts.ensures c.deref.ensures.value in
+    let found = found_cuts e c.new-found.result.items _ c.deref.result.now c.new-found.ensures.items c.in_ok-add_cuts.ensures.cuts c.deref.ensures.value in
     let small : length c.deref.result.now < 2 ^ 64 = omega arith in
     let groups : map group_seen c.deref-2.result.now ≡ groups_of (cuts e) = ap (map group_seen) c.deref-2.ensures.value ∙ c.in_ok-plan.ensures.groups ∙ ap groups_of found in
     let scope : c.in_ok-scope.scope.value ≡ joined_type (type_of_part (parting c.args.how s)) (cuts e) =
@@ -56,6 +56,6 @@ returns-clause-exact c =
 pub returns-clause-few : goal.returns-clause-few
 returns-clause-few c =
     let e = c.args.expr.now.expr in
-    let found = found_cuts e c.new-found.result.items _ c.deref.result.now c.new-found.ensures.items c.in_ok-add_cuts.ensures c.deref.ensures.value in
+    let found = found_cuts e c.new-found.result.items _ c.deref.result.now c.new-found.ensures.items c.in_ok-add_cuts.ensures.cuts c.deref.ensures.value in
     let small : length c.deref.result.now < 2 ^ 64 = omega arith in
     few_cuts e c.deref.result.now found small

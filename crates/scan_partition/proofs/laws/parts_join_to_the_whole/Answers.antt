@@ -7,6 +7,7 @@ use Rattle.scan_values.specs.DataType.{struct_type}
 use Rattle.scan_partition.specs.Partition.{cuts}
 use Rattle.scan_partition.specs.Expand.{expand}
 use Rattle.scan_partition.specs.Rows.{item_type}
+use Rattle.scan_partition.proofs.Joins.{parts_join}
 use Rattle.scan_partition.proofs.laws.parts_join_to_the_whole.Goals as goal
 
 pub returns-clause-several : goal.returns-clause-several
@@ -18,3 +19,6 @@ pub returns-clause-one : goal.returns-clause-one
 returns-clause-one c = λ fs n e v w k i a u.
     let h = step_into-through (λ j. (item_type fs j, w j)) k i (expand (struct_type fs n) e) (expand-expanded (struct_type fs n) e) (subst (AtMost i) (sym u) refl) ∙ expand_seen fs w k n v a.distinct a.row a.read e in
     (ap (λ x. x.0) h, ap (λ x. x.1) h)
+
+pub returns-clause-rows : goal.returns-clause-rows
+returns-clause-rows c = parts_join
