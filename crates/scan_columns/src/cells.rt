@@ -1,0 +1,221 @@
+// The cells of a column, by kind.
+ghost use Rattle.std.specs.Prelude.{◌≡◌, ◌<◌, ◌≤◌, ◌++◌, IfOk, Some, map, length, slice_get, slice_range};
+ghost use Rattle.std.specs.List.{items_where_true};
+ghost use Rattle.scan_values.specs.Values.{val_of};
+ghost use Rattle.scan_values.specs.Val.{marked};
+ghost use Rattle.scan_values.specs.Marked.{is_true};
+ghost use Rattle.scan_values.specs.Masks.{null_where_false};
+ghost use Rattle.scan_expr.specs.Eval.{is_nothing};
+ghost use Rattle.scan_columns.specs.Compared.{compare_val};
+ghost use Rattle.scan_expr.specs.Lending.{lent_val};
+ghost use Rattle.scan_columns.specs.Cells.{vals_in};
+
+use crate::bools::{Bools, bools_of};
+use crate::compared::is_null;
+use crate::constant::Constant;
+use crate::ints::{Ints, ints_of};
+use crate::values::{appended, compared_values, copied, kept_values, masked_values};
+use scan_expr::{Binary, Lent};
+use scan_values::{DType, Mask, NoMemory, Value, Values};
+use std::alloc::Global;
+use std::ops::Range;
+
+/// Cells, kept by kind.
+#[derive(Drop)]
+pub enum Cells {
+    Ints(Ints),
+    Bools(Bools),
+    Values(Values),
+    Constant(Constant),
+}
+
+impl Cells {
+    /// Values of a dtype: integers as numbers, truth values as bits, anything else as values.
+    pub fn of_values(alloc: Global, dtype: &DType, values: Vec<Value>) -> Result<Cells, NoMemory>
+        ensures { IfOk result (λ c. vals_in c ≡ map val_of values.items) }
+    {
+        if dtype.as_ptype_opt().is_some() {
+            if let Some(ints) = ints_of(alloc, values.as_slice())? {
+                return Ok(Cells::Ints(ints));
+            }
+        }
+        if dtype.is_bool() {
+            if let Some(bools) = bools_of(alloc, values.as_slice())? {
+                return Ok(Cells::Bools(bools));
+            }
+        }
+        Ok(Cells::Values(Values::new(values)))
+    }
+
+    /// How many.
+    pub fn len(&self) -> usize
+        ensures { result ≡ length (vals_in self.now) }
+    {
+        match self {
+            Cells::Ints(ints) => ints.len(),
+            Cells::Bools(bools) => bools.len(),
+            Cells::Values(values) => values.len(),
+            Cells::Constant(constant) => constant.len(),
+        }
+    }
+
+    /// The value at a place, lent or made.
+    pub fn lent<'a>(&'a self, i: usize) -> Lent<'a>
+        requires { i < length (vals_in self.now) }
+        ensures { Some (lent_val result) ≡ slice_get (vals_in self.entry.now) i }
+    {
+        match self {
+            Cells::Ints(ints) => Lent::Made(ints.value(i)),
+            Cells::Bools(bools) => Lent::Made(bools.value(i)),
+            Cells::Values(values) => Lent::Held(&values.as_slice()[i]),
+            Cells::Constant(constant) => Lent::Held(constant.value(i)),
+        }
+    }
+
+    /// The values, moved where they are kept as such.
+    pub fn into_values(self, alloc: Global) -> Result<Vec<Value>, NoMemory>
+        ensures { IfOk result (λ v. map val_of v.items ≡ vals_in self) }
+    {
+        match self {
+            Cells::Ints(ints) => ints.to_values(alloc),
+            Cells::Bools(bools) => bools.to_values(alloc),
+            Cells::Values(values) => Ok(values.into_vec()),
+            Cells::Constant(constant) => constant.to_values(alloc),
+        }
+    }
+
+    /// Those at which the mask is true.
+    pub fn filter(&self, alloc: Global, m: &Mask) -> Result<Cells, NoMemory>
+        requires { length m.now ≡ length (vals_in self.now) }
+        ensures { IfOk result (λ c. vals_in c ≡ items_where_true m.now (vals_in self.now)) }
+    {
+        match self {
+            Cells::Ints(ints) => Ok(Cells::Ints(ints.filter(alloc, m)?)),
+            Cells::Bools(bools) => Ok(Cells::Bools(bools.filter(alloc, m)?)),
+            Cells::Values(values) => {
+                let made = kept_values(alloc, values.as_slice(), m)?;
+                Ok(Cells::Values(Values::new(made)))
+            }
+            Cells::Constant(constant) => Ok(Cells::Constant(constant.filter(alloc, m)?)),
+        }
+    }
+
+    /// These, null where the mask is false.
+    pub fn mask(&self, alloc: Global, m: &Mask) -> Result<Cells, NoMemory>
+        requires { length m.now ≡ length (vals_in self.now) }
+        ensures { IfOk result (λ c. vals_in c ≡ null_where_false m.now (vals_in self.now)) }
+    {
+        match self {
+            Cells::Ints(ints) => Ok(Cells::Ints(ints.mask(alloc, m)?)),
+            Cells::Bools(bools) => Ok(Cells::Bools(bools.mask(alloc, m)?)),
+            Cells::Values(values) => {
+                let made = masked_values(alloc, values.as_slice(), m)?;
+                Ok(Cells::Values(Values::new(made)))
+            }
+            Cells::Constant(constant) => {
+                let values = constant.to_values(alloc)?;
+                let made = masked_values(alloc, values.as_slice(), m)?;
+                Ok(Cells::Values(Values::new(made)))
+            }
+        }
+    }
+
+    /// Those of a range of places.
+    pub fn slice(&self, alloc: Global, r: Range<usize>) -> Result<Cells, NoMemory>
+        requires ordered { r.start ≤ r.end }
+        requires within { r.end ≤ length (vals_in self.now) }
+        ensures { IfOk result (λ c. vals_in c ≡ slice_range (vals_in self.now) r.start r.end) }
+    {
+        match self {
+            Cells::Ints(ints) => Ok(Cells::Ints(ints.slice(alloc, r)?)),
+            Cells::Bools(bools) => Ok(Cells::Bools(bools.slice(alloc, r)?)),
+            Cells::Values(values) => {
+                let made = copied(alloc, values.as_slice(), r)?;
+                Ok(Cells::Values(Values::new(made)))
+            }
+            Cells::Constant(constant) => Ok(Cells::Constant(constant.slice(alloc, r)?)),
+        }
+    }
+
+    /// These, and then the others: of one kind as that kind, else as values.
+    pub fn append(self, alloc: Global, other: Cells) -> Result<Cells, NoMemory>
+        ensures { IfOk result (λ c. vals_in c ≡ vals_in self ++ vals_in other) }
+    {
+        match (self, other) {
+            (Cells::Ints(ints), Cells::Ints(others)) => Ok(Cells::Ints(ints.append(&others)?)),
+            (Cells::Bools(bools), Cells::Bools(others)) => Ok(Cells::Bools(bools.append(&others)?)),
+            (first, second) => {
+                let values = first.into_values(alloc)?;
+                let others = second.into_values(alloc)?;
+                let made = appended(values, others)?;
+                Ok(Cells::Values(Values::new(made)))
+            }
+        }
+    }
+
+    /// A copy that equals this one.
+    pub fn try_clone(&self, alloc: Global) -> Result<Cells, NoMemory>
+        ensures { IfOk result (λ c. vals_in c ≡ vals_in self.now) }
+    {
+        match self {
+            Cells::Ints(ints) => Ok(Cells::Ints(ints.try_clone(alloc)?)),
+            Cells::Bools(bools) => Ok(Cells::Bools(bools.try_clone(alloc)?)),
+            Cells::Values(values) => Ok(Cells::Values(values.try_clone(alloc)?)),
+            Cells::Constant(constant) => Ok(Cells::Constant(constant.try_clone(alloc)?)),
+        }
+    }
+
+    /// Of each whether it compares so with a number.
+    pub fn compare(&self, alloc: Global, op: Binary, literal: i128) -> Result<Cells, NoMemory>
+        ensures { IfOk result (λ c. vals_in c ≡ map (compare_val op literal) (vals_in self.now)) }
+    {
+        match self {
+            Cells::Ints(ints) => Ok(Cells::Bools(ints.compare(alloc, op, literal)?)),
+            Cells::Bools(bools) => {
+                let values = bools.to_values(alloc)?;
+                let made = compared_values(alloc, op, values.as_slice(), literal)?;
+                Ok(Cells::Values(Values::new(made)))
+            }
+            Cells::Values(values) => {
+                let made = compared_values(alloc, op, values.as_slice(), literal)?;
+                Ok(Cells::Values(Values::new(made)))
+            }
+            Cells::Constant(constant) => Ok(Cells::Constant(constant.compare(op, literal))),
+        }
+    }
+
+    /// Where the value is true.
+    pub fn truths(&self, alloc: Global) -> Result<Mask, NoMemory>
+        ensures { IfOk result (λ m. m ≡ map (λ v. is_true (marked v)) (vals_in self.now)) }
+    {
+        match self {
+            Cells::Bools(bools) => bools.truths(alloc),
+            _ => {
+                let mut bits = Vec::with_capacity(alloc, self.len())?;
+                for i in 0..self.len() {
+                    bits.push(self.lent(i).as_value().is_true())?;
+                }
+                Ok(Mask::from_bools(bits))
+            }
+        }
+    }
+
+    /// Where there is no value.
+    pub fn nulls(&self, alloc: Global) -> Result<Mask, NoMemory>
+        ensures { IfOk result (λ m. m ≡ map (λ v. is_nothing (marked v)) (vals_in self.now)) }
+    {
+        match self {
+            Cells::Ints(ints) => ints.nulls(alloc),
+            Cells::Bools(bools) => bools.nulls(alloc),
+            Cells::Constant(constant) => constant.nulls(alloc),
+            Cells::Values(values) => {
+                let items = values.as_slice();
+                let mut bits = Vec::with_capacity(alloc, items.len())?;
+                for value in items {
+                    bits.push(is_null(value))?;
+                }
+                Ok(Mask::from_bools(bits))
+            }
+        }
+    }
+}
