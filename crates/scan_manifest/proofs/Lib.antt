@@ -1,0 +1,4 @@
+pub mod Lists
+pub mod Levels
+pub mod Manifests
+pub mod CallerLemmas

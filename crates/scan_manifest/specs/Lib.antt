@@ -1,0 +1,9 @@
+pub mod Forms
+pub mod Parse
+pub mod Json
+pub mod DTypes
+pub mod Layouts
+pub mod Exprs
+pub mod CacheSize
+pub mod FileCode
+pub mod Manifest
