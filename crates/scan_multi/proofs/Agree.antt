@@ -7,8 +7,9 @@ use Rattle.scan_values.specs.Val.{Val}
 use Rattle.scan_segments.specs.Source.{Store}
 use Rattle.scan_layout.specs.Layout.{Layout, dtype_of}
 use Rattle.scan_layout.specs.Spelling.{decode}
-use Rattle.scan_layout.specs.Touched.{Place}
-use Rattle.scan_multi.specs.Columns.{segment_values, both, column, segment_places, leaf_places, chosen_places, segments_of, IsFound, AreFound}
+use Rattle.scan_layout.specs.declared.spelling.Spelling.{Spelling}
+use Rattle.scan_layout.specs.Places.{Place, place_of, decoded}
+use Rattle.scan_multi.specs.Columns.{segment_values, both, column, segment_places, leaf_places, chosen_places, spelling_of, segments_of, IsFound, AreFound}
 use Rattle.scan_multi.specs.FileScan.{ids_of, SameAt}
 use Rattle.scan_multi.specs.Places.{HasBad, IsIdOf}
 use Rattle.scan_multi.proofs.Members.{In, In-from, In-to, In-left, In-right, In-map}
@@ -27,21 +28,25 @@ place_id places p h = In-to p.id (ids_of places) (In-map (λ (q : Place). q.id) 
 abbrev Same : Store → Store → List Place → Type 0
 Same a b places = (p : Place) → In p places → a p.id ≡ b p.id
 
-same-values : (a b : Store) (t : DataType) (s : ℕ × ℕ) → Same a b (segment_places t s) → segment_values a t s ≡ segment_values b t s
-same-values a b t s h = go (s.1 == 0) h where
-  go : (z : Bool) → Same a b (cond z [] (record { path = []; dtype = t; rows = s.1; id = s.0 } ∷ [])) → cond z (Some []) (option_and_then (decode t s.1) (a s.0)) ≡ cond z (Some []) (option_and_then (decode t s.1) (b s.0))
+-- they decode the same there
+same-decoded : (a b : Store) (p : Place) → a p.id ≡ b p.id → decoded a p ≡ decoded b p
+same-decoded a b p h = ap (option_and_then (decode p.spelling p.dtype p.rows)) h
+
+same-values : (a b : Store) (t : DataType) (y : Spelling) (s : ℕ × ℕ) → Same a b (segment_places t y s) → segment_values a t y s ≡ segment_values b t y s
+same-values a b t y s h = go (s.1 == 0) h where
+  go : (z : Bool) → Same a b (cond z [] (place_of t y s ∷ [])) → cond z (Some []) (decoded a (place_of t y s)) ≡ cond z (Some []) (decoded b (place_of t y s))
   go true h = refl
-  go false h = ap (option_and_then (decode t s.1)) (h (record { path = []; dtype = t; rows = s.1; id = s.0 }) (inl refl))
+  go false h = same-decoded a b (place_of t y s) (h (place_of t y s) (inl refl))
 
-same-column : (a b : Store) (t : DataType) (segments : List (ℕ × ℕ)) → Same a b (leaf_places t segments) → column a t segments ≡ column b t segments
-same-column a b t [] h = refl
-same-column a b t (s ∷ rest) h =
-    ap (λ v. both v (column a t rest)) (same-values a b t s (λ p m. h p (In-left p (segment_places t s) (leaf_places t rest) m)))
-    ∙ ap (both (segment_values b t s)) (same-column a b t rest (λ p m. h p (In-right p (segment_places t s) (leaf_places t rest) m)))
+same-column : (a b : Store) (t : DataType) (y : Spelling) (segments : List (ℕ × ℕ)) → Same a b (leaf_places t y segments) → column a t y segments ≡ column b t y segments
+same-column a b t y [] h = refl
+same-column a b t y (s ∷ rest) h =
+    ap (λ v. both v (column a t y rest)) (same-values a b t y s (λ p m. h p (In-left p (segment_places t y s) (leaf_places t y rest) m)))
+    ∙ ap (both (segment_values b t y s)) (same-column a b t y rest (λ p m. h p (In-right p (segment_places t y s) (leaf_places t y rest) m)))
 
-same-found : (a b : Store) (l : Layout) (flag : Bool) (c : Option (List Val)) → Same a b (cond flag (leaf_places (dtype_of l) (segments_of l)) []) → IsFound (Some a) l flag c → IsFound (Some b) l flag c
+same-found : (a b : Store) (l : Layout) (flag : Bool) (c : Option (List Val)) → Same a b (cond flag (leaf_places (dtype_of l) (spelling_of l) (segments_of l)) []) → IsFound (Some a) l flag c → IsFound (Some b) l flag c
 same-found a b l true None h f = f
-same-found a b l true (Some vs) h f = record { told = sym (same-column a b (dtype_of l) (segments_of l) h) ∙ f.told; count = f.count; fit = f.fit }
+same-found a b l true (Some vs) h f = record { told = sym (same-column a b (dtype_of l) (spelling_of l) (segments_of l) h) ∙ f.told; count = f.count; fit = f.fit }
 same-found a b l false None h f = f
 same-found a b l false (Some vs) h f = f
 
@@ -51,15 +56,15 @@ untold-found a l true (Some vs) f = record { told = tt; count = f.count; fit = f
 untold-found a l false None f = f
 untold-found a l false (Some vs) f = f
 
-each-found : (holds now : Option Store) (ls : List Layout) (flags : List Bool) (cs : List (Option (List Val))) → ((l : Layout) (flag : Bool) (c : Option (List Val)) → ((p : Place) → In p (cond flag (leaf_places (dtype_of l) (segments_of l)) []) → In p (chosen_places ls flags)) → IsFound holds l flag c → IsFound now l flag c) → AreFound holds ls flags cs → AreFound now ls flags cs
+each-found : (holds now : Option Store) (ls : List Layout) (flags : List Bool) (cs : List (Option (List Val))) → ((l : Layout) (flag : Bool) (c : Option (List Val)) → ((p : Place) → In p (cond flag (leaf_places (dtype_of l) (spelling_of l) (segments_of l)) []) → In p (chosen_places ls flags)) → IsFound holds l flag c → IsFound now l flag c) → AreFound holds ls flags cs → AreFound now ls flags cs
 each-found holds now [] [] [] f h = tt
 each-found holds now [] [] (c ∷ cs) f h = h
 each-found holds now [] (x ∷ flags) cs f h = h
 each-found holds now (l ∷ ls) [] cs f h = h
 each-found holds now (l ∷ ls) (x ∷ flags) [] f h = h
 each-found holds now (l ∷ ls) (x ∷ flags) (c ∷ cs) f h = (
-  f l x c (λ p m. In-left p (cond x (leaf_places (dtype_of l) (segments_of l)) []) (chosen_places ls flags) m) h.0,
-  each-found holds now ls flags cs (λ k y z among. f k y z (λ p m. In-right p (cond x (leaf_places (dtype_of l) (segments_of l)) []) (chosen_places ls flags) (among p m))) h.1,
+  f l x c (λ p m. In-left p (cond x (leaf_places (dtype_of l) (spelling_of l) (segments_of l)) []) (chosen_places ls flags) m) h.0,
+  each-found holds now ls flags cs (λ k y z among. f k y z (λ p m. In-right p (cond x (leaf_places (dtype_of l) (spelling_of l) (segments_of l)) []) (chosen_places ls flags) (among p m))) h.1,
 )
 
 -- columns of what came are those of a store that has the same
@@ -76,5 +81,5 @@ bad_as_held came (Some store) places id same h = record {
   place = h.place;
   among = h.among;
   is = h.is;
-  bad = ap (option_and_then (decode h.place.dtype h.place.rows)) (sym (All-contains (λ i. came i ≡ store i) (ids_of places) h.place.id same (place_id places h.place h.among))) ∙ h.bad;
+  bad = sym (same-decoded came store h.place (All-contains (λ i. came i ≡ store i) (ids_of places) h.place.id same (place_id places h.place h.among))) ∙ h.bad;
 }

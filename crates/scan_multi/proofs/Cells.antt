@@ -4,7 +4,7 @@ use Rattle.std.specs.Prelude.{◌⊎◌, ◌&&◌, Option, None, Some, IfSome, c
 use Rattle.std.specs.List.{range_with_len}
 use Rattle.scan_values.specs.DataType.{DataType, Name, Fields, no_fields, field}
 use Rattle.scan_values.specs.FieldLists.{dtype_named}
-use Rattle.scan_values.specs.Marked.{Markeds, more}
+use Rattle.scan_values.specs.Marked.{Marked, Markeds, more}
 use Rattle.scan_values.specs.Val.{Val, null_val, vals_of, marked, marked_all}
 use Rattle.scan_values.specs.Fits.{fits, fits_all, fits_fields}
 use Rattle.scan_expr.specs.declared.op.Unary.TheVariants.{GetItem, Select, Exclude, Not, IsNull, IsNotNull, ListLength}
@@ -12,11 +12,12 @@ use Rattle.scan_expr.specs.Expr.{Expr, root, row_index, literal, unary, binary, 
 use Rattle.scan_expr.specs.Infer.{chosen, field_type}
 use Rattle.scan_expr.specs.Typing.{has_field, have_fields}
 use Rattle.scan_expr.specs.Eval.{pick, pick_all}
+use Rattle.scan_expr.specs.Overflow.{overflows}
 use Rattle.scan_segments.specs.Source.{Store}
 use Rattle.scan_layout.specs.Layout.{Layout, Nodes, no_nodes, child, dtype_of}
 use Rattle.scan_layout.specs.Check.{total_rows}
 use Rattle.scan_layout.specs.RowValue.{row_value, row_values}
-use Rattle.scan_multi.specs.Columns.{nodes_in, segments_of, column, IsColumn, IsFound, AreFound, HasRow, value_in, cell_of}
+use Rattle.scan_multi.specs.Columns.{nodes_in, spelling_of, segments_of, column, IsColumn, IsFound, AreFound, HasRow, value_in, cell_of}
 use Rattle.scan_multi.specs.Choice.{field_place, field_count}
 use Rattle.scan_multi.specs.Served.{is_choice}
 use Rattle.scan_multi.proofs.Members.{In}
@@ -32,7 +33,7 @@ and-true false b p q = cc
 pub record FoundAt (holds : Option Store) (l : Layout) (c : Option (List Val)) : Type 0 where
   pub values : List Val
   pub is : c ≡ Some values
-  pub column : IsColumn holds (dtype_of l) (segments_of l) values
+  pub column : IsColumn holds (dtype_of l) (spelling_of l) (segments_of l) values
 
 found-one : (holds : Option Store) (l : Layout) (flag : Bool) (c : Option (List Val)) → flag ≡ true → IsFound holds l flag c → FoundAt holds l c
 found-one holds l true None e h = absurd h
@@ -53,11 +54,11 @@ pub record CellFacts (holds : Option Store) (t : DataType) (k : Layout) (found :
   pub fit : fits (marked (cell_of found i p)) t ≡ true
   pub told : IfSome holds (λ store. row_value k store i ≡ marked (cell_of found i p))
 
-pub cell-told : (holds : Option Store) (t : DataType) (rows : ℕ) (k : Layout) (values : List Val) (i : ℕ) → PlainKid t rows k → IfSome holds (λ store. column store (dtype_of k) (segments_of k) ≡ Some values) → i < length values → IfSome holds (λ store. row_value k store i ≡ marked (get_or values i null_val))
+pub cell-told : (holds : Option Store) (t : DataType) (rows : ℕ) (k : Layout) (values : List Val) (i : ℕ) → PlainKid t rows k → IfSome holds (λ store. column store (dtype_of k) (spelling_of k) (segments_of k) ≡ Some values) → i < length values → IfSome holds (λ store. row_value k store i ≡ marked (get_or values i null_val))
 cell-told None t rows k values i kid h lt = tt
 cell-told (Some store) t rows k values i kid h lt =
-    let e : column store t kid.segments ≡ Some values = subst (λ z. column store (dtype_of z) (segments_of z) ≡ Some values) kid.is h in
-    ap (λ z. row_value z store i) kid.is ∙ leaf-column store t kid.segments values e i lt
+    let e : column store t kid.spelling kid.segments ≡ Some values = subst (λ z. column store (dtype_of z) (spelling_of z) (segments_of z) ≡ Some values) kid.is h in
+    ap (λ z. row_value z store i) kid.is ∙ leaf-column store t kid.spelling kid.segments values e i lt
 
 pub cell-facts : (holds : Option Store) (t : DataType) (rows : ℕ) (k : Layout) (found : List (Option (List Val))) (i p : ℕ) → PlainKid t rows k → FoundAt holds k (get_or found p None) → i < rows → CellFacts holds t k found i p
 cell-facts holds t rows k found i p kid at lt =
@@ -93,6 +94,11 @@ chooses (unary u (literal d v)) h = cc
 chooses (unary u (unary w e)) h = cc
 chooses (unary u (binary b x y)) h = cc
 chooses (unary u (pack ps n)) h = cc
+
+-- no sum stands in it
+pub calm : (d : DataType) (e : Expr) (v : Marked) (i : ℕ) → Chooses e → overflows d e v i ≡ false
+calm d e v i (inl is) = ap (λ x. overflows d x v i) is
+calm d e v i (inr (names, is)) = ap (λ x. overflows d x v i) is
 
 pub have-each : (names : List Name) (fs : Fields) → have_fields names fs ≡ true → (n : Name) → In n names → IsTrue (has_field n fs)
 have-each [] fs h n m = absurd m

@@ -45,6 +45,7 @@ fault-names d l file (fault.RowRange f) h = absurd h
 fault-names d l file (fault.Corrupt place id) h = absurd h
 fault-names d l file (fault.TooManyRows place) h = absurd h
 fault-names d l file fault.Concurrency h = absurd h
+fault-names d l file (fault.Overflow place) h = absurd h
 fault-names d l file fault.NotBuilt h = absurd h
 
 pub read-skip : (d : DataType) (gives : Option Given) → IfSome gives (λ g. g ≡ skip) → IfSome gives (IsSkippedOrRead d)

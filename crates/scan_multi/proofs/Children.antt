@@ -9,7 +9,7 @@ use Rattle.scan_values.specs.Val.{Val}
 use Rattle.scan_segments.specs.Source.{Store}
 use Rattle.scan_layout.specs.Layout.{Layout}
 use Rattle.scan_layout.specs.LayoutView.{layouts_of}
-use Rattle.scan_layout.specs.Touched.{Place}
+use Rattle.scan_layout.specs.Places.{Place}
 use Rattle.scan_multi.specs.Columns.{child_places, chosen_places, IsFound, AreFound}
 
 pub nodes-length : (rs : List (Rc Layout Global)) → length (layouts_of rs) ≡ length rs

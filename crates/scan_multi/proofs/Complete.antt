@@ -14,11 +14,12 @@ use Rattle.scan_layout.specs.Check.{first_fault}
 use Rattle.scan_multi.specs.Opener.{OpenerState, Given, skip, layout_of}
 use Rattle.scan_multi.specs.Answer.{ToldFile, is_within}
 use Rattle.scan_multi.specs.Named.{named_places}
+use Rattle.scan_multi.specs.Overflow.{OverflowsIn}
 use Rattle.scan_multi.specs.Places.{HasBad}
 use Rattle.scan_multi.specs.Traffic.{Trusts}
 use Rattle.scan_multi.specs.Served.{is_built, of_bind, early_fault, first_request_fault}
 use Rattle.scan_multi.specs.Causes.{IfTold, IsOfOtherType, IsIllFormed, told, told_file, IsLawful, HasCause}
-use Rattle.scan_multi.specs.Valid.{IsGood, IsSound, IsValid, NoneRose}
+use Rattle.scan_multi.specs.Valid.{IsGood, IsSound, NeverOverflows, IsValid, NoneRose}
 use Rattle.scan_multi.specs.declared.scan.files.ScanFile.{ScanFile}
 use Rattle.scan_multi.specs.declared.scan.files.ScanFault.{ScanFault}
 use Rattle.scan_multi.specs.declared.scan.files.ScanFault.TheVariants as fault
@@ -57,6 +58,13 @@ whole d q None holds id s t h sound = cc
 whole d q (Some g) None id s t h sound = cc
 whole d q (Some g) (Some store) id s t h sound = sound h.place h.among h.bad
 
+-- and nothing overflows
+calm : (d : DataType) (q : ScanRequest) (gives : Option Given) (holds : Option Store) → IsSome gives → IsSome holds → IfTold gives holds (OverflowsIn d q)
+    → NeverOverflows d q (record { given = unwrap_or gives skip; store = unwrap_or holds (λ i. None) }) → ⊥
+calm d q None holds s t h never = cc
+calm d q (Some g) None s t h never = cc
+calm d q (Some g) (Some store) s t h never = never h
+
 some : {A : Type 0} (xs : List A) (k : ℕ) → k < length xs → (A → ⊥) → ⊥
 some [] k lt h = absurd (omega arith)
 some (x ∷ xs) k lt h = h x
@@ -88,4 +96,6 @@ module _ {O S : Type 0} (opener : O → OpenerState) (source : S → SourceState
     go (fault.Layout place g) at =
         absurd (some old _ at.there (λ f. formed d q g (opener (get_or old place f).opener).gives (lawful.tells place f at.there).gives ((at.cause f).0) (told-at (λ t. IsGood d q t.given) valid.good place f at.there)))
     go (fault.TooManyRows place) h = absurd h
+    go (fault.Overflow place) at =
+        absurd (some old _ at.there (λ f. calm d q (opener (get_or old place f).opener).gives (source (get_or old place f).source).holds (lawful.tells place f at.there).gives (lawful.tells place f at.there).holds (at.cause f (trusts place f at.there)) (told-at (NeverOverflows d q) valid.no_overflow place f at.there)))
     go fault.Concurrency h = absurd h

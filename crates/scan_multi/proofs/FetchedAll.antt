@@ -6,7 +6,7 @@ use Rattle.std.proofs.lemmas.List.Elements.{All-weaker}
 use Rattle.std.proofs.lemmas.Bool.Decides.{nat_tests}
 use Rattle.std.proofs.Math.Nat.{le_refl}
 use Rattle.scan_segments.specs.Faults.{Rose}
-use Rattle.scan_segments.specs.Source.{SourceState, Store}
+use Rattle.scan_segments.specs.Source.{SourceState, Store, none_live}
 use Rattle.scan_segments.specs.Cache.{Entries, CacheState, Loses, Both}
 use Rattle.scan_segments.specs.Events.{missed_keys, found_keys, offered_keys, times, puts_follow_misses}
 use Rattle.scan_segments.specs.Sharing.{has}
@@ -196,7 +196,7 @@ pub failed-early : (name wants : List ℕ) (c d : Cache) (s t : SourceState) (he
 failed-early name wants c d s t held table h after asks = fetch-fault name wants c d d s t t after held table table asks h (none-taken name wants c d s t held table h) fault.NoMemory tt
 
 -- no want was looked up
-pub not-begun : (name wants : List ℕ) (c : Cache) (s : SourceState) → s.live ≡ [] → IsFetchFault name wants c c s s fault.NoMemory
+pub not-begun : (name wants : List ℕ) (c : Cache) (s : SourceState) → s.live ≡ none_live → IsFetchFault name wants c c s s fault.NoMemory
 not-begun name wants c s idle = failed-early name wants c c s s [] [] (none-held name wants c s [] refl) s (record { holds = refl; asked = sym (append-nil s.asked); live = idle; faults = le_refl s.faults; turns = le_refl s.turns })
 
 pub failed-late : {U : Type 0} (r : Result U FetchFault) (name name' wants : List ℕ) (c d e : Cache) (s t u : SourceState) (held held' : List Want) (table last : TableEntries) → name' ≡ name → held' ≡ held → Holds name wants c d s t held table → OnErr r (Receives name' held' [] d e t u last) → IfErr r (IsReceiptFault held' t u) → IfErr r (λ x. Afterwards u (λ after. IsFetchFault name wants c e s after x))

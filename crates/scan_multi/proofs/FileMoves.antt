@@ -1,6 +1,6 @@
 -- A file after calls of its opener and its source.
 use Rattle.std.proofs.Common.{◌≡◌, ℕ, List, [], ◌∷◌, ◌++◌, Bool, refl, sym, ap, ◌∙◌, arith, subst, map, append-nil}
-use Rattle.std.specs.Prelude.{Option, None, Some, IfSome, IsSome, Contains, cond, unwrap_or}
+use Rattle.std.specs.Prelude.{Option, None, Some, IfSome, IsSome, Contains, cond, ◌||◌, unwrap_or}
 use Rattle.std.specs.List.{flat_map, list_any, range_with_len}
 use Rattle.std.proofs.lemmas.List.Elements.{All-weaker, All-nil}
 use Rattle.scan_values.specs.DataType.{DataType, struct_type}
@@ -8,16 +8,18 @@ use Rattle.scan_values.specs.declared.ptype.Nullability.TheVariants.{NonNullable
 use Rattle.scan_values.specs.Selections.{picked_rows}
 use Rattle.scan_expr.specs.Bound.{Bound}
 use Rattle.scan_expr.specs.Eval.{eval}
-use Rattle.scan_expr.specs.Expr.{filter_conjuncts}
+use Rattle.scan_expr.specs.Overflow.{overflows}
+use Rattle.scan_expr.specs.Expr.{Expr, filter_conjuncts}
+use Rattle.scan_values.specs.Marked.{Marked}
 use Rattle.scan_expr.specs.Typing.{bind_fault}
 use Rattle.scan_expr.specs.declared.request.ScanRequest.{ScanRequest}
-use Rattle.scan_segments.specs.Source.{SourceState, Store}
+use Rattle.scan_segments.specs.Source.{SourceState, Store, none_live}
 use Rattle.scan_segments.specs.Cache.{CacheState}
 use Rattle.scan_segments.specs.declared.segment.SegmentKey.{SegmentKey}
 use Rattle.scan_layout.specs.Layout.{Layout, rows_of, kids_of}
 use Rattle.scan_layout.specs.Check.{first_fault}
 use Rattle.scan_layout.specs.RowValue.{row_value}
-use Rattle.scan_layout.specs.Touched.{Place}
+use Rattle.scan_layout.specs.Places.{Place}
 use Rattle.scan_multi.specs.Opener.{OpenerState, Given, skip, layout_of}
 use Rattle.scan_multi.specs.Opened.{Opens}
 use Rattle.scan_multi.specs.Fetch.{Fetches}
@@ -37,7 +39,7 @@ use Rattle.scan_multi.proofs.Members.{In}
 use Rattle.scan_multi.proofs.Agree.{id_of}
 use Rattle.scan_multi.proofs.Checked.{well_typed, told-layout}
 use Rattle.scan_multi.proofs.PlainForms.{plain_form}
-use Rattle.scan_multi.proofs.Cells.{chooses}
+use Rattle.scan_multi.proofs.Cells.{chooses, calm}
 use Rattle.scan_multi.proofs.Naming.{AllRows, all-rows, picked-all, good, Named', chosen-named, id-named, bad-named}
 
 -- ---- what a plan names
@@ -56,8 +58,11 @@ module _ (d : DataType) (request : ScanRequest) (b : Bound) (places : List ℕ) 
   -- ---- what it gives
   single : (file i : ℕ) (store : Store) → row_items d request file l store i ≡ row_item (record { scope = d; expr = request.projection }) file l store i ∷ []
   single file i store =
-      ap (λ o. map {B = Item} (λ v. record { file = file; row = i; value = v })
-      (let tests = map (λ e. eval d e (row_value l store i) i) (filter_conjuncts o) in cond (list_any drops tests) [] (finding tests (eval d request.projection (row_value l store i) i) ∷ []))) all.filter
+      let v : Marked = row_value l store i in
+      let spill : Option Expr → Bool = λ o. list_any (λ e. overflows d e v i) (filter_conjuncts o) || overflows d request.projection v i in
+      ap (λ o. map {B = Item} (λ x. record { file = file; row = i; value = x })
+      (let tests = map (λ e. eval d e v i) (filter_conjuncts o) in cond (list_any drops tests) [] (cond (spill o) None (finding tests (eval d request.projection v i)) ∷ []))) all.filter
+      ∙ ap (λ b. map {B = Item} (λ x. record { file = file; row = i; value = x }) (cond b None (finding [] (eval d request.projection v i)) ∷ [])) (calm d request.projection v i (chooses request.projection plan.choice))
 
   flat-one : {A B : Type 0} (f : A → List B) (g : A → B) (xs : List A) → ((x : A) → f x ≡ g x ∷ []) → flat_map f xs ≡ map g xs
   flat-one f g [] h = refl
@@ -103,7 +108,7 @@ module _ {O S : Type 0} (opener : O → OpenerState) (source : S → SourceState
   is-read None l e f = tt
   is-read (Some g) l e f = subst (IsRead d) (sym e) (well_typed l d f, f)
 
-  pub layout_moves : (old : ScanFile O S) (o : O) (s : S) (l : Layout) (name : List ℕ) (before after : CacheState SegmentKey) → Opens (opener old.opener) (opener o) → IfSome (opener old.opener).gives (λ g. g ≡ layout_of l) → first_fault l d ≡ None → (source old.source).live ≡ [] → Fetches name (ids_of (chosen_in l chosen)) before after (source old.source) (source s) → FileMoves opener source d request old (record old { opener = o; source = s })
+  pub layout_moves : (old : ScanFile O S) (o : O) (s : S) (l : Layout) (name : List ℕ) (before after : CacheState SegmentKey) → Opens (opener old.opener) (opener o) → IfSome (opener old.opener).gives (λ g. g ≡ layout_of l) → first_fault l d ≡ None → (source old.source).live ≡ none_live → Fetches name (ids_of (chosen_in l chosen)) before after (source old.source) (source s) → FileMoves opener source d request old (record old { opener = o; source = s })
   layout_moves old o s l name before after p e f idle r = record {
     source_id = refl;
     gives = p.gives;
@@ -131,6 +136,7 @@ module _ {O S : Type 0} (opener : O → OpenerState) (source : S → SourceState
   fault-cause cache old o l file (fault.Corrupt place id) e h = absurd h
   fault-cause cache old o l file (fault.TooManyRows place) e h = absurd h
   fault-cause cache old o l file fault.Concurrency e h = absurd h
+  fault-cause cache old o l file (fault.Overflow place) e h = absurd h
   fault-cause cache old o l file fault.NotBuilt e h = absurd h
 
   -- a skipped file has no rows
@@ -162,6 +168,7 @@ module _ {O S : Type 0} (opener : O → OpenerState) (source : S → SourceState
   layout_cause cache old o s l file (fault.Layout place g) e f w = absurd w
   layout_cause cache old o s l file (fault.TooManyRows place) e f w = absurd w
   layout_cause cache old o s l file fault.Concurrency e f w = absurd w
+  layout_cause cache old o s l file (fault.Overflow place) e f w = absurd w
   layout_cause cache old o s l file fault.NotBuilt e f w = absurd w
 
 pub layout_names : (file : ℕ) (name : List ℕ) (ps : List Place) (c : CacheState SegmentKey) (s t : SourceState) (x : ScanFault) → IsLayoutFault file name ps c s t x → NamesFile file x
@@ -176,4 +183,5 @@ layout_names file name ps c s t (fault.RowRange g) w = absurd w
 layout_names file name ps c s t (fault.Layout place g) w = absurd w
 layout_names file name ps c s t (fault.TooManyRows place) w = absurd w
 layout_names file name ps c s t fault.Concurrency w = absurd w
+layout_names file name ps c s t (fault.Overflow place) w = absurd w
 layout_names file name ps c s t fault.NotBuilt w = absurd w

@@ -2,11 +2,11 @@
 use Rattle.std.proofs.Common.{◌≡◌, ℕ, ◌+◌, ◌-◌, ◌^◌, ◌<◌, List, [], ◌++◌, refl, sym, ap, arith, subst, append-nil, inl, inr}
 use Rattle.std.specs.Prelude.{◌⊎◌, Option, None, Some, IfSome, Contains, option_map}
 use Rattle.std.proofs.lemmas.List.Elements.{All-nil, All-contains}
-use Rattle.scan_segments.specs.Source.{SourceState, Store}
+use Rattle.scan_segments.specs.Source.{SourceState, Store, none_live}
 use Rattle.scan_segments.specs.Cache.{Entries, CacheState, Both}
 use Rattle.scan_segments.specs.declared.cache.CacheEvent.{CacheEvent}
 use Rattle.scan_segments.specs.declared.segment.SegmentKey.{SegmentKey}
-use Rattle.scan_layout.specs.Touched.{Place}
+use Rattle.scan_layout.specs.Places.{Place}
 use Rattle.scan_multi.specs.Traffic.{key_of, Grows, IsKept, capped_report}
 use Rattle.scan_multi.specs.Fetch.{Feeds, Fetches, IsFetched, IsFetchFault, PutsWhatCame, held_among, store_of}
 use Rattle.scan_multi.specs.FileScan.{ids_of, Counts, IsLayoutFault}
@@ -35,7 +35,7 @@ same-entries : (name : List ℕ) (s : SourceState) (o : Option (Entries SegmentK
 same-entries name s None = refl
 same-entries name s (Some m) = λ k b e. inl e
 
-pub fetches_nothing : (name wants : List ℕ) (c : CacheState SegmentKey) (s : SourceState) → s.live ≡ [] → Fetches name wants c c s s
+pub fetches_nothing : (name wants : List ℕ) (c : CacheState SegmentKey) (s : SourceState) → s.live ≡ none_live → Fetches name wants c c s s
 fetches_nothing name wants c s idle = record {
   ids = [];
   asks = record { holds = refl; asked = sym (append-nil s.asked); live = idle; faults = omega arith; turns = omega arith };
@@ -61,7 +61,7 @@ no-report : (w h s a : ℕ) → w ≡ 0 → h ≡ 0 → s ≡ 0 → a ≡ 0 → 
 no-report w h s a p q r t = rw (p, q, r, t) refl
 
 -- a file that is skipped
-pub counts_nothing : (name : List ℕ) (c : CacheState SegmentKey) (s : SourceState) (report : ScanReport) → s.live ≡ [] → (report.wants ≡ 0) × ((report.hits ≡ 0) × ((report.shared ≡ 0) × (report.asks ≡ 0))) → Counts name c c s s report
+pub counts_nothing : (name : List ℕ) (c : CacheState SegmentKey) (s : SourceState) (report : ScanReport) → s.live ≡ none_live → (report.wants ≡ 0) × ((report.hits ≡ 0) × ((report.shared ≡ 0) × (report.asks ≡ 0))) → Counts name c c s s report
 unfolding fetches_nothing
 counts_nothing name c s report idle h = record {
   wants = [];

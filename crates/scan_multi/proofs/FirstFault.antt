@@ -34,6 +34,7 @@ module _ {O S : Type 0} (opener : O → OpenerState) (source : S → SourceState
   file-cause workers files x y (fault.Corrupt p id) early lt at n h = rw n (fault-at workers files x y (fault.Corrupt 0 id) early lt at h)
   file-cause workers files x y (fault.DTypeMismatch p) early lt at n h = rw n (fault-at workers files x y (fault.DTypeMismatch 0) early lt at h)
   file-cause workers files x y (fault.Layout p f) early lt at n h = rw n (fault-at workers files x y (fault.Layout 0 f) early lt at h)
+  file-cause workers files x y (fault.Overflow p) early lt at n h = rw n (fault-at workers files x y (fault.Overflow 0) early lt at h)
   file-cause workers files x y fault.NotBuilt early lt at n h = absurd n
   file-cause workers files x y (fault.Bind f) early lt at n h = absurd n
   file-cause workers files x y fault.Partitions early lt at n h = absurd n

@@ -2,7 +2,7 @@
 use Rattle.std.proofs.Common.{◌≡◌, ℕ, zero, suc, ◌<◌, List, [], ◌∷◌, ◌++◌, length, get_or, Bool, true, false, ◌||◌, cond, eqb, nat_eq, Option, Some, refl, sym, ap, ◌∙◌, subst, arith, append-nil}
 use Rattle.std.proofs.lemmas.List.Concat.{flat_map-append}
 use Rattle.std.proofs.lemmas.Bool.Decides.{nat_tests}
-use Rattle.scan_segments.specs.Source.{without}
+use Rattle.scan_segments.specs.Source.{without, none_live}
 use Rattle.scan_segments.specs.Sharing.{Held, has, joined, kept, left, answered, with_holder, with_answer, without_holder, is_held, is_live, entry_at, answer_of, Same, Agree}
 use Rattle.scan_segments.specs.declared.holder.SharedAnswer.{SharedAnswer}
 use Rattle.scan_segments.proofs.Agrees.{has_snoc}
@@ -142,15 +142,11 @@ held-less ws w t u h same = record { holders = λ i. (go i (eqb i w.holder.id) r
 pub held-none : (t : TableEntries) → t ≡ [] → IsHeldBy [] t
 held-none t is = subst (IsHeldBy []) (sym is) (record { holders = λ i. refl; distinct = λ i. tt })
 
-no-live : (xs : List ℕ) → ((id : ℕ) → has id xs ≡ false) → xs ≡ []
-no-live [] h = refl
-no-live (x ∷ xs) h = let same : eqb x x ≡ true = grind (arith, nat_tests) in let z : (true || has x xs) ≡ false = rw same at (h x) in absurd (cc)
+pub none-live : (live : ℕ → Bool) (t : TableEntries) → IsHeldBy [] t → Agree live (entry_at t) → live ≡ none_live
+none-live live t h a = λ i id. (a id ∙ ap is_live (h.holders id)) i
 
-pub none-live : (live : List ℕ) (t : TableEntries) → IsHeldBy [] t → Agree live (entry_at t) → live ≡ []
-none-live live t h a = no-live live (λ id. a id ∙ ap is_live (h.holders id))
-
-pub agree-none : (live : List ℕ) (t : TableEntries) → live ≡ [] → t ≡ [] → Agree live (entry_at t)
-agree-none live t e f = subst (λ (p : List ℕ × TableEntries). Agree p.0 (entry_at p.1)) (λ i. (sym e i, sym f i)) (λ id. refl)
+pub agree-none : (live : ℕ → Bool) (t : TableEntries) → live ≡ none_live → t ≡ [] → Agree live (entry_at t)
+agree-none live t e f = subst (λ (p : (ℕ → Bool) × TableEntries). Agree p.0 (entry_at p.1)) (λ i. (sym e i, sym f i)) (λ id. refl)
 
 -- the want at a place is held
 number-at : (ws : List Want) (i : ℕ) (w : Want) → i < length ws → w ≡ get_or ws i w → has w.holder.number (numbers_of w.holder.id ws) ≡ true

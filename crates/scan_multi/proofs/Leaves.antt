@@ -9,7 +9,8 @@ use Rattle.scan_values.specs.Val.{Val, vals_of, marked, marked_all}
 use Rattle.scan_values.specs.Fits.{fits, fits_all}
 use Rattle.scan_segments.specs.Source.{Store}
 use Rattle.scan_layout.specs.Check.{total_rows}
-use Rattle.scan_layout.specs.Touched.{Place}
+use Rattle.scan_layout.specs.declared.spelling.Spelling.{Spelling}
+use Rattle.scan_layout.specs.Places.{Place}
 use Rattle.scan_multi.specs.Columns.{segment_values, both, column, segment_places, leaf_places, IsColumn}
 use Rattle.scan_multi.specs.Read.{IsReadFault}
 use Rattle.scan_multi.specs.declared.scan.read.ReadFault.{ReadFault}
@@ -21,10 +22,10 @@ fault_within some all store (fault.Corrupt id) among h = record { place = h.plac
 fault_within some all store fault.NoMemory among h = tt
 
 -- ---- the places of a leaf's segments
-pub segment_among : (t : DataType) (segments : List (ℕ × ℕ)) (i : ℕ) (s : ℕ × ℕ) → i < length segments → s ≡ get_or segments i s → (p : Place) → Contains (segment_places t s) p → Contains (leaf_places t segments) p
-segment_among t [] i s lt e p h = absurd (omega arith)
-segment_among t (g ∷ segments) zero s lt e p h = Contains-append_left (segment_places t g) (leaf_places t segments) p (subst (λ z. Contains (segment_places t z) p) e h)
-segment_among t (g ∷ segments) (suc i) s lt e p h = Contains-append_right (segment_places t g) (leaf_places t segments) p (segment_among t segments i s (omega arith) e p h)
+pub segment_among : (t : DataType) (y : Spelling) (segments : List (ℕ × ℕ)) (i : ℕ) (s : ℕ × ℕ) → i < length segments → s ≡ get_or segments i s → (p : Place) → Contains (segment_places t y s) p → Contains (leaf_places t y segments) p
+segment_among t y [] i s lt e p h = absurd (omega arith)
+segment_among t y (g ∷ segments) zero s lt e p h = Contains-append_left (segment_places t y g) (leaf_places t y segments) p (subst (λ z. Contains (segment_places t y z) p) e h)
+segment_among t y (g ∷ segments) (suc i) s lt e p h = Contains-append_right (segment_places t y g) (leaf_places t y segments) p (segment_among t y segments i s (omega arith) e p h)
 
 -- ---- what is read
 both_assoc : (x y z : Option (List Val)) → both x (both y z) ≡ both (both x y) z
@@ -37,9 +38,9 @@ none_both : (x : Option (List Val)) → both (Some []) x ≡ x
 none_both None = refl
 none_both (Some xs) = refl
 
-pub column-append : (store : Store) (t : DataType) (some more : List (ℕ × ℕ)) → column store t (some ++ more) ≡ both (column store t some) (column store t more)
-column-append store t [] more = sym (none_both (column store t more))
-column-append store t (s ∷ some) more = ap (both (segment_values store t s)) (column-append store t some more) ∙ both_assoc (segment_values store t s) (column store t some) (column store t more)
+pub column-append : (store : Store) (t : DataType) (y : Spelling) (some more : List (ℕ × ℕ)) → column store t y (some ++ more) ≡ both (column store t y some) (column store t y more)
+column-append store t y [] more = sym (none_both (column store t y more))
+column-append store t y (s ∷ some) more = ap (both (segment_values store t y s)) (column-append store t y some more) ∙ both_assoc (segment_values store t y s) (column store t y some) (column store t y more)
 
 and-true : (a b : Bool) → a ≡ true → b ≡ true → (a && b) ≡ true
 and-true true b p q = q
@@ -65,9 +66,9 @@ fits-at t (x ∷ xs) zero d h lt = and-left (fits (marked x) t) (fits_all (marke
 fits-at t (x ∷ xs) (suc i) d h lt = fits-at t xs i d (and-right (fits (marked x) t) (fits_all (marked_all (vals_of xs)) t) h) (omega arith)
 
 -- one more segment was read
-pub column_more : (store : Store) (t : DataType) (segments : List (ℕ × ℕ)) (i : ℕ) (s : ℕ × ℕ) (found more : List Val) → i < length segments → s ≡ get_or segments i s → IsColumn (Some store) t (take i segments) found → IsColumn (Some store) t (s ∷ []) more → IsColumn (Some store) t (take (i + 1) segments) (found ++ more)
-column_more store t segments i s found more lt e p q = record {
-  told = rw is (column-append store t (take i segments) (s ∷ []) ∙ ap (λ o. both o (column store t (s ∷ []))) p.told ∙ ap (both (Some found)) q.told);
+pub column_more : (store : Store) (t : DataType) (y : Spelling) (segments : List (ℕ × ℕ)) (i : ℕ) (s : ℕ × ℕ) (found more : List Val) → i < length segments → s ≡ get_or segments i s → IsColumn (Some store) t y (take i segments) found → IsColumn (Some store) t y (s ∷ []) more → IsColumn (Some store) t y (take (i + 1) segments) (found ++ more)
+column_more store t y segments i s found more lt e p q = record {
+  told = rw is (column-append store t y (take i segments) (s ∷ []) ∙ ap (λ o. both o (column store t y (s ∷ []))) p.told ∙ ap (both (Some found)) q.told);
   count = rw is (length-append found more ∙ counts ∙ sym (sum_by-append (λ (g : ℕ × ℕ). g.1) (take i segments) (s ∷ [])));
   fit = fits_all-append t found more p.fit q.fit;
 } where

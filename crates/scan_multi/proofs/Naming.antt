@@ -24,7 +24,9 @@ use Rattle.scan_segments.specs.Source.{Store}
 use Rattle.scan_layout.specs.declared.node.LayoutKind.TheVariants.{Struct}
 use Rattle.scan_layout.specs.Layout.{Layout, Nodes, node, no_nodes, child, rows_of, dtype_of, kids_of}
 use Rattle.scan_layout.specs.Check.{total_rows, first_fault}
-use Rattle.scan_layout.specs.Touched.{Place, below_step, under_step, leaf_touched, field_steps, touched, all_touched}
+use Rattle.scan_layout.specs.declared.spelling.Spelling.{Spelling}
+use Rattle.scan_layout.specs.Places.{Place, place_of, places_of as all_places}
+use Rattle.scan_layout.specs.Touched.{below_step, under_step, leaf_touched, field_steps, touched, all_touched}
 use Rattle.scan_layout.specs.Edges.{edges}
 use Rattle.scan_layout.specs.Spelling.{decode}
 use Rattle.scan_layout.specs.PickGroups.{split_of, grouped, pick_groups, split_span}
@@ -32,7 +34,7 @@ use Rattle.scan_multi.specs.Opener.{Given, layout_of}
 use Rattle.scan_multi.specs.Answer.{is_good, is_within}
 use Rattle.scan_multi.specs.Named.{field_masks, expressions, range_from, range_to, span_of, read_spans, places_in, named_places, named, distinct}
 use Rattle.scan_multi.specs.Places.{IsIdOf, HasBad}
-use Rattle.scan_multi.specs.Columns.{nodes_in, segments_of, segment_places, leaf_places, child_places, chosen_places}
+use Rattle.scan_multi.specs.Columns.{nodes_in, spelling_of, segments_of, segment_places, leaf_places, child_places, chosen_places}
 use Rattle.scan_multi.specs.Choice.{field_place, field_count, places_of, flags_of}
 use Rattle.scan_multi.specs.Served.{is_plain, are_plain, is_all, is_of_all_rows, has_no_partitions}
 use Rattle.scan_multi.proofs.Members.{In, In-from, In-to, In-left, In-right, In-append, In-map, In-flat_map, In-filter}
@@ -108,23 +110,23 @@ spanned range selection splits rows i p q lt =
     (subst (λ xs. Spanned (map (span_of All splits 0 rows) (pick_groups splits xs)) i) (sym (picked-all rows)) (spanned-all splits rows i lt)))
 
 -- ---- a segment with rows is touched
-record LeafRow (t : DataType) (base : ℕ) (segments : List (ℕ × ℕ)) (q : Place) : Type 0 where
+record LeafRow (t : DataType) (y : Spelling) (base : ℕ) (segments : List (ℕ × ℕ)) (q : Place) : Type 0 where
   row : ℕ
   above : base ≤ row
   below : row < base + total_rows segments
   path : q.path ≡ []
-  at : (s e : ℕ) → s ≤ row → row < e → In q (leaf_touched t base segments s e)
+  at : (s e : ℕ) → s ≤ row → row < e → In q (leaf_touched base (all_places t y segments) s e)
 
-leaf-row : (t : DataType) (base : ℕ) (segments : List (ℕ × ℕ)) (q : Place) → In q (leaf_places t segments) → LeafRow t base segments q
-leaf-row t base [] q h = absurd h
-leaf-row t base (g ∷ segments) q h = go (In-append q (segment_places t g) (leaf_places t segments) h) (leaf-row t (base + g.1) segments q) where
+leaf-row : (t : DataType) (y : Spelling) (base : ℕ) (segments : List (ℕ × ℕ)) (q : Place) → In q (leaf_places t y segments) → LeafRow t y base segments q
+leaf-row t y base [] q h = absurd h
+leaf-row t y base (g ∷ segments) q h = go (In-append q (segment_places t y g) (leaf_places t y segments) h) (leaf-row t y (base + g.1) segments q) where
   n : total_rows (g ∷ segments) ≡ g.1 + total_rows segments
   n = sum_by-cons (λ (s : ℕ × ℕ). s.1) g segments
 
   here : Place
-  here = record { path = []; dtype = t; rows = g.1; id = g.0 }
+  here = place_of t y g
 
-  first : (b : Bool) → (g.1 == 0) ≡ b → In q (cond b [] (record { path = []; dtype = t; rows = g.1; id = g.0 } ∷ [])) → LeafRow t base (g ∷ segments) q
+  first : (b : Bool) → (g.1 == 0) ≡ b → In q (cond b [] (place_of t y g ∷ [])) → LeafRow t y base (g ∷ segments) q
   first true e m = absurd m
   first false e (inr m) = absurd m
   first false e (inl is) = record {
@@ -132,20 +134,20 @@ leaf-row t base (g ∷ segments) q h = go (In-append q (segment_places t g) (lea
     above = omega arith;
     below = grind (arith, nat_tests, n);
     path = ap (λ (p : Place). p.path) is;
-    at = λ s f p r. In-left q _ (leaf_touched t (base + g.1) segments s f) (shown s f (nat_lt (max base s) (min (base + g.1) f)) refl p r);
+    at = λ s f p r. In-left q _ (leaf_touched (base + g.1) (all_places t y segments) s f) (shown s f (nat_lt (max base s) (min (base + g.1) f)) refl p r);
   } where
-    shown : (s f : ℕ) (b : Bool) → nat_lt (max base s) (min (base + g.1) f) ≡ b → s ≤ base → base < f → In q (if b then record { path = []; dtype = t; rows = g.1; id = g.0 } ∷ [] else [])
+    shown : (s f : ℕ) (b : Bool) → nat_lt (max base s) (min (base + g.1) f) ≡ b → s ≤ base → base < f → In q (if b then place_of t y g ∷ [] else [])
     shown s f true w p r = inl is
     shown s f false w p r = absurd (grind (arith, nat_tests))
 
-  go : In q (segment_places t g) ⊎ In q (leaf_places t segments) → (In q (leaf_places t segments) → LeafRow t (base + g.1) segments q) → LeafRow t base (g ∷ segments) q
+  go : In q (segment_places t y g) ⊎ In q (leaf_places t y segments) → (In q (leaf_places t y segments) → LeafRow t y (base + g.1) segments q) → LeafRow t y base (g ∷ segments) q
   go (inl m) ih = first (g.1 == 0) refl m
   go (inr m) ih = let r = ih m in record {
     row = r.row;
     above = let a = r.above in omega arith;
     below = let b = r.below in omega (arith, n, b);
     path = r.path;
-    at = λ s f p w. In-right q _ (leaf_touched t (base + g.1) segments s f) (r.at s f p w);
+    at = λ s f p w. In-right q _ (leaf_touched (base + g.1) (all_places t y segments) s f) (r.at s f p w);
   }
 
 -- the name of the field at a place
@@ -163,10 +165,10 @@ record ChosenRow (fs : Fields) (rows : ℕ) (kids : Nodes) (flags : List Bool) (
   path : q.path ≡ []
   at : (s e : ℕ) → s ≤ row → row < e → In (below_step (to_field (nth_name fs place)) q) (all_touched kids (field_steps fs) store s e)
 
-kid-row : (d : DataType) (rows : ℕ) (l : Layout) (store : Store) (q : Place) → PlainKid d rows l → In q (leaf_places (dtype_of l) (segments_of l)) → (row : ℕ) × (row < rows) × (q.path ≡ []) × ((s e : ℕ) → s ≤ row → row < e → In q (touched l store s e))
+kid-row : (d : DataType) (rows : ℕ) (l : Layout) (store : Store) (q : Place) → PlainKid d rows l → In q (leaf_places (dtype_of l) (spelling_of l) (segments_of l)) → (row : ℕ) × (row < rows) × (q.path ≡ []) × ((s e : ℕ) → s ≤ row → row < e → In q (touched l store s e))
 kid-row d rows l store q kid h =
-    let m : In q (leaf_places d kid.segments) = subst (λ z. In q (leaf_places (dtype_of z) (segments_of z))) kid.is h in
-    let r = leaf-row d 0 kid.segments q m in
+    let m : In q (leaf_places d kid.spelling kid.segments) = subst (λ z. In q (leaf_places (dtype_of z) (spelling_of z) (segments_of z))) kid.is h in
+    let r = leaf-row d kid.spelling 0 kid.segments q m in
     (r.row, (let b = r.below in let t = kid.total in omega (arith, b, t)), r.path, λ s e p w. subst (λ z. In q (touched z store s e)) (sym kid.is) (r.at s e p w))
 
 chosen-row : (fs : Fields) (rows : ℕ) (kids : Nodes) (flags : List Bool) (store : Store) (q : Place) → PlainKids fs rows (nodes_in kids) → In q (chosen_places (nodes_in kids) flags) → ChosenRow fs rows kids flags store q
@@ -175,7 +177,7 @@ chosen-row no_fields rows (child l ls) flags store q k h = absurd k
 chosen-row (field n d fs) rows no_nodes flags store q k h = absurd k
 chosen-row (field n d fs) rows (child l ls) [] store q k h = absurd h
 chosen-row (field n d fs) rows (child l ls) (flag ∷ flags) store q k h = go (In-append q (child_places l flag) (chosen_places (nodes_in ls) flags) h) (chosen-row fs rows ls flags store q k.1) where
-  first : (b : Bool) → flag ≡ b → In q (cond b (leaf_places (dtype_of l) (segments_of l)) []) → ChosenRow (field n d fs) rows (child l ls) (flag ∷ flags) store q
+  first : (b : Bool) → flag ≡ b → In q (cond b (leaf_places (dtype_of l) (spelling_of l) (segments_of l)) []) → ChosenRow (field n d fs) rows (child l ls) (flag ∷ flags) store q
   first false e m = absurd m
   first true e m = let r = kid-row d rows l store q k.0 m in record {
     row = r.0;
@@ -276,6 +278,7 @@ pub record Named' (places : List Place) (q : Place) : Type 0 where
   pub among : In place places
   pub id : place.id ≡ q.id
   pub dtype : place.dtype ≡ q.dtype
+  pub spelling : place.spelling ≡ q.spelling
   pub rows : place.rows ≡ q.rows
 
 pub chosen-named : (fs : Fields) (request : ScanRequest) (l : Layout) (store : Store) → are_plain fs ≡ true → Chooses request.projection → bind_fault (struct_type fs NonNullable) request.projection ≡ None → AllRows request → first_fault l (struct_type fs NonNullable) ≡ None → PlainForm fs l → (q : Place) → In q (chosen_places (nodes_in (kids_of l)) (flags_of (field_count fs) (places_of fs request.projection))) → Named' (named_places (struct_type fs NonNullable) request (layout_of l) store) q
@@ -296,6 +299,7 @@ chosen-named fs request l store p choose typed all fault form q m =
       among = subst (λ b. In q' (cond b (places_in d request l store) [])) (sym (good d request l fault all)) f;
       id = refl;
       dtype = refl;
+      spelling = refl;
       rows = refl;
     }
 
@@ -320,5 +324,5 @@ bad-named d request g store places id h w =
       place = r.place;
       among = In-to r.place (named_places d request g store) r.among;
       is = r.id ∙ w.is;
-      bad = (λ z. option_and_then (decode (r.dtype z) (r.rows z)) (store (r.id z))) ∙ w.bad;
+      bad = (λ z. option_and_then (decode (r.spelling z) (r.dtype z) (r.rows z)) (store (r.id z))) ∙ w.bad;
     }

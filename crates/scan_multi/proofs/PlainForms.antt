@@ -7,6 +7,7 @@ use Rattle.scan_values.specs.Kinds.{is_scalar_type}
 use Rattle.scan_values.specs.declared.ptype.PType.{PType}
 use Rattle.scan_values.specs.declared.ptype.Nullability.TheVariants.{NonNullable}
 use Rattle.scan_layout.specs.declared.node.LayoutKind.TheVariants.{Leaf, Struct, List as List'}
+use Rattle.scan_layout.specs.declared.spelling.Spelling.{Spelling}
 use Rattle.scan_layout.specs.Layout.{Layout, Nodes, node, no_nodes, child, rows_of, kids_of}
 use Rattle.scan_layout.specs.Check.{serves, child_types, total_rows, first_fault}
 use Rattle.scan_layout.specs.Form.{HasForm, HaveForms, AllHaveRows}
@@ -17,8 +18,9 @@ use Rattle.scan_multi.specs.Served.{is_plain, are_plain}
 
 pub record PlainKid (d : DataType) (rows : ℕ) (k : Layout) : Type 0 where
   pub segments : List (ℕ × ℕ)
+  pub spelling : Spelling
   pub kids : Nodes
-  pub is : k ≡ node d rows (Leaf segments) kids
+  pub is : k ≡ node d rows (Leaf segments spelling) kids
   pub total : total_rows segments ≡ rows
   pub plain : is_plain d ≡ true
 
@@ -43,7 +45,7 @@ no_list q (list_type e n) p s = cc
 no_list q (struct_type fs n) p s = cc
 
 plain_kid : (k : Layout) (d : DataType) (rows : ℕ) → is_plain d ≡ true → rows_of k ≡ rows → HasForm k d → PlainKid d rows k
-plain_kid (node t r (Leaf segments) kids) d rows p e h = record { segments = segments; kids = kids; is = λ i. node (h.0 i) (e i) (Leaf segments) kids; total = h.2.0 ∙ e; plain = p }
+plain_kid (node t r (Leaf segments y) kids) d rows p e h = record { segments = segments; spelling = y; kids = kids; is = λ i. node (h.0 i) (e i) (Leaf segments y) kids; total = h.2.0 ∙ e; plain = p }
 plain_kid (node t r Struct kids) d rows p e h = absurd (no_struct d p (subst (λ z. serves Struct z ≡ true) h.0 h.1))
 plain_kid (node t r (List' q) kids) d rows p e h = absurd (no_list q d p (subst (λ z. serves (List' q) z ≡ true) h.0 h.1))
 
@@ -67,7 +69,7 @@ pub record PlainForm (fs : Fields) (l : Layout) : Type 0 where
   pub each : PlainKids fs (rows_of l) (nodes_in (kids_of l))
 
 form_of : (l : Layout) (fs : Fields) → are_plain fs ≡ true → HasForm l (struct_type fs NonNullable) → PlainForm fs l
-form_of (node t rows (Leaf segments) kids) fs p h = let e : is_scalar_type (struct_type fs NonNullable) ≡ true = subst (λ z. is_scalar_type z ≡ true) h.0 h.1 in absurd (cc e)
+form_of (node t rows (Leaf segments y) kids) fs p h = let e : is_scalar_type (struct_type fs NonNullable) ≡ true = subst (λ z. is_scalar_type z ≡ true) h.0 h.1 in absurd (cc e)
 form_of (node t rows (List' q) kids) fs p h = let e : serves (List' q) (struct_type fs NonNullable) ≡ true = subst (λ z. serves (List' q) z ≡ true) h.0 h.1 in absurd (cc e)
 form_of (node t rows Struct kids) fs p h = record {
   is = λ i. node (h.0 i) rows Struct kids;

@@ -8,6 +8,8 @@ use Rattle.scan_values.specs.Val.{Val, vals_of, marked_all}
 use Rattle.scan_values.specs.Fits.{fits_all}
 use Rattle.scan_segments.specs.Source.{Store}
 use Rattle.scan_layout.specs.Check.{total_rows}
+use Rattle.scan_layout.specs.declared.spelling.Spelling.{Spelling}
+use Rattle.scan_layout.specs.Places.{place_of, decoded}
 use Rattle.scan_layout.specs.Spelling.{decode}
 use Rattle.scan_layout.proofs.Lengths.{decode_length}
 use Rattle.scan_multi.specs.Places.{HasBad}
@@ -19,32 +21,32 @@ has_rows rows h = go (rows == 0) refl where
   go false e = refl
   go true e = let z : rows ≡ 0 = grind (arith, nat_tests) in absurd (h z)
 
-the_place : (t : DataType) (id rows : ℕ) → rows ≢ 0 → segment_places t (id, rows) ≡ record { path = []; dtype = t; rows = rows; id = id } ∷ []
-the_place t id rows h = ap (λ b. cond b [] (record { path = []; dtype = t; rows = rows; id = id } ∷ [])) (has_rows rows h)
+the_place : (t : DataType) (y : Spelling) (id rows : ℕ) → rows ≢ 0 → segment_places t y (id, rows) ≡ place_of t y (id, rows) ∷ []
+the_place t y id rows h = ap (λ b. cond b [] (place_of t y (id, rows) ∷ [])) (has_rows rows h)
 
 one_total : (id rows : ℕ) → total_rows ((id, rows) ∷ []) ≡ rows
 one_total id rows = sum_by-cons (λ (s : ℕ × ℕ). s.1) (id, rows) [] ∙ omega arith
 
-one_column : (store : Store) (t : DataType) (id rows : ℕ) → rows ≢ 0 → column store t ((id, rows) ∷ []) ≡ both (option_and_then (decode t rows) (store id)) (Some [])
-one_column store t id rows h = ap (λ b. both (cond b (Some []) (option_and_then (decode t rows) (store id))) (Some [])) (has_rows rows h)
+one_column : (store : Store) (t : DataType) (y : Spelling) (id rows : ℕ) → rows ≢ 0 → column store t y ((id, rows) ∷ []) ≡ both (decoded store (place_of t y (id, rows))) (Some [])
+one_column store t y id rows h = ap (λ b. both (cond b (Some []) (decoded store (place_of t y (id, rows)))) (Some [])) (has_rows rows h)
 
-pub column_of_bytes : (store : Store) (t : DataType) (id rows : ℕ) (bytes : List ℕ) (vs : List Val) → rows ≢ 0 → store id ≡ Some bytes → decode t rows bytes ≡ Some vs → fits_all (marked_all (vals_of vs)) t ≡ true → IsColumn (Some store) t ((id, rows) ∷ []) vs
-column_of_bytes store t id rows bytes vs h there read fit = record {
-  told = one_column store t id rows h ∙ ap (λ o. both (option_and_then (decode t rows) o) (Some [])) there ∙ ap (λ o. both o (Some [])) read ∙ ap Some (append-nil vs);
-  count = decode_length t rows bytes vs read ∙ sym (one_total id rows);
+pub column_of_bytes : (store : Store) (t : DataType) (y : Spelling) (id rows : ℕ) (bytes : List ℕ) (vs : List Val) → rows ≢ 0 → store id ≡ Some bytes → decode y t rows bytes ≡ Some vs → fits_all (marked_all (vals_of vs)) t ≡ true → IsColumn (Some store) t y ((id, rows) ∷ []) vs
+column_of_bytes store t y id rows bytes vs h there read fit = record {
+  told = one_column store t y id rows h ∙ ap (λ o. both (option_and_then (decode y t rows) o) (Some [])) there ∙ ap (λ o. both o (Some [])) read ∙ ap Some (append-nil vs);
+  count = decode_length y t rows bytes vs read ∙ sym (one_total id rows);
   fit = fit;
 }
 
-is_bad : (store : Store) (t : DataType) (id rows : ℕ) → rows ≢ 0 → option_and_then (decode t rows) (store id) ≡ None → HasBad store (segment_places t (id, rows)) id
-is_bad store t id rows h e = record { place = record { path = []; dtype = t; rows = rows; id = id }; among = rw (the_place t id rows h) (0, omega arith, refl); is = refl; bad = e }
+is_bad : (store : Store) (t : DataType) (y : Spelling) (id rows : ℕ) → rows ≢ 0 → decoded store (place_of t y (id, rows)) ≡ None → HasBad store (segment_places t y (id, rows)) id
+is_bad store t y id rows h e = record { place = place_of t y (id, rows); among = rw (the_place t y id rows h) (0, omega arith, refl); is = refl; bad = e }
 
 -- a segment that does not decode
-pub undecoded : (store : Store) (t : DataType) (id rows : ℕ) (bytes : List ℕ) → rows ≢ 0 → store id ≡ Some bytes → decode t rows bytes ≡ None → HasBad store (segment_places t (id, rows)) id
-undecoded store t id rows bytes h e read = is_bad store t id rows h (ap (option_and_then (decode t rows)) e ∙ read)
+pub undecoded : (store : Store) (t : DataType) (y : Spelling) (id rows : ℕ) (bytes : List ℕ) → rows ≢ 0 → store id ≡ Some bytes → decode y t rows bytes ≡ None → HasBad store (segment_places t y (id, rows)) id
+undecoded store t y id rows bytes h e read = is_bad store t y id rows h (ap (option_and_then (decode y t rows)) e ∙ read)
 
 -- a segment that is missing
-pub missing : (store : Store) (t : DataType) (id rows : ℕ) → rows ≢ 0 → store id ≡ None → HasBad store (segment_places t (id, rows)) id
-missing store t id rows h e = is_bad store t id rows h (ap (option_and_then (decode t rows)) e)
+pub missing : (store : Store) (t : DataType) (y : Spelling) (id rows : ℕ) → rows ≢ 0 → store id ≡ None → HasBad store (segment_places t y (id, rows)) id
+missing store t y id rows h e = is_bad store t y id rows h (ap (option_and_then (decode y t rows)) e)
 
-pub column_of_nothing : (store : Store) (t : DataType) → IsColumn (Some store) t [] []
-column_of_nothing store t = record { told = refl; count = refl; fit = refl }
+pub column_of_nothing : (store : Store) (t : DataType) (y : Spelling) → IsColumn (Some store) t y [] []
+column_of_nothing store t y = record { told = refl; count = refl; fit = refl }

@@ -1,5 +1,5 @@
 -- What a scan is to give: the rows of its files, in order.
-use Rattle.std.specs.Prelude.{ℕ, ◌+◌, List, [], ◌∷◌, ◌++◌, Bool, true, false, not, ◌&&◌, cond, Option, None, Some, map, nat_le}
+use Rattle.std.specs.Prelude.{ℕ, ◌+◌, List, [], ◌∷◌, ◌++◌, Bool, true, false, not, ◌&&◌, ◌||◌, cond, Option, None, Some, map, nat_le}
 use Rattle.std.specs.List.{flat_map, list_any, list_all}
 use Rattle.std.specs.Option.{is_none}
 use Rattle.scan_values.specs.DataType.{DataType}
@@ -8,6 +8,7 @@ use Rattle.scan_values.specs.Val.{Val, is_clean, read_marked}
 use Rattle.std.specs.declared.ops.Range.{Range}
 use Rattle.scan_values.specs.Selections.{picked_rows}
 use Rattle.scan_expr.specs.Eval.{eval}
+use Rattle.scan_expr.specs.Overflow.{overflows}
 use Rattle.scan_expr.specs.Expr.{filter_conjuncts}
 use Rattle.scan_expr.specs.declared.request.ScanRequest.{ScanRequest}
 use Rattle.scan_segments.specs.Source.{Store}
@@ -38,15 +39,22 @@ drops (text s) = false
 drops (list ms) = false
 drops (struct ms) = false
 
+-- whether a conjunct or the projection overflows at a row
+abbrev pub spills_at : DataType → ScanRequest → ℕ → Marked → Bool
+spills_at d request i v =
+    list_any (λ e. overflows d e v i) (filter_conjuncts request.filter) || overflows d request.projection v i
+
 -- the projection's value, where all that was looked at is clean
 abbrev pub finding : List Marked → Marked → Option Val
 finding tests value = cond (list_all is_clean tests && is_clean value) (Some (read_marked value)) None
 
--- What a row gives, by its number and its value: nothing where a conjunct drops it, else damage or the projection's value.
+-- What a row gives, by its number and its value: nothing where a conjunct drops it; else damage where what is looked at
+-- is not clean or overflows; else the projection's value.
 abbrev pub item_of : DataType → ScanRequest → ℕ → Marked → List (Option Val)
 item_of d request i v =
     let tests : List Marked = map (λ e. eval d e v i) (filter_conjuncts request.filter) in
-    cond (list_any drops tests) [] (finding tests (eval d request.projection v i) ∷ [])
+    let value : Option Val = cond (spills_at d request i v) None (finding tests (eval d request.projection v i)) in
+    cond (list_any drops tests) [] (value ∷ [])
 
 -- a range ends within so many rows
 abbrev pub is_within : Option (Range ℕ) → ℕ → Bool

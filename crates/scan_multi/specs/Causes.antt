@@ -3,7 +3,7 @@ use Rattle.std.specs.Prelude.{◌≡◌, ◌≢◌, ◌⊎◌, ℕ, ◌<◌, ◌
 use Rattle.scan_values.specs.DataType.{DataType}
 use Rattle.scan_expr.specs.declared.request.ScanRequest.{ScanRequest}
 use Rattle.scan_segments.specs.Faults.{Rose}
-use Rattle.scan_segments.specs.Source.{SourceState, Store}
+use Rattle.scan_segments.specs.Source.{SourceState, Store, none_live}
 use Rattle.scan_segments.specs.Cache.{CacheState}
 use Rattle.scan_segments.specs.declared.segment.SegmentKey.{SegmentKey}
 use Rattle.scan_layout.specs.Layout.{dtype_of}
@@ -11,6 +11,7 @@ use Rattle.scan_layout.specs.Check.{first_fault}
 use Rattle.scan_layout.specs.declared.fault.LayoutFault.{LayoutFault}
 use Rattle.scan_multi.specs.Opener.{OpenerState, Given, skip, layout_of}
 use Rattle.scan_multi.specs.Answer.{ToldFile}
+use Rattle.scan_multi.specs.Overflow.{OverflowsIn}
 use Rattle.scan_multi.specs.Places.{WasAsked, HasBad}
 use Rattle.scan_multi.specs.Named.{named, named_places}
 use Rattle.scan_multi.specs.Served.{early_fault}
@@ -72,7 +73,7 @@ module _ {O S : Type 0} (opener : O → OpenerState) (source : S → SourceState
 
   -- no request is live
   abbrev pub IsIdle : ScanFile O S → Type 0
-  IsIdle f = (source f.source).live ≡ []
+  IsIdle f = (source f.source).live ≡ none_live
 
   -- A file after calls of its opener and its source. It tells what it told, its faults did not fall, as many requests are live, and only named segments were asked.
   pub record FileMoves (d : DataType) (request : ScanRequest) (old new : ScanFile O S) : Type 0 where
@@ -113,6 +114,7 @@ module _ {O S : Type 0} (opener : O → OpenerState) (source : S → SourceState
   IsFileCause d request cache old new (fault.Corrupt place id) = (Trusts old.source_id cache (source old.source) → IfTold (opener old.opener).gives (source old.source).holds (λ g store. HasBad store (named_places d request g store) id)) × CameOf d cache id old new
   IsFileCause d request cache old new (fault.DTypeMismatch place) = IfSome (opener old.opener).gives (IsOfOtherType d) × NoneAsked old new
   IsFileCause d request cache old new (fault.Layout place f) = IfSome (opener old.opener).gives (IsIllFormed d f) × NoneAsked old new
+  IsFileCause d request cache old new (fault.Overflow place) = Trusts old.source_id cache (source old.source) → IfTold (opener old.opener).gives (source old.source).holds (OverflowsIn d request)
   IsFileCause d request cache old new _ = ⊥
 
   -- a fault of the file at a place, where the request itself has none
@@ -131,4 +133,5 @@ module _ {O S : Type 0} (opener : O → OpenerState) (source : S → SourceState
   HasCause workers d request cache old new (fault.Corrupt place id) = FaultAt workers d request cache old new place (fault.Corrupt place id)
   HasCause workers d request cache old new (fault.DTypeMismatch place) = FaultAt workers d request cache old new place (fault.DTypeMismatch place)
   HasCause workers d request cache old new (fault.Layout place f) = FaultAt workers d request cache old new place (fault.Layout place f)
+  HasCause workers d request cache old new (fault.Overflow place) = FaultAt workers d request cache old new place (fault.Overflow place)
   HasCause workers d request cache old new _ = ⊥

@@ -9,12 +9,13 @@ use Rattle.scan_layout.specs.declared.node.LayoutKind.{LayoutKind}
 use Rattle.scan_layout.specs.declared.node.LayoutKind.TheVariants.{Leaf, Struct, List as List'}
 use Rattle.scan_layout.specs.Layout.{Layout, Nodes, node, no_nodes, child, dtype_of}
 use Rattle.scan_layout.specs.Check.{total_rows}
-use Rattle.scan_layout.specs.Spelling.{decode}
-use Rattle.scan_layout.specs.Touched.{Place}
+use Rattle.scan_layout.specs.declared.spelling.Spelling.{Spelling}
+use Rattle.scan_layout.specs.declared.spelling.Spelling.TheVariants.{One}
+use Rattle.scan_layout.specs.Places.{Place, place_of, decoded}
 
 -- the values of a segment, where they are there and decode; a segment without rows is not looked at
-abbrev pub segment_values : Store → DataType → ℕ × ℕ → Option (List Val)
-segment_values store t s = cond (s.1 == 0) (Some []) (option_and_then (decode t s.1) (store s.0))
+abbrev pub segment_values : Store → DataType → Spelling → ℕ × ℕ → Option (List Val)
+segment_values store t y s = cond (s.1 == 0) (Some []) (decoded store (place_of t y s))
 
 abbrev pub both : Option (List Val) → Option (List Val) → Option (List Val)
 both None o = None
@@ -22,31 +23,40 @@ both (Some xs) None = None
 both (Some xs) (Some ys) = Some (xs ++ ys)
 
 -- all values of some segments
-abbrev pub column : Store → DataType → List (ℕ × ℕ) → Option (List Val)
-column store t [] = Some []
-column store t (s ∷ rest) = both (segment_values store t s) (column store t rest)
+abbrev pub column : Store → DataType → Spelling → List (ℕ × ℕ) → Option (List Val)
+column store t y [] = Some []
+column store t y (s ∷ rest) = both (segment_values store t y s) (column store t y rest)
 
 -- the places of the segments that have rows
-abbrev pub segment_places : DataType → ℕ × ℕ → List Place
-segment_places t s = cond (s.1 == 0) [] (record { path = []; dtype = t; rows = s.1; id = s.0 } ∷ [])
+abbrev pub segment_places : DataType → Spelling → ℕ × ℕ → List Place
+segment_places t y s = cond (s.1 == 0) [] (place_of t y s ∷ [])
 
-abbrev pub leaf_places : DataType → List (ℕ × ℕ) → List Place
-leaf_places t [] = []
-leaf_places t (s ∷ rest) = segment_places t s ++ leaf_places t rest
+abbrev pub leaf_places : DataType → Spelling → List (ℕ × ℕ) → List Place
+leaf_places t y [] = []
+leaf_places t y (s ∷ rest) = segment_places t y s ++ leaf_places t y rest
 
 -- the values of all rows of a leaf, each of its dtype
-pub record IsColumn (holds : Option Store) (t : DataType) (segments : List (ℕ × ℕ)) (values : List Val) : Type 0 where
-  pub told : IfSome holds (λ store. column store t segments ≡ Some values)
+pub record IsColumn (holds : Option Store) (t : DataType) (y : Spelling) (segments : List (ℕ × ℕ)) (values : List Val) : Type 0 where
+  pub told : IfSome holds (λ store. column store t y segments ≡ Some values)
   pub count : length values ≡ total_rows segments
   pub fit : fits_all (marked_all (vals_of values)) t ≡ true
 
 abbrev pub segments_in : LayoutKind → List (ℕ × ℕ)
-segments_in (Leaf segments) = segments
+segments_in (Leaf segments y) = segments
 segments_in Struct = []
 segments_in (List' p) = []
 
+-- the spelling of a leaf's segments
+abbrev pub spelling_in : LayoutKind → Spelling
+spelling_in (Leaf segments y) = y
+spelling_in Struct = One
+spelling_in (List' p) = One
+
 abbrev pub segments_of : Layout → List (ℕ × ℕ)
 segments_of (node t rows kind kids) = segments_in kind
+
+abbrev pub spelling_of : Layout → Spelling
+spelling_of (node t rows kind kids) = spelling_in kind
 
 -- the layouts of some nodes, as a list
 abbrev pub nodes_in : Nodes → List Layout
@@ -56,7 +66,7 @@ nodes_in (child l ls) = l ∷ nodes_in ls
 -- ---- the chosen children of a struct
 -- the places of a child's segments, where it is chosen
 abbrev pub child_places : Layout → Bool → List Place
-child_places l flag = cond flag (leaf_places (dtype_of l) (segments_of l)) []
+child_places l flag = cond flag (leaf_places (dtype_of l) (spelling_of l) (segments_of l)) []
 
 abbrev pub chosen_places : List Layout → List Bool → List Place
 chosen_places [] flags = []
@@ -69,7 +79,7 @@ AreScalars ls = All (λ l. IsTrue (is_scalar_type (dtype_of l))) ls
 -- the column of a child that is chosen, and none of another
 abbrev pub IsFound : Option Store → Layout → Bool → Option (List Val) → Type 0
 IsFound holds l true None = ⊥
-IsFound holds l true (Some values) = IsColumn holds (dtype_of l) (segments_of l) values
+IsFound holds l true (Some values) = IsColumn holds (dtype_of l) (spelling_of l) (segments_of l) values
 IsFound holds l false None = Unit {0}
 IsFound holds l false (Some values) = ⊥
 

@@ -2,7 +2,7 @@
 use Rattle.std.specs.Prelude.{◌≡◌, ◌⊎◌, ℕ, ◌+◌, ◌≤◌, ◌<◌, ◌^◌, ◌-◌, List, [], ◌++◌, true, false, Option, Some, IfSome, All, Contains, map, length, filter, is_some, option_map, nat_eq}
 use Rattle.std.specs.Map.{lookup}
 use Rattle.scan_segments.specs.Faults.{Rose}
-use Rattle.scan_segments.specs.Source.{SourceState, Store, TellsBytes}
+use Rattle.scan_segments.specs.Source.{SourceState, Store, TellsBytes, none_live}
 use Rattle.scan_segments.specs.Cache.{Entries, CacheState, Both}
 use Rattle.scan_segments.specs.Events.{missed_keys, found_keys, offered_keys, times, puts_follow_misses}
 use Rattle.scan_segments.specs.declared.cache.CacheEvent.{CacheEvent}
@@ -16,7 +16,7 @@ use Rattle.scan_multi.specs.declared.scan.fetch.FetchFault.TheVariants as fault
 pub record Asks (ids : List ℕ) (old new : SourceState) : Type 0 where
   pub holds : new.holds ≡ old.holds
   pub asked : new.asked ≡ old.asked ++ ids
-  pub live : new.live ≡ []
+  pub live : new.live ≡ none_live
   pub faults : old.faults ≤ new.faults
   pub turns : new.turns ≤ old.turns
 

@@ -6,7 +6,7 @@ use Rattle.scan_segments.specs.Cache.{CacheState}
 use Rattle.scan_segments.specs.Events.{missed_keys, found_keys, offered_keys, times}
 use Rattle.scan_segments.specs.declared.segment.SegmentKey.{SegmentKey}
 use Rattle.scan_layout.specs.Layout.{Layout, kids_of}
-use Rattle.scan_layout.specs.Touched.{Place}
+use Rattle.scan_layout.specs.Places.{Place}
 use Rattle.scan_multi.specs.Traffic.{key_of, Trusts, IsKept, capped_report}
 use Rattle.scan_multi.specs.Fetch.{Fetches, PutsWhatCame, held_among}
 use Rattle.scan_multi.specs.Places.{WasAsked, HasBad}

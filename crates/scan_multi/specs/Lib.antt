@@ -12,6 +12,7 @@ pub mod Choice
 pub mod Answer
 pub mod Output
 pub mod Named
+pub mod Overflow
 pub mod Served
 pub mod Plan
 pub mod FileScan

@@ -1,8 +1,7 @@
 -- Segments at their leaves, and what may be wrong with one.
-use Rattle.std.specs.Prelude.{◌≡◌, ℕ, List, ◌++◌, None, Contains, option_and_then}
+use Rattle.std.specs.Prelude.{◌≡◌, ℕ, List, ◌++◌, None, Contains}
 use Rattle.scan_segments.specs.Source.{SourceState, Store}
-use Rattle.scan_layout.specs.Spelling.{decode}
-use Rattle.scan_layout.specs.Touched.{Place}
+use Rattle.scan_layout.specs.Places.{Place, decoded}
 
 -- this id was asked in the call
 pub record WasAsked (id : ℕ) (old new : SourceState) : Type 0 where
@@ -18,7 +17,7 @@ pub record IsIdOf (places : List Place) (id : ℕ) : Type 0 where
 
 -- the bytes of a place are missing, or do not decode for its leaf
 abbrev pub IsBad : Store → Place → Type 0
-IsBad store p = option_and_then (decode p.dtype p.rows) (store p.id) ≡ None
+IsBad store p = decoded store p ≡ None
 
 -- one of these places has this id, and is bad
 pub record HasBad (store : Store) (places : List Place) (id : ℕ) : Type 0 where

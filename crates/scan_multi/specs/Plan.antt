@@ -14,7 +14,7 @@ use Rattle.scan_segments.specs.Source.{Store}
 use Rattle.scan_layout.specs.Layout.{Layout, rows_of, dtype_of}
 use Rattle.scan_layout.specs.Check.{first_fault}
 use Rattle.scan_layout.specs.RowValue.{row_value}
-use Rattle.scan_layout.specs.Touched.{Place}
+use Rattle.scan_layout.specs.Places.{Place}
 use Rattle.scan_multi.specs.declared.scan.fetch.FetchFault.{FetchFault}
 use Rattle.scan_multi.specs.declared.scan.fetch.FetchFault.TheVariants as fetch
 use Rattle.scan_multi.specs.declared.scan.read.ReadFault.{ReadFault}
@@ -95,4 +95,5 @@ NamesFile place (fault.Source file id) = file ≡ place
 NamesFile place (fault.Corrupt file id) = file ≡ place
 NamesFile place (fault.DTypeMismatch file) = file ≡ place
 NamesFile place (fault.Layout file f) = file ≡ place
+NamesFile place (fault.Overflow file) = file ≡ place
 NamesFile place _ = ⊥

@@ -1,7 +1,7 @@
 -- What reading columns may answer.
 use Rattle.std.specs.Prelude.{List}
 use Rattle.scan_segments.specs.Source.{Store}
-use Rattle.scan_layout.specs.Touched.{Place}
+use Rattle.scan_layout.specs.Places.{Place}
 use Rattle.scan_multi.specs.declared.scan.read.ReadFault.{ReadFault}
 use Rattle.scan_multi.specs.declared.scan.read.ReadFault.TheVariants as fault
 use Rattle.scan_multi.specs.Places.{HasBad}

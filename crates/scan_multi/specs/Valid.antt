@@ -5,10 +5,11 @@ use Rattle.scan_expr.specs.declared.request.ScanRequest.{ScanRequest}
 use Rattle.scan_segments.specs.Faults.{Rose}
 use Rattle.scan_segments.specs.Source.{SourceState}
 use Rattle.scan_layout.specs.Layout.{rows_of}
-use Rattle.scan_layout.specs.Touched.{Place}
+use Rattle.scan_layout.specs.Places.{Place}
 use Rattle.scan_multi.specs.Opener.{OpenerState, Given, skip, layout_of}
 use Rattle.scan_multi.specs.Answer.{ToldFile, is_good}
 use Rattle.scan_multi.specs.Named.{named_places}
+use Rattle.scan_multi.specs.Overflow.{OverflowsIn}
 use Rattle.scan_multi.specs.Places.{IsBad}
 use Rattle.scan_multi.specs.Served.{first_request_fault}
 use Rattle.scan_multi.specs.declared.scan.files.ScanFile.{ScanFile}
@@ -26,11 +27,16 @@ IsGood d request (layout_of l) = is_good d request l ≡ true
 abbrev pub IsSound : DataType → ScanRequest → ToldFile → Type 0
 IsSound d request f = (place : Place) → Contains (named_places d request f.given f.store) place → IsBad f.store place → ⊥
 
--- The request has no fault, each file is good and sound, and the rows are below 2 ^ 64 in all.
+-- no expression of the request overflows where it is read
+abbrev pub NeverOverflows : DataType → ScanRequest → ToldFile → Type 0
+NeverOverflows d request f = OverflowsIn d request f.given f.store → ⊥
+
+-- The request has no fault, each file is good and sound, no expression overflows, and the rows are below 2 ^ 64 in all.
 pub record IsValid (workers : ℕ) (d : DataType) (request : ScanRequest) (files : List ToldFile) : Type 0 where
   pub no_fault : first_request_fault workers d request ≡ None
   pub good : All (λ f. IsGood d request f.given) files
   pub sound : All (IsSound d request) files
+  pub no_overflow : All (NeverOverflows d request) files
   pub rows : sum (map (λ f. rows_given f.given) files) < 2 ^ 64
 
 module _ {O S : Type 0} (opener : O → OpenerState) (source : S → SourceState) where

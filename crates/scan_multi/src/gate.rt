@@ -4,3 +4,18 @@
 pub trait Gate: Sync {
     fn pass(&self, worker: usize);
 }
+
+/// A gate that each worker passes at once.
+#[derive(Clone, Copy, Debug)]
+pub struct NoGate;
+
+impl NoGate {
+    /// The gate.
+    pub fn new() -> Self {
+        NoGate
+    }
+}
+
+impl Gate for NoGate {
+    fn pass(&self, _worker: usize) {}
+}

@@ -1,12 +1,10 @@
-//! Scans of many files: their openers, and the top call.
+//! Scans of files: their openers, and the top call. So far a scan is of one file.
 #![tactic(auto)]
 
 pub mod gate;
 pub mod scan;
-#[cfg(test)]
-mod tests;
 
-pub use gate::Gate;
+pub use gate::{Gate, NoGate};
 pub use scan::files::{RangeFault, ScanChunk, ScanFault, ScanFile, ScanOutput, scan_files};
 pub use scan::multi::{BoxedFactory, LayoutReaderFactory, MemoryOpener, Opening};
 pub use scan::report::ScanReport;

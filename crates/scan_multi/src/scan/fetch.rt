@@ -1,6 +1,7 @@
 //! Fetching the segments of a file: each is looked up in the cache first, and what is not there goes through a table of
 //! shared requests.
 ghost use Rattle.std.specs.Prelude.{◌≡◌, ◌⊎◌, [], true, Some, IfOk, IfErr, OnOk, OnErr};
+ghost use Rattle.scan_segments.specs.Source.{none_live};
 ghost use Rattle.scan_segments.specs.Cached.{Offers};
 ghost use Rattle.scan_segments.specs.Sharing.{Agree, entry_at, answer_of, is_held};
 ghost use Rattle.scan_multi.specs.Traffic.{capped_report};
@@ -74,7 +75,7 @@ pub(crate) fn fetch<S: SegmentSource, C: KeyedSegmentCache>(
     cache: &mut C,
     wants: &[SegmentId],
 ) -> Result<Fetched, FetchFault>
-    requires { (S.state source.old).live ≡ [] }
+    requires { (S.state source.old).live ≡ none_live }
     ensures ok { IfOk result (λ f. IsFetched name.now wants.now (C.cache cache.old) (C.cache cache.new) (S.state source.old) (S.state source.new) f) }
     ensures err { IfErr result (λ e. IsFetchFault name.now wants.now (C.cache cache.old) (C.cache cache.new) (S.state source.old) (S.state source.new) e) }
 {
@@ -117,7 +118,7 @@ fn fetch_all<S: SegmentSource, C: KeyedSegmentCache>(
     fetched: &mut Fetched,
     wants: &[SegmentId],
 ) -> Result<(), FetchFault>
-    requires idle { (S.state source.old).live ≡ [] }
+    requires idle { (S.state source.old).live ≡ none_live }
     requires empty { (requests.old.table ≡ []) × (requests.old.wants.items ≡ []) }
     requires none { (fetched.old.segments.entries ≡ []) × (fetched.old.report ≡ capped_report 0 0 0) }
     ensures ok { OnOk result (Afterwards (S.state source.new) (λ after. IsFetched key.old.source_id wants.now (C.cache cache.old) (C.cache cache.new) (S.state source.old) after fetched.new)) }
@@ -147,7 +148,7 @@ fn hold_wants<S: SegmentSource, C: KeyedSegmentCache>(
     fetched: &mut Fetched,
     wants: &[SegmentId],
 ) -> Result<(), NoMemory>
-    requires idle { (S.state source.old).live ≡ [] }
+    requires idle { (S.state source.old).live ≡ none_live }
     requires empty { (requests.old.table ≡ []) × (requests.old.wants.items ≡ []) }
     requires none { (fetched.old.segments.entries ≡ []) × (fetched.old.report ≡ capped_report 0 0 0) }
     ensures ok { OnOk result (HoldsAll key.old.source_id wants.now wants.now (C.cache cache.old) (C.cache cache.new) (S.state source.old) (S.state source.new) requests.new.wants.items requests.new.table fetched.new) }

@@ -4,7 +4,7 @@ ghost use Rattle.scan_values.specs.DataType.{fields_of};
 ghost use Rattle.scan_values.specs.Val.{marked};
 ghost use Rattle.scan_values.specs.Fits.{fits};
 ghost use Rattle.scan_expr.specs.Infer.{infer};
-ghost use Rattle.scan_segments.specs.Source.{Store};
+ghost use Rattle.scan_segments.specs.Source.{Store, none_live};
 ghost use Rattle.scan_layout.specs.Check.{first_fault};
 ghost use Rattle.scan_multi.specs.Answer.{answer, part_of};
 ghost use Rattle.scan_multi.specs.Output.{Admits, IsChunk};
@@ -113,6 +113,8 @@ pub enum ScanFault {
     TooManyRows { file: usize },
     #[error("there are no workers")]
     Concurrency,
+    #[error("an expression overflows in file {file}")]
+    Overflow { file: usize },
     #[error("this scan is not built yet")]
     NotBuilt,
 }
@@ -354,7 +356,7 @@ fn scan_layout<S: SegmentSource, C: KeyedSegmentCache>(
     file: usize,
     plan: &Plan<'_>,
 ) -> Result<FileRows, ScanFault>
-    requires idle { (S.state source.old).live ≡ [] }
+    requires idle { (S.state source.old).live ≡ none_live }
     requires plan { IsPlan plan.now.projection.scope plan.now.request.now plan.now.projection plan.now.places.items plan.now.chosen.items }
     requires form { first_fault layout.now plan.now.projection.scope ≡ None }
     ensures fetches { Fetches name.now (ids_of (chosen_in layout.now plan.now.chosen.items)) (C.cache cache.old) (C.cache cache.new) (S.state source.old) (S.state source.new) }

@@ -8,7 +8,7 @@ ghost use Rattle.scan_multi.specs.Read.{IsReadFault};
 ghost use Rattle.scan_layout.specs.Layout.{dtype_of};
 ghost use Rattle.scan_layout.specs.LayoutView.{layouts_of};
 
-use scan_layout::{DecodeFault, LayoutKind, LayoutRef, decode_segment};
+use scan_layout::{DecodeFault, LayoutKind, LayoutRef, Spelling, decode_segment};
 use scan_segments::{ByteBuffer, SegmentId};
 use scan_values::{DType, NoMemory, Value, Values};
 use std::alloc::{AllocError, Global};
@@ -25,12 +25,13 @@ fn read_segment(
     alloc: Global,
     came: &HashMap<SegmentId, ByteBuffer>,
     dtype: &DType,
+    spelling: Spelling,
     id: SegmentId,
     rows: u64,
 ) -> Result<Vec<Value>, ReadFault>
     requires scalar { IsTrue (is_scalar_type dtype.now) }
-    ensures ok { IfOk result (λ vs. IsColumn (Some (store_of came.now.entries)) dtype.now ((id, rows) ∷ []) (map val_of vs.items)) }
-    ensures err { IfErr result (λ e. IsReadFault (segment_places dtype.now (id, rows)) (store_of came.now.entries) e) }
+    ensures ok { IfOk result (λ vs. IsColumn (Some (store_of came.now.entries)) dtype.now spelling ((id, rows) ∷ []) (map val_of vs.items)) }
+    ensures err { IfErr result (λ e. IsReadFault (segment_places dtype.now spelling (id, rows)) (store_of came.now.entries) e) }
 {
     if rows == 0 {
         return Ok(Vec::new(alloc));
@@ -38,7 +39,7 @@ fn read_segment(
     let Some(bytes) = came.get(&id) else {
         return Err(ReadFault::Corrupt(id));
     };
-    match decode_segment(alloc, dtype, rows, bytes.as_slice()) {
+    match decode_segment(alloc, spelling, dtype, rows, bytes.as_slice()) {
         Ok(array) => Ok(array.into_vec()),
         Err(DecodeFault::Spelling) => Err(ReadFault::Corrupt(id)),
         Err(DecodeFault::NoMemory) => Err(ReadFault::NoMemory),
@@ -50,15 +51,16 @@ fn read_leaf(
     alloc: Global,
     came: &HashMap<SegmentId, ByteBuffer>,
     dtype: &DType,
+    spelling: Spelling,
     segments: &[(SegmentId, u64)],
 ) -> Result<Values, ReadFault>
     requires scalar { IsTrue (is_scalar_type dtype.now) }
-    ensures ok { IfOk result (λ vs. IsColumn (Some (store_of came.now.entries)) dtype.now segments.now vs) }
-    ensures err { IfErr result (λ e. IsReadFault (leaf_places dtype.now segments.now) (store_of came.now.entries) e) }
+    ensures ok { IfOk result (λ vs. IsColumn (Some (store_of came.now.entries)) dtype.now spelling segments.now vs) }
+    ensures err { IfErr result (λ e. IsReadFault (leaf_places dtype.now spelling segments.now) (store_of came.now.entries) e) }
 {
     let mut values = Vec::new(alloc);
     for segment in segments {
-        let mut more = read_segment(alloc, came, dtype, segment.0, segment.1)?;
+        let mut more = read_segment(alloc, came, dtype, spelling, segment.0, segment.1)?;
         if values.append(&mut more).is_err() {
             return Err(ReadFault::NoMemory);
         }
@@ -103,8 +105,8 @@ fn read_child(
         return Ok(None);
     }
     match &child.kind {
-        LayoutKind::Leaf(segments) => {
-            let values = read_leaf(alloc, came, &child.dtype, segments.as_slice())?;
+        LayoutKind::Leaf(segments, spelling) => {
+            let values = read_leaf(alloc, came, &child.dtype, *spelling, segments.as_slice())?;
             Ok(Some(values))
         }
         _ => Ok(Some(Values::new(Vec::new(alloc)))),

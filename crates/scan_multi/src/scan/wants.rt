@@ -2,7 +2,7 @@
 ghost use Rattle.std.specs.Prelude.{◌≡◌, ◌++◌, IfOk, OnOk, length};
 ghost use Rattle.scan_layout.specs.Layout.{dtype_of};
 ghost use Rattle.scan_layout.specs.LayoutView.{layouts_of};
-ghost use Rattle.scan_multi.specs.Columns.{leaf_places, chosen_places, segments_of};
+ghost use Rattle.scan_multi.specs.Columns.{leaf_places, chosen_places, spelling_of, segments_of};
 ghost use Rattle.scan_multi.specs.FileScan.{ids_of};
 
 use scan_layout::{LayoutKind, LayoutRef};
@@ -12,9 +12,9 @@ use std::alloc::Global;
 
 /// The segments of a leaf that have rows.
 fn add_segments(ids: &mut Vec<SegmentId>, child: &LayoutRef) -> Result<(), NoMemory>
-    ensures { OnOk result (ids.new.items ≡ ids.old.items ++ ids_of (leaf_places (dtype_of child.now.value) (segments_of child.now.value))) }
+    ensures { OnOk result (ids.new.items ≡ ids.old.items ++ ids_of (leaf_places (dtype_of child.now.value) (spelling_of child.now.value) (segments_of child.now.value))) }
 {
-    if let LayoutKind::Leaf(segments) = &child.kind {
+    if let LayoutKind::Leaf(segments, _) = &child.kind {
         for segment in segments.as_slice() {
             if segment.1 != 0 {
                 ids.push(segment.0)?;
