@@ -29,7 +29,7 @@ mapped_twice None a b = refl
 mapped_twice (Some xs) a b = ap Some (append_assoc xs a b)
 
 abbrev pub nothing_wrote : (bytes : List ℕ) (s : OutputState) → WroteFront bytes s s
-nothing_wrote bytes s = record { front = []; rest = bytes; parts = refl; written = mapped_nil s.written; faults = omega arith }
+nothing_wrote bytes s = record { front = []; rest = bytes; parts = refl; written = mapped_nil s.written; faults = omega arith; short = omega arith }
 
 abbrev pub wrote_more : (bytes : List ℕ) (n : ℕ) (a b c : OutputState) (w : WroteFront bytes a b) (rest : List ℕ) → w.rest ≡ rest → Wrote n rest b c → WroteFront bytes a c
 wrote_more bytes n a b c w rest e h = record {
@@ -38,6 +38,7 @@ wrote_more bytes n a b c w rest e h = record {
   parts = w.parts ∙ ap (λ xs. w.front ++ xs) (e ∙ sym (take-append-drop n rest)) ∙ sym (append_assoc w.front (take n rest) (drop n rest));
   written = h.written ∙ ap (option_map (λ before. before ++ take n rest)) w.written ∙ mapped_twice a.written w.front (take n rest);
   faults = let f = w.faults in let g = h.faults in omega arith;
+  short = let f = w.short in let g = h.short in omega arith;
 }
 
 pub all_written : (bytes : List ℕ) (a b : OutputState) (w : WroteFront bytes a b) → w.rest ≡ [] → b.written ≡ option_map (λ before. before ++ bytes) a.written

@@ -1,30 +1,21 @@
 -- What a run has done at each of its ends.
 use Rattle.std.proofs.Common.{◌≡◌, ◌≢◌, ◌⊎◌, inl, inr, ℕ, ◌<◌, List, ◌++◌, Option, None, Some, sym, ap, ◌∙◌, subst, arith}
 use Rattle.std.specs.Prelude.{IfSome, option_map, length}
-use Rattle.serde_json.specs.Read.{read}
-use Rattle.scan_run.specs.declared.manifest.Manifest.{Manifest}
+use Rattle.scan_manifest.specs.declared.manifest.Manifest.{Manifest}
 use Rattle.scan_run.specs.declared.run.Stop.{Stop}
 use Rattle.scan_run.specs.declared.run.Stop.TheVariants.{Unserved, Unbound, Unreadable, Failed, NoMemory}
 use Rattle.scan_run.specs.Io.{InputState, OutputState}
 use Rattle.scan_segments.specs.Faults.{Rose}
 use Rattle.scan_run.specs.ReadAll.{GaveAll, TookMore}
 use Rattle.scan_run.specs.WriteAll.{WroteFront}
-use Rattle.scan_run.specs.Manifest.{manifest_in, IsManifest}
+use Rattle.scan_manifest.specs.Manifest.{IsManifest}
+use Rattle.scan_manifest.proofs.CallerLemmas.{only_manifest}
 use Rattle.scan_run.specs.Run.{IsDone, IsUnserved, of_files, IsRefused, IsFound, IsUnbound, IsUnreadable}
 use Rattle.scan_run.specs.Stops.{status_of, IsStop, IsTextOf, WroteFrontOfLines, Ends, IsReady}
 
 told_fact : (P : List ℕ → Type 0) (left : Option (List ℕ)) (bytes : List ℕ) → IfSome left (λ all. bytes ≡ all) → P bytes → IfSome left P
 told_fact P None bytes e h = tt
 told_fact P (Some all) bytes e h = subst P e h
-
-same_some : {X : Type 0} (o : Option X) (x y : X) → o ≡ Some x → o ≡ Some y → x ≡ y
-same_some None x y h k = cc
-same_some (Some z) x y h k = let a : z ≡ x = cc in let b : z ≡ y = cc in sym a ∙ b
-
--- bytes are at most one manifest
-only_manifest : (bytes : List ℕ) (m k : Manifest) → IsManifest bytes m → IsManifest bytes k → m ≡ k
-only_manifest bytes m k (d, s, h) (e, t, g) =
-    same_some (manifest_in d) m k h (ap manifest_in (same_some (read bytes) d e s.1 t.1) ∙ g)
 
 pub refused_many : (input input' : InputState) (bytes : List ℕ) → GaveAll bytes input input' → ((m : Manifest) → IsManifest bytes m → length m.files ≢ 1) → IsRefused input input'
 refused_many input input' bytes g h =

@@ -16,6 +16,7 @@ use Rattle.scan_multi.specs.OpenerMemory.{opener_state}
 use Rattle.scan_multi.specs.Answer.{ToldFile, answer}
 use Rattle.scan_multi.specs.Output.{ChunkData, chunk_items, given, IsChunk, Admits}
 use Rattle.scan_multi.specs.Named.{named_places}
+use Rattle.scan_multi.specs.Overflow.{OverflowsIn}
 use Rattle.scan_multi.specs.Places.{HasBad}
 use Rattle.scan_multi.specs.Served.{is_built, early_fault, first_request_fault, of_bind}
 use Rattle.scan_multi.specs.Causes.{IsOfOtherType, IsIllFormed, HasCause, FaultAt, IsLawful, Tells, Agrees, IsIdle, told}
@@ -23,12 +24,12 @@ use Rattle.scan_multi.specs.declared.scan.multi.MemoryOpener.{MemoryOpener}
 use Rattle.scan_multi.specs.declared.scan.files.ScanFile.{ScanFile}
 use Rattle.scan_multi.specs.declared.scan.files.ScanFault.{ScanFault}
 use Rattle.scan_multi.specs.declared.scan.files.ScanFault.TheVariants as fault
-use Rattle.scan_run.specs.declared.manifest.FileSpec.{FileSpec}
-use Rattle.scan_run.specs.declared.manifest.Manifest.{Manifest}
+use Rattle.scan_manifest.specs.declared.manifest.FileSpec.{FileSpec}
+use Rattle.scan_manifest.specs.declared.manifest.Manifest.{Manifest}
 use Rattle.scan_run.specs.declared.run.Asked.{Asked}
 use Rattle.scan_run.specs.AskedOf.{IsAsked}
 use Rattle.scan_run.specs.FileOf.{IsFileOf, AreFilesOf}
-use Rattle.scan_run.specs.Run.{given_by, store_of, told_by, lines_of, IsScanned, IsUnserved, of_form, of_type, of_layout, of_segment}
+use Rattle.scan_run.specs.Run.{given_by, store_of, told_by, lines_of, IsScanned, IsUnserved, of_form, of_type, of_layout, of_overflow, of_segment}
 use Rattle.scan_run.specs.Printed.{chunks_lines}
 use Rattle.scan_run.specs.Stops.{stop_of, IsStop, IsTextOf}
 
@@ -72,6 +73,13 @@ module _ (m : Manifest) (spec : FileSpec) (f : ScanFile MemoryOpener MemorySourc
       told_is _ (store_of spec.segments) at is.holds (told_is _ (given_by spec) over is.gives ((c.cause f).0 (record { tells = refl; agrees = λ id. tt })))
   bad_file (suc k) id c = let t = c.there in absurd (omega arith)
 
+  spilled : (place : ℕ) → FaultAt memory_opener source_state m.workers m.dtype m.request empty_cache (f ∷ []) new place (fault.Overflow place) → OverflowsIn m.dtype m.request (given_by spec) (store_of spec.segments)
+  spilled zero c =
+      let at : Store → Type 0 = λ store. OverflowsIn m.dtype m.request (given_by spec) store in
+      let over : Given → Type 0 = λ given. IfSome (source_state f.source).holds (λ store. OverflowsIn m.dtype m.request given store) in
+      told_is _ (store_of spec.segments) at is.holds (told_is _ (given_by spec) over is.gives (c.cause f (record { tells = refl; agrees = λ id. tt })))
+  spilled (suc k) c = let t = c.there in absurd (omega arith)
+
   -- each cause is one that the manifest shows
   pub stopped : (e : ScanFault) → HasCause memory_opener source_state m.workers m.dtype m.request empty_cache (f ∷ []) new e → IsStop m (stop_of e)
   stopped fault.NoMemory c = tt
@@ -85,6 +93,7 @@ module _ (m : Manifest) (spec : FileSpec) (f : ScanFile MemoryOpener MemorySourc
   stopped (fault.Corrupt place id) c = (spec, only m.files spec one, of_segment id (bad_file place id c))
   stopped (fault.TooManyRows place) c = absurd c
   stopped fault.Concurrency c = absurd c
+  stopped (fault.Overflow place) c = (spec, only m.files spec one, of_overflow (spilled place c))
   stopped fault.NotBuilt c = unserved_form m 1 same_count c
 
 module _ (spec : FileSpec) (f : ScanFile MemoryOpener MemorySource) (is : IsFileOf spec f) where

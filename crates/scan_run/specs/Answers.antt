@@ -42,12 +42,14 @@ pub record Wrote (n : ℕ) (bytes : List ℕ) (old new : OutputState) : Type 0 w
   pub fits : n ≤ length bytes
   pub written : new.written ≡ option_map (λ before. before ++ take n bytes) old.written
   pub faults : old.faults ≤ new.faults
+  pub short : old.short ≤ new.short
 
 pub record WroteNothing (old new : OutputState) : Type 0 where
   pub written : new.written ≡ old.written
   pub faults : old.faults ≤ new.faults
+  pub short : old.short ≤ new.short
 
 abbrev pub IsWritten : List ℕ → OutputState → OutputState → OutputWrite → Type 0
 IsWritten bytes old new (output.Took n) = Wrote n bytes old new
 IsWritten bytes old new output.Failed = WroteNothing old new × Rose old.faults new.faults
-IsWritten bytes old new output.NoMemory = WroteNothing old new
+IsWritten bytes old new output.NoMemory = WroteNothing old new × Rose old.short new.short

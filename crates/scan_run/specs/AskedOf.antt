@@ -1,6 +1,6 @@
 -- What a manifest asks of its files.
 use Rattle.std.specs.Prelude.{◌≡◌}
-use Rattle.scan_run.specs.declared.manifest.Manifest.{Manifest}
+use Rattle.scan_manifest.specs.declared.manifest.Manifest.{Manifest}
 use Rattle.scan_run.specs.declared.run.Asked.{Asked}
 
 pub record IsAsked (m : Manifest) (a : Asked) : Type 0 where

@@ -13,7 +13,9 @@ pub record InputState : Type 0 where
 pub record OutputState : Type 0 where
   -- the bytes that it took, where it tells
   pub written : Option (List ℕ)
+  -- how often it failed, and how often it found no memory: each up to the greatest number that is kept
   pub faults : ℕ
+  pub short : ℕ
 
 -- the input was read to its end
 abbrev pub WasRead : InputState → InputState → Type 0

@@ -3,17 +3,8 @@ pub mod Answers
 pub mod ReadAll
 pub mod WriteAll
 pub mod Line
-pub mod Forms
-pub mod Parse
-pub mod Json
-pub mod DTypes
-pub mod Layouts
-pub mod Exprs
-pub mod CacheSize
-pub mod Manifest
 pub mod Run
 pub mod Printed
 pub mod FileOf
 pub mod Stops
-pub mod FileCode
 pub mod AskedOf

@@ -13,15 +13,16 @@ use Rattle.scan_multi.specs.Answer.{Item, ToldFile, answer}
 use Rattle.scan_multi.specs.Output.{ChunkData, Admits, given}
 use Rattle.scan_multi.specs.Served.{early_fault, first_request_fault, is_built}
 use Rattle.scan_multi.specs.Causes.{IsOfOtherType, IsIllFormed}
+use Rattle.scan_multi.specs.Overflow.{OverflowsIn}
 use Rattle.scan_multi.specs.Places.{HasBad}
 use Rattle.scan_multi.specs.Named.{named_places}
 use Rattle.scan_multi.specs.declared.scan.files.ScanFault.TheVariants as fault
 use Rattle.scan_expr.specs.declared.op.BindFault.{BindFault}
 use Rattle.scan_layout.specs.declared.fault.LayoutFault.{LayoutFault}
 use Rattle.scan_run.specs.Io.{InputState, OutputState, WasRead}
-use Rattle.scan_run.specs.declared.manifest.FileSpec.{FileSpec}
-use Rattle.scan_run.specs.declared.manifest.Manifest.{Manifest}
-use Rattle.scan_run.specs.Manifest.{IsManifest}
+use Rattle.scan_manifest.specs.declared.manifest.FileSpec.{FileSpec}
+use Rattle.scan_manifest.specs.declared.manifest.Manifest.{Manifest}
+use Rattle.scan_manifest.specs.Manifest.{IsManifest}
 use Rattle.scan_run.specs.Line.{line_of}
 
 -- the words are `scan` alone
@@ -92,10 +93,11 @@ pub record IsFound (input input' : InputState) (P : Manifest → Type 0) : Type 
 abbrev pub IsUnbound : Manifest → Type 0
 IsUnbound m = (f : BindFault) × (early_fault m.workers (length m.files) m.dtype m.request ≡ Some (fault.Bind f))
 
--- what is wrong with a file: its layout is of another dtype, or not well-formed, or a named segment is missing or damaged
+-- what is wrong with a file: its layout is of another dtype, or not well-formed, a named segment is missing or damaged, or an expression overflows
 pub data IsBadFile (m : Manifest) (f : FileSpec) : Type 0 where
   of_type : IsOfOtherType m.dtype (given_by f) → IsBadFile m f
   of_layout : (fault : LayoutFault) → IsIllFormed m.dtype fault (given_by f) → IsBadFile m f
+  of_overflow : OverflowsIn m.dtype m.request (given_by f) (store_of f.segments) → IsBadFile m f
   of_segment : (id : ℕ) → HasBad (store_of f.segments) (named_places m.dtype m.request (given_by f) (store_of f.segments)) id → IsBadFile m f
 
 -- a file can't be read

@@ -5,11 +5,11 @@ use Rattle.scan_multi.specs.declared.scan.files.ScanFault.{ScanFault}
 use Rattle.scan_multi.specs.declared.scan.files.ScanFault.TheVariants as fault
 use Rattle.scan_run.specs.declared.run.Stop.{Stop}
 use Rattle.scan_run.specs.declared.run.Stop.TheVariants.{Unserved, Unbound, Unreadable, Failed, NoMemory}
-use Rattle.scan_run.specs.declared.manifest.Manifest.{Manifest}
+use Rattle.scan_manifest.specs.declared.manifest.Manifest.{Manifest}
 use Rattle.scan_run.specs.Io.{InputState, OutputState, WasRead}
 use Rattle.scan_segments.specs.Faults.{Rose}
 use Rattle.scan_run.specs.ReadAll.{GaveAll, TookMore}
-use Rattle.scan_run.specs.Manifest.{IsManifest}
+use Rattle.scan_manifest.specs.Manifest.{IsManifest}
 use Rattle.scan_run.specs.Run.{IsScanned, printed, IsUnserved, IsRefused, IsUnbound, IsUnreadable, WroteNone}
 
 abbrev pub stop_of : ScanFault → Stop
@@ -24,6 +24,7 @@ stop_of (fault.Layout file f) = Unreadable
 stop_of (fault.Corrupt file segment) = Unreadable
 stop_of (fault.TooManyRows file) = Unserved
 stop_of fault.Concurrency = Unserved
+stop_of (fault.Overflow file) = Unreadable
 stop_of fault.NotBuilt = Unserved
 
 abbrev pub status_of : Stop → ℕ

@@ -9,3 +9,4 @@ pub record WroteFront (bytes : List ℕ) (old new : OutputState) : Type 0 where
   pub parts : bytes ≡ front ++ rest
   pub written : new.written ≡ option_map (λ before. before ++ front) old.written
   pub faults : old.faults ≤ new.faults
+  pub short : old.short ≤ new.short

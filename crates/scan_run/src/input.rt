@@ -1,4 +1,4 @@
-// An input: bytes that come in pieces, until its end or a fault.
+//! An input: bytes that come in pieces, until its end or a fault.
 ghost use Rattle.std.specs.Prelude.{◌≡◌, ◌≢◌, ◌<◌, ◌≤◌, ◌+◌, ◌-◌, ◌^◌, ◌↔◌, length, IfOk};
 ghost use Rattle.scan_segments.specs.Faults.{Rose};
 ghost use Rattle.scan_run.specs.Io.{InputState};

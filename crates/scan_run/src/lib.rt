@@ -1,29 +1,22 @@
-// The manifest of a scan, its lines, and the program's run over any input and output.
+//! The program's run over any input and output, and the lines that it prints.
 #![tactic(auto)]
 
 mod input;
-mod json;
 mod line;
-pub mod manifest;
 mod memory_input;
 mod memory_output;
-mod no_gate;
 mod output;
 mod print;
-mod read_dtype;
-mod read_expr;
-mod read_layout;
 pub mod run;
 mod std_input;
 mod std_output;
-#[cfg(test)]
-mod tests;
 
 pub use input::{Input, InputRead, MOST_BYTES, ReadFault, read_all};
 pub use line::{push_line, push_value};
 pub use memory_input::MemoryInput;
 pub use memory_output::MemoryOutput;
-pub use no_gate::NoGate;
 pub use output::{Output, OutputWrite, WriteFault, write_all};
+pub use scan_manifest::{CacheSpec, FileSpec, Manifest, ParseFault, parse_manifest};
+pub use scan_multi::NoGate;
 pub use std_input::StdInput;
 pub use std_output::StdOutput;

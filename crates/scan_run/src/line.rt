@@ -1,4 +1,4 @@
-// The lines that a scan prints: one a row, with its file, its number in that file and its value.
+//! The lines that a scan prints: one a row, with its file, its number in that file and its value.
 ghost use Rattle.std.specs.Prelude.{◌≡◌, ◌++◌, ◌<◌, ◌*◌, true, OnOk, map, codes, length, option_map, slice_get};
 ghost use Rattle.std.specs.Fmt.{signed_decimal};
 ghost use Rattle.scan_values.specs.DataType.{fields_of};

@@ -1,4 +1,4 @@
-// An input in memory, which tells its bytes.
+//! An input in memory, which tells its bytes.
 ghost use Rattle.std.specs.Prelude.{◌≡◌, Some, drop, []};
 ghost use Rattle.scan_run.specs.Io.{InputState};
 

@@ -1,4 +1,4 @@
-// An output in memory, which tells what it took.
+//! An output in memory, which tells what it took.
 ghost use Rattle.std.specs.Prelude.{◌≡◌, Some, []};
 ghost use Rattle.scan_run.specs.Io.{OutputState};
 
@@ -14,6 +14,7 @@ pub struct MemoryOutput {
     pub bytes: Vec<u8>,
     pub script: Script,
     pub faults: u64,
+    pub short: u64,
 }
 
 impl MemoryOutput {
@@ -21,12 +22,13 @@ impl MemoryOutput {
     pub fn new(alloc: Global, failing: StrictSorted) -> Self
         ensures bytes { result.bytes.items ≡ [] }
         ensures script { result.script ≡ record { failing = failing; pending = []; next = Some 0 } }
-        ensures faults { result.faults ≡ 0 }
+        ensures counts { (result.faults ≡ 0) × (result.short ≡ 0) }
     {
         MemoryOutput {
             bytes: Vec::new(alloc),
             script: Script::new(failing, no_numbers(alloc)),
             faults: 0,
+            short: 0,
         }
     }
 
@@ -39,7 +41,7 @@ impl MemoryOutput {
 }
 
 impl Output for MemoryOutput {
-    ghost output = { λ s. record { written = Some s.bytes.items; faults = s.faults } };
+    ghost output = { λ s. record { written = Some s.bytes.items; faults = s.faults; short = s.short } };
 
     fn write_some(&mut self, bytes: &[u8]) -> OutputWrite {
         if let Outcome::Fails = self.script.step() {
@@ -48,7 +50,10 @@ impl Output for MemoryOutput {
         }
         match self.bytes.extend_from_slice(bytes) {
             Ok(()) => OutputWrite::Took(bytes.len()),
-            Err(_) => OutputWrite::NoMemory,
+            Err(_) => {
+                self.short = self.short.saturating_add(1);
+                OutputWrite::NoMemory
+            }
         }
     }
 }

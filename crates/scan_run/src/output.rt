@@ -1,4 +1,4 @@
-// An output: it takes bytes in pieces, or fails.
+//! An output: it takes bytes in pieces, or fails.
 ghost use Rattle.std.specs.Prelude.{◌≡◌, ◌<◌, ◌++◌, length, option_map, OnOk};
 ghost use Rattle.scan_segments.specs.Faults.{Rose};
 ghost use Rattle.scan_run.specs.Io.{OutputState};
@@ -17,7 +17,7 @@ pub enum OutputWrite {
 
 /// An output that is written in pieces.
 pub trait Output {
-    /// The bytes that it took, and its faults.
+    /// The bytes that it took, its faults, and how often it found no memory.
     ghost output: { Self → OutputState };
 
     /// Takes bytes from the front of these.
@@ -35,11 +35,16 @@ pub enum WriteFault {
     NoMemory,
 }
 
-/// Writes all bytes, in order. After a fault the output has taken a front of them.
+/// Writes all bytes, in order. After a fault the output has taken a front of them. It takes no memory of its own.
+///
+/// # Errors
+///
+/// `Failed` and `NoMemory`, each only where the output's count of these rose.
 pub fn write_all<O: Output>(output: &mut O, bytes: &[u8]) -> Result<(), WriteFault>
     ensures front { WroteFront bytes.now (O.output output.old) (O.output output.new) }
     ensures ok { OnOk result ((O.output output.new).written ≡ option_map (λ before. before ++ bytes.now) (O.output output.old).written) }
     ensures failed { result ≡ Err WriteFault.Failed → Rose (O.output output.old).faults (O.output output.new).faults }
+    ensures memory { result ≡ Err WriteFault.NoMemory → Rose (O.output output.old).short (O.output output.new).short }
 {
     let mut rest = bytes;
     'writing: while !rest.is_empty() {

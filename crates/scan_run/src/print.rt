@@ -1,4 +1,4 @@
-// The lines of the chunks of a scan.
+//! The lines of the chunks of a scan.
 ghost use Rattle.std.specs.Prelude.{◌≡◌, ◌++◌, OnOk, Some, map, zip};
 ghost use Rattle.scan_values.specs.Values.{val_of};
 ghost use Rattle.scan_run.specs.Run.{lines_of};

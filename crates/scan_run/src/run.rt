@@ -1,4 +1,4 @@
-// The program's run, over any input and output.
+//! The program's run, over any input and output.
 ghost use Rattle.std.specs.Prelude.{◌≡◌, ◌≢◌, ◌⊎◌, ◌↔◌, ◌<◌, [], ◌∷◌, List, length, map, string_bytes, false, IfOk, IfErr, Some, None, if◌then◌else◌};
 ghost use Rattle.scan_segments.specs.Faults.{Rose};
 ghost use Rattle.scan_segments.specs.Cache.{empty_cache};
@@ -13,16 +13,15 @@ ghost use Rattle.scan_run.specs.Printed.{chunks_lines};
 ghost use Rattle.scan_run.specs.Stops.{stop_of, status_of, IsStop, IsTextOf, WroteFrontOfLines, IsGiven, Halts, IsReady, Ends};
 ghost use Rattle.scan_run.specs.FileOf.{IsFileOf, AreFilesOf};
 ghost use Rattle.scan_run.specs.AskedOf.{IsAsked};
-ghost use Rattle.scan_run.specs.declared.manifest.FileSpec.{FileSpec};
-ghost use Rattle.scan_run.specs.declared.manifest.Manifest.{Manifest};
+ghost use Rattle.scan_manifest.specs.declared.manifest.FileSpec.{FileSpec};
+ghost use Rattle.scan_manifest.specs.declared.manifest.Manifest.{Manifest};
 
 use crate::input::{Input, MOST_BYTES, ReadFault, read_all};
-use crate::json::ParseFault;
-use crate::manifest::{CacheSpec, FileSpec, Files, LayoutTree, Manifest, parse_manifest};
 use crate::output::{Output, WriteFault, write_all};
 use crate::print::push_chunks;
 use scan_expr::ScanRequest;
 use scan_layout::LayoutRef;
+use scan_manifest::{CacheSpec, FileSpec, Files, LayoutTree, Manifest, ParseFault, parse_manifest};
 use scan_multi::{Gate, MemoryOpener, ScanFault, ScanFile, ScanOutput, scan_files};
 use scan_segments::{MemorySource, MokaSegmentCache, SegmentEviction, SegmentSourceId};
 use scan_values::{DType, NoMemory};
@@ -105,6 +104,7 @@ fn stop_of(e: ScanFault) -> Stop
         } => Stop::Unreadable,
         ScanFault::TooManyRows { file: _ } => Stop::Unserved,
         ScanFault::Concurrency => Stop::Unserved,
+        ScanFault::Overflow { file: _ } => Stop::Unreadable,
         ScanFault::NotBuilt => Stop::Unserved,
     }
 }
@@ -155,7 +155,7 @@ impl Drop for Asked {
 }
 
 /// The chunks of a manifest's scan.
-fn scan_manifest<R: Threads + Sync, G: Gate>(
+fn run_manifest<R: Threads + Sync, G: Gate>(
     rt: &R,
     alloc: Global,
     manifest: Manifest,
@@ -245,7 +245,7 @@ fn scan_text<R: Threads + Sync, G: Gate>(
     ensures ok { IfOk result (λ text. IsTextOf manifest text.items) }
     ensures stop { IfErr result (λ s. IsStop manifest s) }
 {
-    match scan_manifest(rt, alloc, manifest, gate) {
+    match run_manifest(rt, alloc, manifest, gate) {
         Ok(out) => match text_of(alloc, &out) {
             Ok(text) => Ok(text),
             Err(NoMemory) => Err(Stop::NoMemory),
@@ -295,7 +295,8 @@ fn take_text<R: Threads + Sync, I: Input, G: Gate>(
 /// The program: it reads a manifest of one file from the input, scans it, and writes a line for each row to the output.
 /// The words are those after the program's name; `scan` alone is served. The answer is the exit status:
 /// 0 the lines were written, 1 other words, 2 the input is no manifest that is served, 3 the request does not bind,
-/// 4 a file's layout is of another dtype or not well-formed, or a segment is missing or damaged, 5 an opener or a source
+/// 4 a file's layout is of another dtype or not well-formed, a segment is missing or damaged, or an expression overflows,
+/// 5 an opener or a source
 /// failed, 6 the input or the output failed or the input has more than 67,108,864 bytes, 7 want of memory.
 #[tactic(none)]
 pub fn run<R: Threads + Sync, I: Input, O: Output, G: Gate>(

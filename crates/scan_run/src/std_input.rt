@@ -1,4 +1,4 @@
-// Standard input, which tells no bytes.
+//! Standard input, which tells no bytes.
 ghost use Rattle.std.specs.Prelude.{◌≡◌, None};
 ghost use Rattle.scan_run.specs.Io.{InputState};
 

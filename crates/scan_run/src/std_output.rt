@@ -1,4 +1,4 @@
-// Standard output, which tells no bytes.
+//! Standard output, which tells no bytes.
 ghost use Rattle.std.specs.Prelude.{◌≡◌, None};
 ghost use Rattle.scan_run.specs.Io.{OutputState};
 
@@ -19,7 +19,7 @@ impl<W: Write> StdOutput<W> {
 }
 
 impl<W: Write> Output for StdOutput<W> {
-    ghost output = { λ s. record { written = None; faults = s.faults } };
+    ghost output = { λ s. record { written = None; faults = s.faults; short = 0 } };
 
     fn write_some(&mut self, bytes: &[u8]) -> OutputWrite {
         match self.writer.write(bytes) {

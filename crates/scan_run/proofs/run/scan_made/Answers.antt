@@ -5,7 +5,7 @@ use Rattle.scan_segments.specs.declared.segment.SegmentKey.{SegmentKey}
 use Rattle.scan_multi.specs.Answer.{answer}
 use Rattle.scan_multi.specs.Causes.{HasCause, IsLawful, told}
 use Rattle.scan_multi.specs.Output.{Admits}
-use Rattle.scan_run.specs.declared.manifest.Manifest.{Manifest}
+use Rattle.scan_manifest.specs.declared.manifest.Manifest.{Manifest}
 use Rattle.scan_run.specs.declared.run.Stop.{Stop}
 use Rattle.scan_run.specs.AskedOf.{IsAsked}
 use Rattle.scan_run.specs.FileOf.{AreFilesOf}

@@ -1,8 +1,8 @@
 use Rattle.std.proofs.Common.{List, refl, rules}
 use Rattle.std.proofs.lemmas.Result.{IfOk-weaker, IfErr-weaker}
-use Rattle.scan_run.specs.declared.manifest.FileSpec.{FileSpec}
+use Rattle.scan_manifest.specs.declared.manifest.FileSpec.{FileSpec}
 use Rattle.scan_run.specs.FileOf.{AreFilesOf}
-use Rattle.scan_run.proofs.run.scan_manifest.Goals as goal
+use Rattle.scan_run.proofs.run.run_manifest.Goals as goal
 
 pub scan_made-requires : goal.scan_made-requires
 scan_made-requires g c =

@@ -1,8 +1,0 @@
-use Rattle.std.proofs.Common.{◌≡◌, ◌++◌, drop, option_map}
-use Rattle.serde_json.specs.View.{items_view}
-use Rattle.scan_run.specs.Json.{each, each_from}
-use Rattle.scan_run.specs.Layouts.{place_in}
-use Rattle.scan_run.proofs.read_layout.read_places.Given as goal
-
-abbrev pub invariant-loop-json : goal.invariant-loop-json
-invariant-loop-json l = each place_in (items_view l.list) ≡ option_map (λ xs. l.places.items ++ xs) (each_from (λ _. place_in) l.json-index (items_view (drop l.json-index l.list)))
