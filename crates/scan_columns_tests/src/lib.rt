@@ -1,0 +1,5 @@
+//! Worked examples over public calls: columns.
+#![tactic(auto)]
+
+#[cfg(test)]
+mod columns;

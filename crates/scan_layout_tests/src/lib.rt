@@ -1,0 +1,15 @@
+//! Worked examples over public calls: segments and layouts.
+#![tactic(auto)]
+
+#[cfg(test)]
+mod caches;
+#[cfg(test)]
+mod layouts;
+#[cfg(test)]
+mod leaf_columns;
+#[cfg(test)]
+mod segments;
+#[cfg(test)]
+mod sharing;
+#[cfg(test)]
+mod spellings;

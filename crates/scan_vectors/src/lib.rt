@@ -1,0 +1,9 @@
+//! Worked examples over public calls: scans, manifests and runs of the program.
+#![tactic(auto)]
+
+#[cfg(test)]
+mod manifest;
+#[cfg(test)]
+mod program;
+#[cfg(test)]
+mod scan;
