@@ -163,25 +163,39 @@ fn bytes(alloc: Global, numbers: &[Option<i128>]) -> Result<Array, Fail> {
     Ok(Array::try_new(single(alloc, PType::I8, Nullability::Nullable)?, rows)?)
 }
 
+fn seen_both(sums: &Array) -> (Came, Came) {
+    match sums.as_slice() {
+        [first, last] => (seen(first), seen(last)),
+        _ => (Came::Other, Came::Other),
+    }
+}
+
+/// What an expression came to on an array of two rows.
+fn on_two_rows(alloc: Global, e: &Expression, rows: &Array) -> Result<(Came, Came), Fail> {
+    let bound = e.bind(alloc, rows.dtype())?;
+    if bound.uses_row_idx() {
+        return Err(Fail::from("row numbers"));
+    }
+    match bound.apply(alloc, rows) {
+        Ok(sums) => Ok(seen_both(&sums)),
+        Err(ApplyFault::Overflow) => Ok((Came::Overflow, Came::Overflow)),
+        Err(ApplyFault::NoMemory) => Ok((Came::Other, Came::Other)),
+    }
+}
+
 #[test]
 fn an_array_has_sums_or_overflows(rt: HostRuntime) -> Result<(), Fail> {
     let alloc = rt.alloc();
-    let dtype = single(alloc, PType::I8, Nullability::Nullable)?;
-    let bound = over_a_byte(alloc, Case::Twice)?.bind(alloc, &dtype)?;
-    let fine = bytes(alloc, &[None, Some(27)])?;
-    if *fine.dtype() == *bound.scope() && !bound.uses_row_idx() {
-        let sums = bound.apply(alloc, &fine)?;
-        assert!(rt; *sums.dtype() == DType::primitive(PType::I8, Nullability::Nullable));
-        assert_eq!(rt; sums.len(), 2);
-        assert_eq!(rt; seen(sums.get(0)), Came::Null);
-        assert_eq!(rt; seen(sums.get(1)), Came::Number(54));
-    }
-    let large = bytes(alloc, &[Some(27), Some(100)])?;
-    if *large.dtype() == *bound.scope() && !bound.uses_row_idx() {
-        assert_eq!(rt;
-            bound.apply(alloc, &large).err(),
-            Some(ApplyFault::Overflow)
-        );
+    let twice = over_a_byte(alloc, Case::Twice)?;
+    for (a, b, first, last) in [
+        (None, Some(27), Came::Null, Came::Number(54)),
+        (Some(63), Some(-64), Came::Number(126), Came::Number(-128)),
+        (Some(27), Some(100), Came::Overflow, Came::Overflow),
+    ] {
+        let rows = bytes(alloc, &[a, b])?;
+        let came = on_two_rows(alloc, &twice, &rows)?;
+        assert_eq!(rt; came.0, first);
+        assert_eq!(rt; came.1, last);
     }
     Ok(())
 }
