@@ -1,9 +1,9 @@
 -- Segments of slots of one width: how long they are, which of them are spellings, and where a value stands.
-use Rattle.std.proofs.Common.{◌≡◌, ℕ, zero, suc, ◌+◌, ◌*◌, ◌<◌, ◌≤◌, List, [], ◌∷◌, ◌++◌, length, get_or, ◌==◌, take, drop, replicate, arith, refl, sym, ◌∙◌, ap, subst, Bool, false, true, ◌&&◌, nat_lt, Option}
+use Rattle.std.proofs.Common.{◌≡◌, ℕ, zero, suc, ◌+◌, ◌-◌, ◌*◌, ◌<◌, ◌≤◌, List, [], ◌∷◌, ◌++◌, length, get_or, ◌==◌, take, drop, replicate, arith, refl, sym, ◌∙◌, ap, subst, Bool, false, true, ◌&&◌, nat_lt, Option}
 use Rattle.std.proofs.Common.{Some, None, is_some, slice_get, drop-cons, drop-drop, length-append, add-one, append_assoc, map}
 use Rattle.std.specs.Prelude.{option_map, option_and_then, slice_index, if◌then◌else◌}
 use Rattle.std.specs.Str.{is_utf8}
-use Rattle.std.proofs.lemmas.List.{length-take, length-drop}
+use Rattle.std.proofs.lemmas.List.{length-take, length-drop, get_or-take, get_or-drop, take_rest}
 use Rattle.std.proofs.lemmas.Option.{slice_get-get_or}
 use Rattle.std.proofs.lemmas.Bool.{le-ltb, ltb-true, eqb-true, eqb-false}
 use Rattle.std.proofs.Math.ListN.{length-replicate, get_or-replicate}
@@ -11,7 +11,7 @@ use Rattle.std.proofs.Math.Nat.{suc-mul, zero-mul, mul-one}
 use Rattle.scan_values.specs.declared.ptype.PType.{PType}
 use Rattle.scan_values.specs.declared.dtype.DTypeKind.{DTypeKind}
 use Rattle.scan_values.specs.Val.{Val, null_val, int_val, bool_val, text_val}
-use Rattle.std.specs.List.{items_where_true}
+use Rattle.std.specs.List.{items_where_true, slice_range}
 use Rattle.std.proofs.lemmas.List.{map-append}
 use Rattle.scan_values.specs.declared.value.Value.{Value}
 use Rattle.scan_values.specs.Values.{val_of}
@@ -269,6 +269,32 @@ pub pick_passed : (bits : List Bool) (vs : List Val) (i : ℕ) → i < length bi
 pick_passed bits vs i low same here =
     let inside : i < length vs = omega arith in
     rw (drop-cons bits i false low, drop-cons vs i null_val inside, add-one) (one_passed (drop (suc i) bits) (drop (suc i) vs) (get_or bits i false) (get_or vs i null_val) here)
+
+-- ---- of a range of the rows
+range_length : (vs : List Val) (first n : ℕ) → first + n ≤ length vs → length (slice_range vs first (first + n)) ≡ n
+range_length vs first n h = simp (length-take, length-drop) (omega arith)
+
+range_place : (vs : List Val) (first n i : ℕ) (v : Val) → i < n → first + n ≤ length vs → Some v ≡ slice_get vs (first + i) → Some v ≡ slice_get (slice_range vs first (first + n)) i
+range_place vs first n i v low h is =
+    let many : i < first + n - first = omega arith in
+    let inside : i < length (slice_range vs first (first + n)) = subst (λ k. i < k) (sym (range_length vs first n h)) low in
+    is ∙ slice_get-get_or vs (first + i) null_val (omega arith)
+    ∙ ap Some (sym (get_or-take (first + n - first) (drop first vs) i null_val many ∙ get_or-drop first vs i null_val))
+    ∙ sym (slice_get-get_or (slice_range vs first (first + n)) i null_val inside)
+
+pub range_pushed : (front : List Value) (bits : List Bool) (vs : List Val) (first i : ℕ) (v : Value) → i < length bits → first + length bits ≤ length vs → get_or bits i false ≡ true → Some (val_of v) ≡ slice_get vs (first + i) →
+    map val_of front ++ items_where_true (drop i bits) (drop i (slice_range vs first (first + length bits)))
+    ≡ map val_of (front ++ v ∷ []) ++ items_where_true (drop (i + 1) bits) (drop (i + 1) (slice_range vs first (first + length bits)))
+range_pushed front bits vs first i v low h here is =
+    pick_pushed front bits (slice_range vs first (first + length bits)) i v low (sym (range_length vs first (length bits) h)) here (range_place vs first (length bits) i (val_of v) low h is)
+
+pub range_passed : (bits : List Bool) (vs : List Val) (first i : ℕ) → i < length bits → first + length bits ≤ length vs → get_or bits i false ≡ false →
+    items_where_true (drop i bits) (drop i (slice_range vs first (first + length bits))) ≡ items_where_true (drop (i + 1) bits) (drop (i + 1) (slice_range vs first (first + length bits)))
+range_passed bits vs first i low h here = pick_passed bits (slice_range vs first (first + length bits)) i low (sym (range_length vs first (length bits) h)) here
+
+-- all rows
+pub whole_range : (vs : List Val) (n : ℕ) → n ≡ length vs → slice_range vs 0 (0 + n) ≡ vs
+whole_range vs n e = let many : 0 + n - 0 ≡ length vs - 0 = omega (arith, e) in ap (λ k. take k (drop 0 vs)) many ∙ take_rest vs 0
 
 -- ---- which rows are there
 utf8_here : (test : Bool) (bytes : List ℕ) (v : Val) → (if test then Some (text_val bytes) else None) ≡ Some v → is_here v ≡ true

@@ -27,3 +27,5 @@ pub mod Columns
 pub mod BitColumns
 pub mod TextColumns
 pub mod TextRows
+pub mod LeafCells
+pub mod Placing

@@ -36,7 +36,7 @@ damaged_fits (utf8_type Nullable) s = refl
 damaged_fits (list_type t n) s = absurd cc
 damaged_fits (struct_type fs n) s = absurd cc
 
-fits_at : (vs : List Val) (t : DataType) (i : ℕ) → fits_all (marked_all (vals_of vs)) t ≡ true → i < length vs → fits (marked (get_or vs i null_val)) t ≡ true
+pub fits_at : (vs : List Val) (t : DataType) (i : ℕ) → fits_all (marked_all (vals_of vs)) t ≡ true → i < length vs → fits (marked (get_or vs i null_val)) t ≡ true
 fits_at [] t i e h = absurd (omega arith)
 fits_at (v ∷ vs) t zero e h = (and_true (fits (marked v) t) (fits_all (marked_all (vals_of vs)) t) e).0
 fits_at (v ∷ vs) t (suc i) e h = fits_at vs t i (and_true (fits (marked v) t) (fits_all (marked_all (vals_of vs)) t) e).1 (omega arith)

@@ -1,8 +1,8 @@
 -- What a contract sees of a leaf's segment that is read in place.
-use Rattle.std.specs.Prelude.{ℕ, zero, suc, List, [], ◌∷◌, take, Bool, true, false, ◌&&◌, nat_lt, Option, Some, None, is_some}
+use Rattle.std.specs.Prelude.{ℕ, zero, suc, ℤ, List, [], ◌∷◌, take, Bool, true, false, ◌&&◌, nat_lt, Option, Some, None, is_some}
 use Rattle.scan_values.specs.declared.dtype.DTypeKind.{DTypeKind}
 use Rattle.scan_values.specs.DataType.{DataType}
-use Rattle.scan_values.specs.Val.{Val, null_val}
+use Rattle.scan_values.specs.Val.{Val, null_val, bool_val, int_val, text_val}
 use Rattle.scan_layout.specs.declared.spelling.Spelling.{Spelling}
 use Rattle.scan_layout.specs.declared.spelling.Spelling.TheVariants.{One, Two}
 use Rattle.scan_layout.specs.Spelling.{width, bool_of, under_flag, bits_of, decode}
@@ -61,3 +61,18 @@ is_here _ = true
 abbrev pub is_set : ℕ → Bool
 is_set zero = false
 is_set (suc flag) = true
+
+-- a number, or null
+abbrev pub int_or_null : Option ℤ → Val
+int_or_null None = null_val
+int_or_null (Some z) = int_val z
+
+-- a truth value, or null
+abbrev pub bool_or_null : Option Bool → Val
+bool_or_null None = null_val
+bool_or_null (Some b) = bool_val b
+
+-- a text, or null
+abbrev pub text_or_null : Option (List ℕ) → Val
+text_or_null None = null_val
+text_or_null (Some s) = text_val s

@@ -23,3 +23,4 @@ pub mod OptionLends
 pub mod Examples
 pub mod LeafColumns
 pub mod TextColumns
+pub mod SlotValues

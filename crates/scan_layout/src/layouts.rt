@@ -10,6 +10,7 @@ use std::alloc::AllocFailed;
 use std::marker::{Model, PhantomData};
 use thiserror::Error;
 
+mod field_places;
 pub mod list;
 pub mod struct_;
 

@@ -15,6 +15,7 @@ mod bits;
 mod column;
 mod read;
 mod recode;
+mod slot;
 mod texts;
 mod write;
 

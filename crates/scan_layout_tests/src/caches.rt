@@ -9,7 +9,7 @@ use std::test::Fail;
 
 /// What a lookup found.
 #[derive(Clone, Copy, PartialEq, Eq)]
-enum Found {
+pub(crate) enum Found {
     Pending,
     Bytes,
     Nothing,
@@ -28,7 +28,7 @@ fn of_get(got: CacheGet) -> Found {
 
 /// A lookup of a segment, the same of another source, or an offer of so many bytes, with the answer that is wanted.
 #[derive(Clone, Copy)]
-enum Step {
+pub(crate) enum Step {
     Get(u32, Found),
     GetOther(u32, Found),
     Put(u32, usize, CachePut),
@@ -63,7 +63,11 @@ fn put<C: KeyedSegmentCache>(
     Ok(cache.poll_put(alloc, &key, &buffer))
 }
 
-fn goes<C: KeyedSegmentCache>(alloc: Global, cache: &mut C, step: Step) -> Result<bool, Fail> {
+pub(crate) fn goes<C: KeyedSegmentCache>(
+    alloc: Global,
+    cache: &mut C,
+    step: Step,
+) -> Result<bool, Fail> {
     match step {
         Step::Get(segment, wanted) => Ok(look_up(alloc, cache, "a", segment)? == wanted),
         Step::GetOther(segment, wanted) => Ok(look_up(alloc, cache, "b", segment)? == wanted),

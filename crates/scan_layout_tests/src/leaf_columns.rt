@@ -201,3 +201,108 @@ fn a_null_is_known_by_its_flag(rt: HostRuntime) -> Result<(), Fail> {
     assert!(rt; is_there(alloc, Spelling::Two, &A_NULL_BC_BY_BITS, 2)?);
     Ok(())
 }
+
+// The number of a row of three nullable ones.
+fn int_at(
+    alloc: Global,
+    spelling: Spelling,
+    spelled: &[u8],
+    i: usize,
+) -> Result<Option<i128>, Fail> {
+    let dtype = DType::primitive(PType::I32, Nullability::Nullable);
+    let column = column(alloc, spelling, &dtype, 3, spelled)?;
+    if column.dtype().as_ptype_opt().is_none() || i >= column.len() {
+        return Err(Fail::from("no such number"));
+    }
+    Ok(column.int_at(i))
+}
+
+#[test]
+fn a_number_is_had_without_a_value(rt: HostRuntime) -> Result<(), Fail> {
+    let alloc = rt.alloc();
+    assert_eq!(rt; int_at(alloc, Spelling::One, &ONE_NULL_THREE, 1)?, None);
+    assert_eq!(rt; int_at(alloc, Spelling::One, &ONE_NULL_THREE, 2)?, Some(3));
+    assert_eq!(rt;
+        int_at(alloc, Spelling::Two, &ONE_NULL_THREE_BY_BITS, 2)?,
+        Some(3)
+    );
+    Ok(())
+}
+
+// The truth value of a row of three nullable ones.
+fn bool_at(
+    alloc: Global,
+    spelling: Spelling,
+    spelled: &[u8],
+    i: usize,
+) -> Result<Option<bool>, Fail> {
+    let dtype = DType::bool(Nullability::Nullable);
+    let column = column(alloc, spelling, &dtype, 3, spelled)?;
+    if !column.dtype().is_bool() || i >= column.len() {
+        return Err(Fail::from("no such truth value"));
+    }
+    Ok(column.bool_at(i))
+}
+
+#[test]
+fn a_truth_value_is_had_without_a_value(rt: HostRuntime) -> Result<(), Fail> {
+    let alloc = rt.alloc();
+    assert_eq!(rt;
+        bool_at(alloc, Spelling::One, &[1, 0, 1, 1, 1, 0], 0)?,
+        Some(true)
+    );
+    assert_eq!(rt;
+        bool_at(alloc, Spelling::One, &[1, 0, 1, 1, 1, 0], 1)?,
+        None
+    );
+    assert_eq!(rt; bool_at(alloc, Spelling::Two, &[5, 3], 2)?, Some(false));
+    Ok(())
+}
+
+// Whether a row of three nullable texts is this one, or null.
+fn is_text_at(
+    alloc: Global,
+    spelling: Spelling,
+    spelled: &[u8],
+    i: usize,
+    wanted: Option<&str>,
+) -> Result<bool, Fail> {
+    let dtype = DType::utf8(Nullability::Nullable);
+    let column = column(alloc, spelling, &dtype, 3, spelled)?;
+    if !column.dtype().is_utf8() || i >= column.len() {
+        return Err(Fail::from("no such text"));
+    }
+    Ok(column.text_at(i) == wanted)
+}
+
+#[test]
+fn a_text_is_lent(rt: HostRuntime) -> Result<(), Fail> {
+    let alloc = rt.alloc();
+    assert!(rt; is_text_at(alloc, Spelling::One, &A_NULL_BC, 0, Some("a"))?);
+    assert!(rt; is_text_at(alloc, Spelling::One, &A_NULL_BC, 1, None)?);
+    assert!(rt; is_text_at(alloc, Spelling::Two, &A_NULL_BC_BY_BITS, 2, Some("bc"))?);
+    Ok(())
+}
+
+// Of the rows from the second on, those that are true.
+fn picked_from_the_second(
+    alloc: Global,
+    column: &LeafColumn,
+    mask: &[bool],
+) -> Result<Vec<Value>, Fail> {
+    if mask.len() > 2 || column.len() != 3 {
+        return Err(Fail::from("not the rows"));
+    }
+    Ok(column.picked_from(alloc, 1, mask)?)
+}
+
+#[test]
+fn a_part_of_the_rows_is_picked(rt: HostRuntime) -> Result<(), Fail> {
+    let alloc = rt.alloc();
+    let dtype = DType::primitive(PType::I32, Nullability::NonNullable);
+    let column = column(alloc, Spelling::One, &dtype, 3, &ONE_TWO_THREE)?;
+    let picked = picked_from_the_second(alloc, &column, &[false, true])?;
+    assert_eq!(rt; picked.len(), 1);
+    assert!(rt; is_int(&picked[0], 3));
+    Ok(())
+}

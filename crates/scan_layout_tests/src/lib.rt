@@ -13,3 +13,5 @@ mod segments;
 mod sharing;
 #[cfg(test)]
 mod spellings;
+#[cfg(test)]
+mod use_counts;

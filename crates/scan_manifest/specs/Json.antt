@@ -38,6 +38,14 @@ optional default f (Some d) = f d
 abbrev pub flag_at : List ℕ → Bool → Data → Option Bool
 flag_at name default d = optional default as_bool (get name d)
 
+-- `true` alone
+abbrev pub true_in : Data → Option Bool
+true_in d = option_and_then (λ b. if b then Some true else None) (as_bool d)
+
+-- whether a member is there, which is `true` then
+abbrev pub mark_at : List ℕ → Data → Option Bool
+mark_at name d = optional false true_in (get name d)
+
 abbrev pub pair_of : Items → Option (Data × Data)
 pair_of (item a (item b no_items)) = Some (a, b)
 pair_of (item a (item b (item c ds))) = None

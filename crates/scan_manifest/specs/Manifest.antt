@@ -24,7 +24,7 @@ use Rattle.scan_manifest.specs.declared.manifest.Calls.{Calls}
 use Rattle.scan_manifest.specs.declared.manifest.FileSpec.{FileSpec}
 use Rattle.scan_manifest.specs.CacheSize.{CacheSize}
 use Rattle.scan_manifest.specs.declared.manifest.Manifest.{Manifest}
-use Rattle.scan_manifest.specs.Json.{has_form, number_of, number_to, optional, flag_at, pair_in, list_in, both}
+use Rattle.scan_manifest.specs.Json.{has_form, number_of, number_to, optional, flag_at, mark_at, pair_in, list_in, both}
 use Rattle.scan_manifest.specs.DTypes.{dtype_in}
 use Rattle.scan_manifest.specs.Layouts.{layout_in}
 use Rattle.scan_manifest.specs.Exprs.{expr_in}
@@ -105,7 +105,7 @@ file_in dtype d = if has_form form.File d then
     record { id = id; layout = l; segments = ss; skip = skip; opener = opener; source = source })
     (optional no_calls calls_in (get (codes "source") d)))
     (optional no_calls calls_in (get (codes "open") d)))
-    (flag_at (codes "skip") false d))
+    (mark_at (codes "skip") d))
     (option_and_then segments_in (get (codes "segments") d)))
     (option_and_then (layout_in t) (get (codes "layout") d)))
     (optional dtype dtype_in (get (codes "dtype") d)))

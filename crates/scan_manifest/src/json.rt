@@ -6,7 +6,7 @@ ghost use Rattle.serde_json.specs.View.{view, items_view, members_view};
 ghost use Rattle.serde_json.specs.Find.{get, as_array, as_str};
 ghost use Rattle.scan_manifest.specs.Parse.{IsParse, IsParseBy};
 ghost use Rattle.scan_manifest.specs.Forms.{is_key};
-ghost use Rattle.scan_manifest.specs.Json.{has_form, number_of, number_to, flag_at, pair_of, pair_in};
+ghost use Rattle.scan_manifest.specs.Json.{has_form, number_of, number_to, flag_at, mark_at, pair_of, pair_in};
 
 use scan_values::NoMemory;
 use serde_json::{Map, Value};
@@ -183,6 +183,19 @@ pub(crate) fn read_flag(json: &Value, name: &str, default: bool) -> Result<bool,
         None => Ok(default),
         Some(value) => match value.as_bool() {
             Some(b) => Ok(b),
+            None => Err(ParseFault::Bad),
+        },
+    }
+}
+
+/// Whether a member is there, which is true then.
+pub(crate) fn read_mark(json: &Value, name: &str) -> Result<bool, ParseFault>
+    ensures { IsParse (mark_at name.now (view json.now)) result }
+{
+    match json.get(name) {
+        None => Ok(false),
+        Some(value) => match value.as_bool() {
+            Some(b) => { if b { Ok(true) } else { Err(ParseFault::Bad) } }
             None => Err(ParseFault::Bad),
         },
     }

@@ -17,8 +17,8 @@ ghost use Rattle.scan_values.specs.StrictSorted.{is_rising};
 use crate::dtype::read_dtype;
 use crate::expression::read_expr;
 use crate::json::{
-    Form, ParseFault, has_form, member, read_flag, read_items, read_number, read_number_to,
-    read_pair, read_text,
+    Form, ParseFault, has_form, member, read_flag, read_items, read_mark, read_number,
+    read_number_to, read_pair, read_text,
 };
 use crate::layout::read_layout;
 use scan_expr::{Expression, ScanRequest};
@@ -434,7 +434,7 @@ fn read_file(alloc: Global, json: &Value, dtype: &DType) -> Result<FileSpec, Par
     let dtype = read_file_dtype(alloc, json, dtype)?;
     let layout = read_tree(alloc, dtype, member(json, "layout")?)?;
     let segments = read_segments(alloc, member(json, "segments")?)?;
-    let skip = read_flag(json, "skip", false)?;
+    let skip = read_mark(json, "skip")?;
     let opener = read_maybe_calls(alloc, json, "open")?;
     let source = read_maybe_calls(alloc, json, "source")?;
     Ok(FileSpec {

@@ -85,7 +85,7 @@ module _ {O S : Type 0} (opener : O → OpenerState) (source : S → SourceState
     go fault.NoMemory h = refl
     go (fault.Bind f) h = let never : ◌≡◌ {A = Option ScanFault} None (Some (fault.Bind f)) = sym early ∙ h in cc
     go fault.NotBuilt h = let never : ◌≡◌ {A = Option ScanFault} None (Some fault.NotBuilt) = sym early ∙ h in cc
-    go (fault.Opener place) at = absurd (some old _ at.there (λ f. (none place f at.there).0 (at.cause f)))
+    go (fault.Opener place) at = absurd (some old _ at.there (λ f. (none place f at.there).0 (at.cause f).0))
     go (fault.Source place id) at = absurd (some old _ at.there (λ f. (none place f at.there).1 ((at.cause f).0)))
     go (fault.Corrupt place id) at =
         absurd (some old _ at.there (λ f. whole d q (opener (get_or old place f).opener).gives (source (get_or old place f).source).holds id (lawful.tells place f at.there).gives (lawful.tells place f at.there).holds ((at.cause f).0 (trusts place f at.there)) (told-at (IsSound d q) valid.sound place f at.there)))

@@ -85,9 +85,12 @@ module _ {O S : Type 0} (opener : O → OpenerState) (source : S → SourceState
     source_id = refl;
     gives = p.gives;
     opener_faults = p.faults;
+    opener_turns = p.turns;
     polled = p.polled;
+    polls = p.most;
     holds = refl;
     source_faults = omega arith;
+    source_turns = omega arith;
     live = refl;
     ids = [];
     asked = sym (append-nil _);
@@ -113,9 +116,12 @@ module _ {O S : Type 0} (opener : O → OpenerState) (source : S → SourceState
     source_id = refl;
     gives = p.gives;
     opener_faults = p.faults;
+    opener_turns = p.turns;
     polled = p.polled;
+    polls = p.most;
     holds = r.asks.holds;
     source_faults = r.asks.faults;
+    source_turns = r.asks.turns;
     live = r.asks.live ∙ sym idle;
     ids = r.ids;
     asked = r.asks.asked;

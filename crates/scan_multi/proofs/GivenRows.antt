@@ -30,9 +30,12 @@ module _ {O S : Type 0} (opener : O → OpenerState) (source : S → SourceState
     source_id = refl;
     gives = refl;
     opener_faults = omega arith;
+    opener_turns = omega arith;
     polled = omega arith;
+    polls = omega arith;
     holds = refl;
     source_faults = omega arith;
+    source_turns = omega arith;
     live = refl;
     ids = [];
     asked = sym (append-nil _);

@@ -1,5 +1,5 @@
 -- What a scan does to its files, and why it may fail.
-use Rattle.std.specs.Prelude.{◌≡◌, ◌≢◌, ◌⊎◌, ℕ, ◌<◌, ◌≤◌, List, [], ◌++◌, Option, None, Some, IfSome, IsSome, All, Contains, map, length, get_or, unwrap_or}
+use Rattle.std.specs.Prelude.{◌≡◌, ◌≢◌, ◌⊎◌, ℕ, ◌<◌, ◌≤◌, ◌+◌, List, [], ◌++◌, true, Option, None, Some, IfSome, IsSome, All, Contains, map, length, get_or, unwrap_or}
 use Rattle.scan_values.specs.DataType.{DataType}
 use Rattle.scan_expr.specs.declared.request.ScanRequest.{ScanRequest}
 use Rattle.scan_segments.specs.Faults.{Rose}
@@ -75,14 +75,18 @@ module _ {O S : Type 0} (opener : O → OpenerState) (source : S → SourceState
   abbrev pub IsIdle : ScanFile O S → Type 0
   IsIdle f = (source f.source).live ≡ none_live
 
-  -- A file after calls of its opener and its source. It tells what it told, its faults did not fall, as many requests are live, and only named segments were asked.
+  -- A file after calls of its opener and its source. It tells what it told, its faults did not fall and its turns did not rise, the opener was polled at most once more than it put off an answer,
+  -- as many requests are live, and only named segments were asked.
   pub record FileMoves (d : DataType) (request : ScanRequest) (old new : ScanFile O S) : Type 0 where
     pub source_id : new.source_id ≡ old.source_id
     pub gives : (opener new.opener).gives ≡ (opener old.opener).gives
     pub opener_faults : (opener old.opener).faults ≤ (opener new.opener).faults
+    pub opener_turns : (opener new.opener).turns ≤ (opener old.opener).turns
     pub polled : (opener old.opener).polled ≤ (opener new.opener).polled
+    pub polls : (opener new.opener).polled + (opener new.opener).turns ≤ (opener old.opener).polled + (opener old.opener).turns + 1
     pub holds : (source new.source).holds ≡ (source old.source).holds
     pub source_faults : (source old.source).faults ≤ (source new.source).faults
+    pub source_turns : (source new.source).turns ≤ (source old.source).turns
     pub live : (source new.source).live ≡ (source old.source).live
     pub ids : List ℕ
     pub asked : (source new.source).asked ≡ (source old.source).asked ++ ids
@@ -109,7 +113,7 @@ module _ {O S : Type 0} (opener : O → OpenerState) (source : S → SourceState
   -- why the scan of a file may fail, over this cache
   abbrev pub IsFileCause : DataType → ScanRequest → CacheState SegmentKey → ScanFile O S → ScanFile O S → ScanFault → Type 0
   IsFileCause d request cache old new fault.NoMemory = Unit {0}
-  IsFileCause d request cache old new (fault.Opener place) = Rose (opener old.opener).faults (opener new.opener).faults
+  IsFileCause d request cache old new (fault.Opener place) = Rose (opener old.opener).faults (opener new.opener).faults × ((opener old.opener).can_fail ≡ true)
   IsFileCause d request cache old new (fault.Source place id) = Rose (source old.source).faults (source new.source).faults × AskedOf d id old new
   IsFileCause d request cache old new (fault.Corrupt place id) = (Trusts old.source_id cache (source old.source) → IfTold (opener old.opener).gives (source old.source).holds (λ g store. HasBad store (named_places d request g store) id)) × CameOf d cache id old new
   IsFileCause d request cache old new (fault.DTypeMismatch place) = IfSome (opener old.opener).gives (IsOfOtherType d) × NoneAsked old new

@@ -1,5 +1,5 @@
 -- What an opener of a file is, and what a poll of it may answer.
-use Rattle.std.specs.Prelude.{◌≡◌, ℕ, ◌<◌, ◌≤◌, Option, IfSome}
+use Rattle.std.specs.Prelude.{◌≡◌, ℕ, ◌<◌, ◌≤◌, Bool, true, Option, IfSome}
 use Rattle.scan_segments.specs.Faults.{Rose, RaisedBy}
 use Rattle.scan_layout.specs.Layout.{Layout}
 use Rattle.scan_multi.specs.declared.scan.multi.Opening.{Opening}
@@ -19,6 +19,8 @@ pub record OpenerState : Type 0 where
   pub polled : ℕ
   -- at most so often it can still put off an answer
   pub turns : ℕ
+  -- whether it can fail at all
+  pub can_fail : Bool
 
 -- one poll was made
 pub record PolledOnce (old new : OpenerState) : Type 0 where
@@ -27,10 +29,11 @@ pub record PolledOnce (old new : OpenerState) : Type 0 where
   pub turns : new.turns ≤ old.turns
   pub polled : RaisedBy 1 old.polled new.polled
   pub polled_grows : old.polled ≤ new.polled
+  pub can_fail : new.can_fail ≡ old.can_fail
 
 abbrev pub IsPolledOpen : OpenerState → OpenerState → Opening → Type 0
 IsPolledOpen old new Pending = PolledOnce old new × (new.turns < old.turns)
 IsPolledOpen old new (Opened layout) = PolledOnce old new × IfSome old.gives (λ g. g ≡ layout_of layout.value)
 IsPolledOpen old new Skipped = PolledOnce old new × IfSome old.gives (λ g. g ≡ skip)
-IsPolledOpen old new Failed = PolledOnce old new × Rose old.faults new.faults
+IsPolledOpen old new Failed = PolledOnce old new × Rose old.faults new.faults × (old.can_fail ≡ true)
 IsPolledOpen old new NoMemory = PolledOnce old new

@@ -1,13 +1,14 @@
 -- Values and fields, one after another.
-use Rattle.std.proofs.Common.{◌≡◌, ℕ, zero, suc, ◌+◌, ◌<◌, ◌≤◌, ◌==◌, List, [], ◌∷◌, ◌++◌, length, get_or, drop, map, Some, None, option_map, slice_get, Bool, false, refl, sym, ap, ◌∙◌, append_assoc, append-nil, subst, arith}
+use Rattle.std.proofs.Common.{◌≡◌, ℕ, zero, suc, ◌+◌, ◌<◌, ◌≤◌, ◌==◌, List, [], ◌∷◌, ◌++◌, length, get_or, drop, map, Some, None, option_map, slice_get, Bool, true, false, refl, sym, ap, ◌∙◌, append_assoc, append-nil, subst, arith}
 use Rattle.std.specs.Prelude.{codes}
 use Rattle.std.proofs.lemmas.Bool.{ne_eqb}
-use Rattle.std.proofs.lemmas.List.{drop_more}
+use Rattle.std.proofs.lemmas.List.{drop_more, length-append}
 use Rattle.scan_values.specs.declared.value.Value.{Value}
+use Rattle.scan_values.specs.declared.value.Value.TheVariants.{List as Listed, Struct}
 use Rattle.scan_values.specs.DataType.{DataType, Name, no_fields, fields_of}
-use Rattle.scan_values.specs.Val.{Vals, no_vals, val, vals_of, val_size, vals_size}
+use Rattle.scan_values.specs.Val.{Val, Vals, no_vals, val, vals_of, val_size, vals_size}
 use Rattle.scan_values.specs.Values.{val_of}
-use Rattle.scan_run.specs.Line.{comma, quoted, value_text, fields_text}
+use Rattle.scan_run.specs.Line.{comma, quoted, element_in, fields_in, value_text, elements_text, fields_text}
 
 pub not_zero : (i : ℕ) → ((i + 1) == 0) ≡ false
 not_zero i = ne_eqb (i + 1) 0 (omega arith)
@@ -39,27 +40,57 @@ no_fields_text b (val v vs) = refl
 pub fields_past : (fs : List (Name × DataType)) (i : ℕ) (b : Bool) (vs : Vals) → slice_get fs i ≡ None → fields_text b vs (fields_of (drop i fs)) ≡ []
 fields_past fs i b vs h = ap (λ gs. fields_text b vs (fields_of gs)) (past_drop fs i h) ∙ no_fields_text b vs
 
-fields_step : (vs : List Value) (fs : List (Name × DataType)) (i : ℕ) (v : Value) (f : Name × DataType) (b : Bool) → i < length vs → v ≡ get_or vs i v → slice_get fs i ≡ Some f
+pub elements_step : (vs : List Value) (i : ℕ) (v : Value) (b : Bool) (d : DataType) → i < length vs → v ≡ get_or vs i v
+    → elements_text b (vals_of (map val_of (drop i vs))) d ≡ (comma b ++ value_text (val_of v) d) ++ elements_text false (vals_of (map val_of (drop (i + 1) vs))) d
+elements_step vs i v b d h at =
+    ap (λ xs. elements_text b (vals_of (map val_of xs)) d) (drop_more vs i v h ∙ ap (λ x. x ∷ drop (i + 1) vs) (sym at))
+    ∙ sym (append_assoc (comma b) (value_text (val_of v) d) (elements_text false (vals_of (map val_of (drop (i + 1) vs))) d))
+
+-- a piece of what is left was printed
+printed_more : (whole out p more new : List ℕ) → whole ≡ out ++ (p ++ more) → new ≡ out ++ p → whole ≡ new ++ more
+printed_more whole out p more new e h = e ∙ sym (append_assoc out p more) ∙ ap (λ xs. xs ++ more) (sym h)
+
+grows_by : (old out p new : List ℕ) → length old ≤ length out → new ≡ out ++ p → length old ≤ length new
+grows_by old out p new k h =
+    let n : length new ≡ length (out ++ p) = ap length h in
+    let s = length-append out p in
+    omega arith
+
+-- one more element was printed
+pub elements_more : (vs : List Value) (i : ℕ) (v : Value) (d : DataType) (old t mid new : List ℕ) (out : List ℕ) → i < length vs → v ≡ get_or vs i v
+    → old ++ t ≡ out ++ elements_text (i == 0) (vals_of (map val_of (drop i vs))) d → length old ≤ length out
+    → mid ≡ out ++ comma (i == 0) → new ≡ mid ++ value_text (val_of v) d
+    → (old ++ t ≡ new ++ elements_text ((i + 1) == 0) (vals_of (map val_of (drop (i + 1) vs))) d) × (length old ≤ length new)
+elements_more vs i v d old t mid new out h at inv k e is =
+    let rest = elements_text false (vals_of (map val_of (drop (i + 1) vs))) d in
+    let whole : new ≡ out ++ (comma (i == 0) ++ value_text (val_of v) d) = is ∙ ap (λ xs. xs ++ value_text (val_of v) d) e ∙ append_assoc out (comma (i == 0)) (value_text (val_of v) d) in (
+      printed_more (old ++ t) out _ rest new (inv ∙ ap (λ xs. out ++ xs) (elements_step vs i v (i == 0) d h at)) whole
+          ∙ ap (λ b. new ++ elements_text b (vals_of (map val_of (drop (i + 1) vs))) d) (sym (not_zero i)),
+      grows_by old out _ new k whole,
+    )
+
+regroup : (c q k t r : List ℕ) → c ++ (q ++ (k ++ (t ++ r))) ≡ (c ++ (q ++ (k ++ t))) ++ r
+regroup c q k t r = sym (append_assoc c (q ++ (k ++ t)) r ∙ ap (λ xs. c ++ xs) (append_assoc q (k ++ t) r ∙ ap (λ xs. q ++ xs) (append_assoc k t r)))
+
+pub fields_step : (vs : List Value) (fs : List (Name × DataType)) (i : ℕ) (v : Value) (f : Name × DataType) (b : Bool) → i < length vs → v ≡ get_or vs i v → slice_get fs i ≡ Some f
     → fields_text b (vals_of (map val_of (drop i vs))) (fields_of (drop i fs))
-    ≡ comma b ++ (quoted f.0 ++ (codes ":" ++ (value_text (val_of v) f.1 ++ fields_text false (vals_of (map val_of (drop (i + 1) vs))) (fields_of (drop (i + 1) fs)))))
+    ≡ (comma b ++ (quoted f.0 ++ (codes ":" ++ value_text (val_of v) f.1))) ++ fields_text false (vals_of (map val_of (drop (i + 1) vs))) (fields_of (drop (i + 1) fs))
 fields_step vs fs i v f b h at e =
     ap (λ xs. fields_text b (vals_of (map val_of xs)) (fields_of (drop i fs))) (drop_more vs i v h ∙ ap (λ x. x ∷ drop (i + 1) vs) (sym at))
     ∙ ap (λ gs. fields_text b (vals_of (map val_of (v ∷ drop (i + 1) vs))) (fields_of gs)) (found_drop fs i f e)
-
-regroup : (a c q k t r : List ℕ) → a ++ (c ++ (q ++ (k ++ (t ++ r)))) ≡ (a ++ (c ++ (q ++ (k ++ t)))) ++ r
-regroup a c q k t r = sym (append_assoc a (c ++ (q ++ (k ++ t))) r ∙ ap (λ xs. a ++ xs) (append_assoc c (q ++ (k ++ t)) r ∙ ap (λ xs. c ++ xs) (append_assoc q (k ++ t) r ∙ ap (λ xs. q ++ xs) (append_assoc k t r))))
+    ∙ regroup (comma b) (quoted f.0) (codes ":") (value_text (val_of v) f.1) (fields_text false (vals_of (map val_of (drop (i + 1) vs))) (fields_of (drop (i + 1) fs)))
 
 -- one more field was printed
-pub fields_more : (vs : List Value) (fs : List (Name × DataType)) (i : ℕ) (v : Value) (f : Name × DataType) (whole out new : List ℕ) → i < length vs → v ≡ get_or vs i v → slice_get fs i ≡ Some f
-    → whole ≡ out ++ fields_text (i == 0) (vals_of (map val_of (drop i vs))) (fields_of (drop i fs))
+pub fields_more : (vs : List Value) (fs : List (Name × DataType)) (i : ℕ) (v : Value) (f : Name × DataType) (old t out new : List ℕ) → i < length vs → v ≡ get_or vs i v → slice_get fs i ≡ Some f
+    → old ++ t ≡ out ++ fields_text (i == 0) (vals_of (map val_of (drop i vs))) (fields_of (drop i fs)) → length old ≤ length out
     → new ≡ out ++ (comma (i == 0) ++ (quoted f.0 ++ (codes ":" ++ value_text (val_of v) f.1)))
-    → whole ≡ new ++ fields_text ((i + 1) == 0) (vals_of (map val_of (drop (i + 1) vs))) (fields_of (drop (i + 1) fs))
-fields_more vs fs i v f whole out new h at e inv is =
-    let rest = fields_text false (vals_of (map val_of (drop (i + 1) vs))) (fields_of (drop (i + 1) fs)) in
-    inv ∙ ap (λ xs. out ++ xs) (fields_step vs fs i v f (i == 0) h at e)
-    ∙ regroup out (comma (i == 0)) (quoted f.0) (codes ":") (value_text (val_of v) f.1) rest
-    ∙ ap (λ xs. xs ++ rest) (sym is)
-    ∙ ap (λ b. new ++ fields_text b (vals_of (map val_of (drop (i + 1) vs))) (fields_of (drop (i + 1) fs))) (sym (not_zero i))
+    → (old ++ t ≡ new ++ fields_text ((i + 1) == 0) (vals_of (map val_of (drop (i + 1) vs))) (fields_of (drop (i + 1) fs))) × (length old ≤ length new)
+fields_more vs fs i v f old t out new h at e inv k is =
+    let rest = fields_text false (vals_of (map val_of (drop (i + 1) vs))) (fields_of (drop (i + 1) fs)) in (
+      printed_more (old ++ t) out _ rest new (inv ∙ ap (λ xs. out ++ xs) (fields_step vs fs i v f (i == 0) h at e)) is
+          ∙ ap (λ b. new ++ fields_text b (vals_of (map val_of (drop (i + 1) vs))) (fields_of (drop (i + 1) fs))) (sym (not_zero i)),
+      grows_by old out _ new k is,
+    )
 
 pub mapped_get : {A B : Type 0} (f : A → B) (xs : List A) (i : ℕ) → slice_get (map f xs) i ≡ option_map f (slice_get xs i)
 mapped_get f [] i = refl
@@ -69,3 +100,10 @@ mapped_get f (x ∷ xs) (suc i) = mapped_get f xs i
 -- what is left prints nothing
 pub nothing_more : (whole out rest : List ℕ) → whole ≡ out ++ rest → rest ≡ [] → out ≡ whole
 nothing_more whole out rest e h = sym (e ∙ ap (λ xs. out ++ xs) h ∙ append-nil out)
+
+-- the text of a list, and of a struct, over the slice that is printed
+pub list_is : (v : Value) (vs : List Val) (items : List Value) (d e : DataType) → v ≡ Listed vs → map val_of items ≡ vs → e ≡ element_in d → codes "[" ++ (elements_text true (vals_of (map val_of items)) e ++ codes "]") ≡ value_text (val_of v) d
+list_is v vs items d e h k l = rw (h, k, l) refl
+
+pub struct_is : (v : Value) (vs : List Val) (items : List Value) (d : DataType) → v ≡ Struct vs → map val_of items ≡ vs → codes "{" ++ (fields_text true (vals_of (map val_of items)) (fields_in d) ++ codes "}") ≡ value_text (val_of v) d
+struct_is v vs items d h k = rw (h, k) refl

@@ -10,7 +10,7 @@ use Rattle.scan_run.specs.ReadAll.{GaveAll, TookMore}
 use Rattle.scan_run.specs.WriteAll.{WroteFront}
 use Rattle.scan_manifest.specs.Manifest.{IsManifest}
 use Rattle.scan_manifest.proofs.CallerLemmas.{only_manifest}
-use Rattle.scan_run.specs.Run.{IsDone, IsUnserved, of_files, IsRefused, IsFound, IsUnbound, IsUnreadable}
+use Rattle.scan_run.specs.Run.{IsDone, IsUnserved, of_files, IsRefused, IsFound, IsUnbound, IsUnreadable, IsFailing}
 use Rattle.scan_run.specs.Stops.{status_of, IsStop, IsTextOf, WroteFrontOfLines, Ends, IsReady}
 
 told_fact : (P : List ℕ → Type 0) (left : Option (List ℕ)) (bytes : List ℕ) → IfSome left (λ all. bytes ≡ all) → P bytes → IfSome left P
@@ -48,6 +48,13 @@ stop_unreadable input input' bytes m Unbound g i h e = absurd (omega arith)
 stop_unreadable input input' bytes m Unreadable g i h e = found IsUnreadable input input' bytes m g i h
 stop_unreadable input input' bytes m Failed g i h e = absurd (omega arith)
 stop_unreadable input input' bytes m NoMemory g i h e = absurd (omega arith)
+
+pub stop_failing : (input input' : InputState) (bytes : List ℕ) (m : Manifest) (s : Stop) → GaveAll bytes input input' → IsManifest bytes m → IsStop m s → status_of s ≡ 5 → IsFound input input' IsFailing
+stop_failing input input' bytes m Unserved g i h e = absurd (omega arith)
+stop_failing input input' bytes m Unbound g i h e = absurd (omega arith)
+stop_failing input input' bytes m Unreadable g i h e = absurd (omega arith)
+stop_failing input input' bytes m Failed g i h e = found IsFailing input input' bytes m g i h
+stop_failing input input' bytes m NoMemory g i h e = absurd (omega arith)
 
 -- a stop is one of five statuses
 pub stop_status : (s : Stop) → (status_of s ≢ 0) × (status_of s ≢ 1) × (status_of s ≢ 6) × (status_of s < 8)
@@ -111,6 +118,12 @@ module _ (s : ℕ) (old new : InputState) where
   end_unreadable (inl (inr (inl (e, r)))) h = absurd (omega arith)
   end_unreadable (inl (inr (inr e))) h = absurd (omega arith)
   end_unreadable (inr (m, stop, (bytes, g, k), i, e)) h = stop_unreadable old new bytes m stop g k i (sym e ∙ h)
+
+  pub end_failing : Ends s old new → s ≡ 5 → IsFound old new IsFailing
+  end_failing (inl (inl (e, r))) h = absurd (omega arith)
+  end_failing (inl (inr (inl (e, r)))) h = absurd (omega arith)
+  end_failing (inl (inr (inr e))) h = absurd (omega arith)
+  end_failing (inr (m, stop, (bytes, g, k), i, e)) h = stop_failing old new bytes m stop g k i (sym e ∙ h)
 
   pub end_io : (output output' : OutputState) → Ends s old new → s ≡ 6 → (Rose old.faults new.faults ⊎ Rose output.faults output'.faults) ⊎ TookMore 67108864 old new
   end_io output output' (inl (inl (e, r))) h = absurd (omega arith)

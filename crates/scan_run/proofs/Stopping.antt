@@ -19,7 +19,7 @@ use Rattle.scan_multi.specs.Named.{named_places}
 use Rattle.scan_multi.specs.Overflow.{OverflowsIn}
 use Rattle.scan_multi.specs.Places.{HasBad}
 use Rattle.scan_multi.specs.Served.{is_built, early_fault, first_request_fault, of_bind}
-use Rattle.scan_multi.specs.Causes.{IsOfOtherType, IsIllFormed, HasCause, FaultAt, IsLawful, Tells, Agrees, IsIdle, told}
+use Rattle.scan_multi.specs.Causes.{IsRead, IsOfOtherType, IsIllFormed, HasCause, FaultAt, IsLawful, Tells, Agrees, IsIdle, told}
 use Rattle.scan_multi.specs.declared.scan.multi.MemoryOpener.{MemoryOpener}
 use Rattle.scan_multi.specs.declared.scan.files.ScanFile.{ScanFile}
 use Rattle.scan_multi.specs.declared.scan.files.ScanFault.{ScanFault}
@@ -29,7 +29,7 @@ use Rattle.scan_manifest.specs.declared.manifest.Manifest.{Manifest}
 use Rattle.scan_run.specs.declared.run.Asked.{Asked}
 use Rattle.scan_run.specs.AskedOf.{IsAsked}
 use Rattle.scan_run.specs.FileOf.{IsFileOf, AreFilesOf}
-use Rattle.scan_run.specs.Run.{given_by, store_of, told_by, lines_of, IsScanned, IsUnserved, of_form, of_type, of_layout, of_overflow, of_segment}
+use Rattle.scan_run.specs.Run.{given_by, store_of, told_by, lines_of, IsScanned, IsUnserved, HasNoFault, IsBadFile, IsUnreadable, IsFailing, of_opener, of_source, of_form, of_type, of_layout, of_overflow, of_segment}
 use Rattle.scan_run.specs.Printed.{chunks_lines}
 use Rattle.scan_run.specs.Stops.{stop_of, IsStop, IsTextOf}
 
@@ -58,6 +58,20 @@ module _ (m : Manifest) (spec : FileSpec) (f : ScanFile MemoryOpener MemorySourc
   same_count : length (f ∷ []) ≡ length m.files
   same_count = sym (ap length one)
 
+  no_early : (e : ScanFault) (place : ℕ) → FaultAt memory_opener source_state m.workers m.dtype m.request empty_cache (f ∷ []) new place e → HasNoFault m
+  no_early e place c = subst (λ k. early_fault m.workers k m.dtype m.request ≡ None) same_count c.late
+
+  unreadable : (e : ScanFault) (place : ℕ) → FaultAt memory_opener source_state m.workers m.dtype m.request empty_cache (f ∷ []) new place e → IsBadFile m spec → IsUnreadable m
+  unreadable e place c b = record { late = no_early e place c; file = spec; there = only m.files spec one; bad = b }
+
+  opener_fails : (place : ℕ) → FaultAt memory_opener source_state m.workers m.dtype m.request empty_cache (f ∷ []) new place (fault.Opener place) → (memory_opener f.opener).can_fail ≡ true
+  opener_fails zero c = (c.cause f).1
+  opener_fails (suc k) c = let t = c.there in absurd (omega arith)
+
+  source_read : (place id : ℕ) → FaultAt memory_opener source_state m.workers m.dtype m.request empty_cache (f ∷ []) new place (fault.Source place id) → IsRead m.dtype (given_by spec)
+  source_read zero id c = told_is _ (given_by spec) (IsRead m.dtype) is.gives (c.cause f).1.read
+  source_read (suc k) id c = let t = c.there in absurd (omega arith)
+
   other_type : (place : ℕ) → FaultAt memory_opener source_state m.workers m.dtype m.request empty_cache (f ∷ []) new place (fault.DTypeMismatch place) → IsOfOtherType m.dtype (given_by spec)
   other_type zero c = told_is _ (given_by spec) (IsOfOtherType m.dtype) is.gives (c.cause f).0
   other_type (suc k) c = let t = c.there in absurd (omega arith)
@@ -83,17 +97,17 @@ module _ (m : Manifest) (spec : FileSpec) (f : ScanFile MemoryOpener MemorySourc
   -- each cause is one that the manifest shows
   pub stopped : (e : ScanFault) → HasCause memory_opener source_state m.workers m.dtype m.request empty_cache (f ∷ []) new e → IsStop m (stop_of e)
   stopped fault.NoMemory c = tt
-  stopped (fault.Opener place) c = tt
-  stopped (fault.Source place id) c = tt
-  stopped (fault.DTypeMismatch place) c = (spec, only m.files spec one, of_type (other_type place c))
+  stopped (fault.Opener place) c = record { late = no_early _ place c; file = spec; there = only m.files spec one; failing = of_opener (sym is.can_fail ∙ opener_fails place c) }
+  stopped (fault.Source place id) c = record { late = no_early _ place c; file = spec; there = only m.files spec one; failing = of_source (source_read place id c) }
+  stopped (fault.DTypeMismatch place) c = unreadable _ place c (of_type (other_type place c))
   stopped (fault.Bind b) c = (b, subst (λ k. early_fault m.workers k m.dtype m.request ≡ Some (fault.Bind b)) same_count c)
   stopped fault.Partitions c = absurd c
   stopped (fault.RowRange r) c = absurd c
-  stopped (fault.Layout place l) c = (spec, only m.files spec one, of_layout l (ill_formed place l c))
-  stopped (fault.Corrupt place id) c = (spec, only m.files spec one, of_segment id (bad_file place id c))
+  stopped (fault.Layout place l) c = unreadable _ place c (of_layout l (ill_formed place l c))
+  stopped (fault.Corrupt place id) c = unreadable _ place c (of_segment id (bad_file place id c))
   stopped (fault.TooManyRows place) c = absurd c
   stopped fault.Concurrency c = absurd c
-  stopped (fault.Overflow place) c = (spec, only m.files spec one, of_overflow (spilled place c))
+  stopped (fault.Overflow place) c = unreadable _ place c (of_overflow (spilled place c))
   stopped fault.NotBuilt c = unserved_form m 1 same_count c
 
 module _ (spec : FileSpec) (f : ScanFile MemoryOpener MemorySource) (is : IsFileOf spec f) where

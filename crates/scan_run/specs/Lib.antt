@@ -2,6 +2,8 @@ pub mod Io
 pub mod Answers
 pub mod ReadAll
 pub mod WriteAll
+pub mod Memory
+pub mod Std
 pub mod Line
 pub mod Run
 pub mod Printed

@@ -1,11 +1,12 @@
 -- The line of a row that is given.
-use Rattle.std.specs.Prelude.{ℕ, ◌/◌, ◌%◌, ◌+◌, ◌==◌, List, [], ◌∷◌, ◌++◌, Bool, true, false, unwrap_or, nat_lt, if◌then◌else◌, codes}
+use Rattle.std.specs.Prelude.{ℕ, ◌≡◌, ◌≤◌, ◌/◌, ◌%◌, ◌+◌, ◌==◌, length, List, [], ◌∷◌, ◌++◌, Bool, true, false, unwrap_or, nat_lt, if◌then◌else◌, codes}
 use Rattle.std.specs.List.{flat_map}
 use Rattle.std.specs.Fmt.{decimal, signed_decimal}
 use Rattle.scan_values.specs.DataType.{DataType, Fields, no_fields, field}
 use Rattle.scan_values.specs.Kinds.{element_of, struct_fields_of}
 use Rattle.scan_values.specs.Val.{Val, null_val, bool_val, int_val, text_val, list_val, struct_val, Vals, no_vals, val}
 
+-- a digit below 16, in lower case
 abbrev pub hex_digit : ℕ → ℕ
 hex_digit n = if nat_lt n 10 then n + 48 else n + 87
 
@@ -21,6 +22,7 @@ escaped b =
     (if b == 13 then codes "\\r" else
     (if nat_lt b 32 then codes "\\u00" ++ (hex_digit (b / 16) ∷ hex_digit (b % 16) ∷ []) else b ∷ [])))))))
 
+-- a text in quotes
 abbrev pub quoted : List ℕ → List ℕ
 quoted text = codes "\"" ++ flat_map escaped text ++ codes "\""
 
@@ -58,3 +60,9 @@ abbrev mutual
 -- the line of a row of a file
 abbrev pub line_of : DataType → ℕ → ℕ → Val → List ℕ
 line_of dtype file row v = codes "{\"file\":" ++ (decimal file ++ (codes ",\"row\":" ++ (decimal row ++ (codes ",\"value\":" ++ (value_text v dtype ++ codes "}\n")))))
+
+-- the old bytes stay, and a front of this text stands behind them
+pub record AppendsFront (text old new : List ℕ) : Type 0 where
+  pub rest : List ℕ
+  pub parts : old ++ text ≡ new ++ rest
+  pub keeps : length old ≤ length new

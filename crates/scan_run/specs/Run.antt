@@ -1,5 +1,5 @@
 -- What a run of the program does.
-use Rattle.std.specs.Prelude.{◌≡◌, ◌≢◌, ℕ, List, [], ◌∷◌, ◌++◌, length, map, Bool, false, Option, None, Some, IfSome, option_map, Contains, if◌then◌else◌, codes}
+use Rattle.std.specs.Prelude.{◌≡◌, ◌≢◌, ℕ, List, [], ◌∷◌, ◌++◌, length, map, Bool, true, false, Option, None, Some, IfSome, option_map, Contains, if◌then◌else◌, codes}
 use Rattle.std.specs.Str.{bytes_eq}
 use Rattle.std.specs.List.{flat_map}
 use Rattle.std.specs.Ordering.{nat_cmp}
@@ -12,7 +12,8 @@ use Rattle.scan_multi.specs.Opener.{Given, skip, layout_of}
 use Rattle.scan_multi.specs.Answer.{Item, ToldFile, answer}
 use Rattle.scan_multi.specs.Output.{ChunkData, Admits, given}
 use Rattle.scan_multi.specs.Served.{early_fault, first_request_fault, is_built}
-use Rattle.scan_multi.specs.Causes.{IsOfOtherType, IsIllFormed}
+use Rattle.scan_multi.specs.OpenerMemory.{has_number}
+use Rattle.scan_multi.specs.Causes.{IsRead, IsOfOtherType, IsIllFormed}
 use Rattle.scan_multi.specs.Overflow.{OverflowsIn}
 use Rattle.scan_multi.specs.Places.{HasBad}
 use Rattle.scan_multi.specs.Named.{named_places}
@@ -100,9 +101,28 @@ pub data IsBadFile (m : Manifest) (f : FileSpec) : Type 0 where
   of_overflow : OverflowsIn m.dtype m.request (given_by f) (store_of f.segments) → IsBadFile m f
   of_segment : (id : ℕ) → HasBad (store_of f.segments) (named_places m.dtype m.request (given_by f) (store_of f.segments)) id → IsBadFile m f
 
--- a file can't be read
-abbrev pub IsUnreadable : Manifest → Type 0
-IsUnreadable m = (f : FileSpec) × Contains m.files f × IsBadFile m f
+-- the request itself has no fault
+abbrev pub HasNoFault : Manifest → Type 0
+HasNoFault m = early_fault m.workers (length m.files) m.dtype m.request ≡ None
+
+-- the request has no fault, and a file can't be read
+pub record IsUnreadable (m : Manifest) : Type 0 where
+  pub late : HasNoFault m
+  pub file : FileSpec
+  pub there : Contains m.files file
+  pub bad : IsBadFile m file
+
+-- what of a file may fail: its opener, where a call of its script does, or its source, where the file is read
+pub data CanFail (m : Manifest) (f : FileSpec) : Type 0 where
+  of_opener : has_number f.opener.fail ≡ true → CanFail m f
+  of_source : IsRead m.dtype (given_by f) → CanFail m f
+
+-- the request has no fault, and what may fail of a file did
+pub record IsFailing (m : Manifest) : Type 0 where
+  pub late : HasNoFault m
+  pub file : FileSpec
+  pub there : Contains m.files file
+  pub failing : CanFail m file
 
 -- nothing was written
 abbrev pub WroteNone : OutputState → OutputState → Type 0

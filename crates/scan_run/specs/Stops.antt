@@ -10,7 +10,7 @@ use Rattle.scan_run.specs.Io.{InputState, OutputState, WasRead}
 use Rattle.scan_segments.specs.Faults.{Rose}
 use Rattle.scan_run.specs.ReadAll.{GaveAll, TookMore}
 use Rattle.scan_manifest.specs.Manifest.{IsManifest}
-use Rattle.scan_run.specs.Run.{IsScanned, printed, IsUnserved, IsRefused, IsUnbound, IsUnreadable, WroteNone}
+use Rattle.scan_run.specs.Run.{IsScanned, printed, IsUnserved, IsRefused, IsUnbound, IsUnreadable, IsFailing, WroteNone}
 
 abbrev pub stop_of : ScanFault → Stop
 stop_of fault.NoMemory = NoMemory
@@ -39,7 +39,7 @@ abbrev pub IsStop : Manifest → Stop → Type 0
 IsStop m Unserved = IsUnserved m
 IsStop m Unbound = IsUnbound m
 IsStop m Unreadable = IsUnreadable m
-IsStop m Failed = Unit {0}
+IsStop m Failed = IsFailing m
 IsStop m NoMemory = Unit {0}
 
 -- the lines of some output that the manifest admits

@@ -52,13 +52,15 @@ impl From<AllocError> for ReadFault {
     }
 }
 
-/// The bytes of an input, read to its end. More than `MOST_BYTES` bytes are refused, and then no more are read.
+/// The bytes of an input, read to its end. More than `MOST_BYTES` bytes are refused, and then no more are read: whatever
+/// is answered, at most one piece of 65,536 bytes was read beyond them.
 pub fn read_all<I: Input>(alloc: Global, input: &mut I) -> Result<Vec<u8>, ReadFault>
     ensures ok { IfOk result (λ bytes. GaveAll bytes.items (I.input input.old) (I.input input.new)) }
     ensures failed { result ≡ Err ReadFault.Failed → Rose (I.input input.old).faults (I.input input.new).faults }
     ensures long { result ≡ Err ReadFault.TooLong → TookMore MOST_BYTES (I.input input.old) (I.input input.new) }
     ensures short { result ≢ Err ReadFault.NoMemory → result ≢ Err ReadFault.TooLong → TookAtMost MOST_BYTES (I.input input.old) (I.input input.new) }
     ensures bound { IfOk result (λ bytes. length bytes.items ≤ MOST_BYTES) }
+    ensures stops { (I.input input.new).taken ≤ (I.input input.old).taken + (MOST_BYTES + 65_536) }
     ensures faults { (I.input input.old).faults ≤ (I.input input.new).faults }
 {
     let mut bytes = Vec::new(alloc);

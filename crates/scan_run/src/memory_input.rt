@@ -1,6 +1,9 @@
 //! An input in memory, which tells its bytes.
-ghost use Rattle.std.specs.Prelude.{◌≡◌, Some, drop, []};
-ghost use Rattle.scan_run.specs.Io.{InputState};
+ghost use Rattle.std.specs.Prelude.{◌≡◌, ◌<◌, Some, drop, length, []};
+ghost use Rattle.scan_segments.specs.MemorySource.{stepped};
+ghost use Rattle.scan_segments.specs.Outcomes.{outcome_of};
+ghost use Rattle.scan_run.specs.Answers.{IsRead};
+ghost use Rattle.scan_run.specs.Memory.{read_by, buffer_after, state_after_read, memory_input};
 
 use crate::input::{Input, InputRead};
 use scan_segments::{Outcome, Script};
@@ -44,9 +47,21 @@ pub(crate) fn no_numbers(alloc: Global) -> StrictSorted
 }
 
 impl Input for MemoryInput {
-    ghost input = { λ s. record { left = Some (drop s.at s.bytes.items); taken = s.taken; ends = s.ends; faults = s.faults } };
+    ghost input = { λ s. memory_input s.bytes.items s.at s.taken s.ends s.faults };
 
-    fn read_some(&mut self, buf: &mut [u8]) -> InputRead {
+    fn read_some(&mut self, buf: &mut [u8]) -> InputRead
+        requires { 0 < length buf.old }
+        ensures read { IsRead
+            (memory_input self.old.bytes.items self.old.at self.old.taken self.old.ends self.old.faults)
+            (memory_input self.new.bytes.items self.new.at self.new.taken self.new.ends self.new.faults) buf.new result }
+        ensures answer { result
+            ≡ read_by (outcome_of self.old.script) (length buf.old) (drop self.old.at self.old.bytes.items) }
+        ensures buffer { buf.new ≡ buffer_after result (drop self.old.at self.old.bytes.items) buf.old }
+        ensures script { self.new.script ≡ stepped self.old.script }
+        ensures after { memory_input self.new.bytes.items self.new.at self.new.taken self.new.ends self.new.faults
+            ≡ state_after_read result
+            (memory_input self.old.bytes.items self.old.at self.old.taken self.old.ends self.old.faults) }
+    {
         if let Outcome::Fails = self.script.step() {
             self.faults = self.faults.saturating_add(1);
             return InputRead::Failed;

@@ -1,6 +1,9 @@
 //! An output in memory, which tells what it took.
-ghost use Rattle.std.specs.Prelude.{◌≡◌, Some, []};
-ghost use Rattle.scan_run.specs.Io.{OutputState};
+ghost use Rattle.std.specs.Prelude.{◌≡◌, ◌<◌, Some, length, []};
+ghost use Rattle.scan_segments.specs.MemorySource.{stepped};
+ghost use Rattle.scan_segments.specs.Outcomes.{outcome_of};
+ghost use Rattle.scan_run.specs.Answers.{IsWritten};
+ghost use Rattle.scan_run.specs.Memory.{IsWriteBy, state_after_write, memory_output};
 
 use crate::memory_input::no_numbers;
 use crate::output::{Output, OutputWrite};
@@ -41,9 +44,17 @@ impl MemoryOutput {
 }
 
 impl Output for MemoryOutput {
-    ghost output = { λ s. record { written = Some s.bytes.items; faults = s.faults; short = s.short } };
+    ghost output = { λ s. memory_output s.bytes.items s.faults s.short };
 
-    fn write_some(&mut self, bytes: &[u8]) -> OutputWrite {
+    fn write_some(&mut self, bytes: &[u8]) -> OutputWrite
+        requires { 0 < length bytes.now }
+        ensures written { IsWritten bytes.now (memory_output self.old.bytes.items self.old.faults self.old.short)
+            (memory_output self.new.bytes.items self.new.faults self.new.short) result }
+        ensures answer { IsWriteBy (outcome_of self.old.script) (length bytes.now) result }
+        ensures script { self.new.script ≡ stepped self.old.script }
+        ensures after { memory_output self.new.bytes.items self.new.faults self.new.short
+            ≡ state_after_write bytes.now result (memory_output self.old.bytes.items self.old.faults self.old.short) }
+    {
         if let Outcome::Fails = self.script.step() {
             self.faults = self.faults.saturating_add(1);
             return OutputWrite::Failed;

@@ -1,5 +1,5 @@
 //! The program's run, over any input and output.
-ghost use Rattle.std.specs.Prelude.{◌≡◌, ◌≢◌, ◌⊎◌, ◌↔◌, ◌<◌, [], ◌∷◌, List, length, map, string_bytes, false, IfOk, IfErr, Some, None, if◌then◌else◌};
+ghost use Rattle.std.specs.Prelude.{◌≡◌, ◌≢◌, ◌⊎◌, ◌↔◌, ◌<◌, ◌≤◌, ◌+◌, [], ◌∷◌, List, length, map, string_bytes, false, IfOk, IfErr, Some, None, if◌then◌else◌};
 ghost use Rattle.scan_segments.specs.Faults.{Rose};
 ghost use Rattle.scan_segments.specs.Cache.{empty_cache};
 ghost use Rattle.scan_segments.specs.Bounded.{bounded, keyed_state};
@@ -8,7 +8,7 @@ ghost use Rattle.scan_multi.specs.OpenerMemory.{given_of};
 ghost use Rattle.scan_multi.specs.Output.{ChunkData};
 ghost use Rattle.scan_multi.specs.declared.scan.files.ScanFault.TheVariants as fault;
 ghost use Rattle.scan_run.specs.ReadAll.{TookMore};
-ghost use Rattle.scan_run.specs.Run.{is_scan_words, IsScanned, printed, IsDone, IsUnserved, IsRefused, IsFound, IsUnbound, IsUnreadable, WroteNone};
+ghost use Rattle.scan_run.specs.Run.{is_scan_words, IsScanned, printed, IsDone, IsUnserved, IsRefused, IsFound, IsUnbound, IsUnreadable, IsFailing, WroteNone};
 ghost use Rattle.scan_run.specs.Printed.{chunks_lines};
 ghost use Rattle.scan_run.specs.Stops.{stop_of, status_of, IsStop, IsTextOf, WroteFrontOfLines, IsGiven, Halts, IsReady, Ends};
 ghost use Rattle.scan_run.specs.FileOf.{IsFileOf, AreFilesOf};
@@ -23,7 +23,7 @@ use scan_expr::ScanRequest;
 use scan_layout::LayoutRef;
 use scan_manifest::{CacheSpec, FileSpec, Files, LayoutTree, Manifest, ParseFault, parse_manifest};
 use scan_multi::{Gate, MemoryOpener, ScanFault, ScanFile, ScanOutput, scan_files};
-use scan_segments::{MemorySource, MokaSegmentCache, SegmentEviction, SegmentSourceId};
+use scan_segments::{MemorySource, MokaSegmentCache, SegmentSourceId};
 use scan_values::{DType, NoMemory};
 use std::alloc::Global;
 use std::thread::Threads;
@@ -184,13 +184,12 @@ fn run_manifest<R: Threads + Sync, G: Gate>(
     }
 }
 
-/// An empty cache of a manifest's size. So far it drops the least recently used entries first, whatever is named: the
-/// rows that a scan gives do not depend on it.
+/// An empty cache of a manifest's size and eviction.
 fn new_cache(alloc: Global, size: &CacheSpec) -> Result<MokaSegmentCache, NoMemory>
-    ensures exact { IfOk result (λ c. c ≡ bounded [] size.now.bytes size.now.entries) }
+    ensures exact { IfOk result (λ c. c ≡ bounded [] [] size.now.bytes size.now.entries size.now.eviction) }
     ensures empty { IfOk result (λ c. keyed_state c ≡ empty_cache) }
 {
-    MokaSegmentCache::new(alloc, size.bytes(), size.entries(), SegmentEviction::Lru)
+    MokaSegmentCache::new(alloc, size.bytes(), size.entries(), size.eviction())
 }
 
 /// The chunks of a scan of files that were made.
@@ -260,6 +259,7 @@ fn take_manifest<I: Input>(alloc: Global, input: &mut I) -> Result<Manifest, u8>
     ensures ok { IfOk result (λ m. IsGiven m (I.input input.old) (I.input input.new)) }
     ensures one { IfOk result (λ m. length m.files ≡ 1) }
     ensures halt { IfErr result (λ s. Halts s (I.input input.old) (I.input input.new)) }
+    ensures stops { (I.input input.new).taken ≤ (I.input input.old).taken + (MOST_BYTES + 65_536) }
 {
     match read_all(alloc, input) {
         Ok(bytes) => match parse_manifest(alloc, bytes.as_slice()) {
@@ -282,6 +282,7 @@ fn take_text<R: Threads + Sync, I: Input, G: Gate>(
 ) -> Result<Vec<u8>, u8>
     ensures ok { IfOk result (λ text. IsReady text.items (I.input input.old) (I.input input.new)) }
     ensures end { IfErr result (λ s. Ends s (I.input input.old) (I.input input.new)) }
+    ensures stops { (I.input input.new).taken ≤ (I.input input.old).taken + (MOST_BYTES + 65_536) }
 {
     match take_manifest(alloc, input) {
         Ok(manifest) => match scan_text(rt, alloc, manifest, gate) {
@@ -296,8 +297,8 @@ fn take_text<R: Threads + Sync, I: Input, G: Gate>(
 /// The words are those after the program's name; `scan` alone is served. The answer is the exit status:
 /// 0 the lines were written, 1 other words, 2 the input is no manifest that is served, 3 the request does not bind,
 /// 4 a file's layout is of another dtype or not well-formed, a segment is missing or damaged, or an expression overflows,
-/// 5 an opener or a source
-/// failed, 6 the input or the output failed or the input has more than 67,108,864 bytes, 7 want of memory.
+/// 5 an opener or a source failed, 6 the input or the output failed or the input has more than 67,108,864 bytes, 7 want
+/// of memory. Whatever the status, reading stops once more than 67,108,864 bytes were read.
 #[tactic(none)]
 pub fn run<R: Threads + Sync, I: Input, O: Output, G: Gate>(
     rt: &R,
@@ -313,10 +314,12 @@ pub fn run<R: Threads + Sync, I: Input, O: Output, G: Gate>(
     ensures refused { result ≡ 2 → IsRefused (I.input input.old) (I.input input.new) }
     ensures unbound { result ≡ 3 → IsFound (I.input input.old) (I.input input.new) IsUnbound }
     ensures unreadable { result ≡ 4 → IsFound (I.input input.old) (I.input input.new) IsUnreadable }
+    ensures failing { result ≡ 5 → IsFound (I.input input.old) (I.input input.new) IsFailing }
     ensures io { result ≡ 6 → (Rose (I.input input.old).faults (I.input input.new).faults ⊎ Rose (O.output output.old).faults (O.output output.new).faults) ⊎ TookMore MOST_BYTES (I.input input.old) (I.input input.new) }
     ensures nothing { 0 < result → result < 6 → WroteNone (O.output output.old) (O.output output.new) }
     ensures unwritten { result ≡ 6 → Rose (O.output output.old).faults (O.output output.new).faults ⊎ WroteNone (O.output output.old) (O.output output.new) }
     ensures front { WroteFrontOfLines (I.input input.old) (I.input input.new) (O.output output.old) (O.output output.new) }
+    ensures stops { (I.input input.new).taken ≤ (I.input input.old).taken + (MOST_BYTES + 65_536) }
     ensures statuses { result < 8 }
 {
     if !is_scan(words) {

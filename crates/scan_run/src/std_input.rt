@@ -1,11 +1,17 @@
-//! Standard input, which tells no bytes.
-ghost use Rattle.std.specs.Prelude.{◌≡◌, None};
-ghost use Rattle.scan_run.specs.Io.{InputState};
+//! An input over any reader of std, as standard input. It tells no bytes.
+ghost use Rattle.std.specs.Prelude.{◌≡◌, ◌≢◌, ◌<◌, None, IfErr, length};
+ghost use Rattle.std.specs.Io.{ReadsAtMost};
+ghost use Rattle.std.specs.Io.KnownBytes.{ReadConsumes};
+ghost use Rattle.std.specs.IoError.{error_kind};
+ghost use Rattle.scan_run.specs.Answers.{IsRead};
+ghost use Rattle.scan_run.specs.Memory.{state_after_read};
+ghost use Rattle.scan_run.specs.Std.{ReadsOf, std_input};
 
 use crate::input::{Input, InputRead};
-use std::io::Read;
+use std::io;
+use std::io::{Error, ErrorKind, Read};
 
-/// An input over a reader: `rt.stdin()`, a file.
+/// An input over a reader: `rt.stdin()`, a file. A read that a signal interrupts is made again.
 #[derive(Drop)]
 pub struct StdInput<R> {
     reader: R,
@@ -15,7 +21,11 @@ pub struct StdInput<R> {
 }
 
 impl<R: Read> StdInput<R> {
-    pub fn new(reader: R) -> Self {
+    /// An input of what the reader gives from here on.
+    pub fn new(reader: R) -> Self
+        ensures reader { result.reader ≡ reader }
+        ensures counts { (result.taken ≡ 0) × (result.ends ≡ 0) × (result.faults ≡ 0) }
+    {
         StdInput {
             reader,
             taken: 0,
@@ -25,11 +35,38 @@ impl<R: Read> StdInput<R> {
     }
 }
 
-impl<R: Read> Input for StdInput<R> {
-    ghost input = { λ s. record { left = None; taken = s.taken; ends = s.ends; faults = s.faults } };
+/// One read, made again where a signal interrupts it.
+fn read_once<R: Read>(reader: &mut R, buf: &mut [u8]) -> io::Result<usize>
+    ensures bound { ReadsAtMost result buf.new }
+    ensures bytes { ReadConsumes (R.remaining reader.old) (R.remaining reader.new) result buf.new }
+    ensures room { length buf.new ≡ length buf.old }
+    ensures retried { IfErr result (λ e. error_kind e ≢ ErrorKind.Interrupted) }
+{
+    for _ in 0..u64::MAX {
+        match reader.read(buf) {
+            Ok(n) => return Ok(n),
+            Err(e) => {
+                if e.kind() != ErrorKind::Interrupted {
+                    return Err(e);
+                }
+            }
+        }
+    }
+    Err(Error::from(ErrorKind::TimedOut))
+}
 
-    fn read_some(&mut self, buf: &mut [u8]) -> InputRead {
-        match self.reader.read(buf) {
+impl<R: Read> Input for StdInput<R> {
+    ghost input = { λ s. std_input s.taken s.ends s.faults };
+
+    fn read_some(&mut self, buf: &mut [u8]) -> InputRead
+        requires { 0 < length buf.old }
+        ensures read { IsRead (std_input self.old.taken self.old.ends self.old.faults)
+            (std_input self.new.taken self.new.ends self.new.faults) buf.new result }
+        ensures told { ReadsOf (R.remaining self.old.reader) (R.remaining self.new.reader) buf.new result }
+        ensures after { std_input self.new.taken self.new.ends self.new.faults
+            ≡ state_after_read result (std_input self.old.taken self.old.ends self.old.faults) }
+    {
+        match read_once(&mut self.reader, buf) {
             Ok(0) => {
                 self.ends = self.ends.saturating_add(1);
                 InputRead::End

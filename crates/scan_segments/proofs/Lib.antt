@@ -1,5 +1,6 @@
 pub mod Agrees
 pub mod Counts
+pub mod Evictions
 pub mod Faithful
 pub mod Given
 pub mod Keeps
@@ -15,3 +16,5 @@ pub mod Slots
 pub mod TableSteps
 pub mod Weights
 mod Joins
+pub mod Plain
+pub mod UseOrder

@@ -20,3 +20,4 @@ pub mod Kinds
 pub mod Locks
 pub mod Tickets
 pub mod Digest
+pub mod UseOrder

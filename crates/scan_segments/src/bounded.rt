@@ -1,17 +1,21 @@
 //! The bounded cache of segments. After the Rust's `segments::cache`.
-ghost use Rattle.std.specs.Prelude.{◌≡◌, ◌+◌, ◌<◌, ◌≤◌, length, Some, None, [], IfOk, OnOk, OnErr};
+ghost use Rattle.std.specs.Prelude.{◌≡◌, ◌+◌, ◌-◌, ◌<◌, ◌≤◌, ◌&&◌, length, is_none, [], IfOk, OnOk, OnErr};
 ghost use Rattle.lru.specs.LruCache.{lru_cache, put_entries};
 ghost use Rattle.scan_segments.specs.Keys.{same_key};
-ghost use Rattle.scan_segments.specs.Bounded.{weight, fitted, keyed_state, Gets, Puts, with_pairs};
+ghost use Rattle.std.specs.Map.{lookup};
+ghost use Rattle.scan_segments.specs.Bounded.{weight, fitted, keyed_state, Gets, Puts, bounded, with_both, fits, is_least as is_least_of};
+ghost use Rattle.scan_segments.specs.UseOrder.{plain, held, Indexed};
 ghost use Rattle.scan_segments.specs.Cached.{IsGot, IsPut};
 ghost use Rattle.scan_segments.specs.declared.bounded.SegmentEviction.TheVariants as by;
 
 use crate::cache::{CacheGet, CachePut, KeyedSegmentCache};
 use crate::file_cache::FileSegmentCache;
 use crate::segment::{ByteBuffer, SegmentId, SegmentKey, SegmentSourceId};
+use crate::use_counts::{Held, drop_place, evict_used, is_least, place_front, place_of, use_key};
 use lru::LruCache;
 use scan_values::NoMemory;
 use std::alloc::Global;
+use std::collections::BTreeMap;
 use std::marker::Model;
 use std::num::NonZeroUsize;
 
@@ -34,25 +38,41 @@ impl Default for SegmentEviction {
 }
 
 /// Segments under their keys, as many as a number of bytes and a number of entries allow. A segment weighs its
-/// length. Contracts see the pairs, the most recently used first, and the two bounds.
+/// length. Contracts see the pairs, the most recently used first, the two bounds, the eviction and the use counts.
 #[derive(Drop)]
 pub struct MokaSegmentCache {
-    pairs: LruCache<SegmentKey, ByteBuffer>,
+    // There is room for one pair more than there may be, so that a push drops none by itself.
+    pairs: LruCache<SegmentKey, Held>,
+    uses: LruCache<SegmentKey, u64>,
+    // Where each entry stands among those that are dropped by use counts, but for the front one where it is fresh.
+    order: BTreeMap<(u64, u64), SegmentKey>,
+    fresh: bool,
+    clock: u64,
     capacity: u64,
+    max_entries: usize,
+    eviction: SegmentEviction,
     weight: u64,
 }
 
 impl Model for MokaSegmentCache {
     ghost use Rattle.scan_segments.specs.Bounded.{Bounded};
+    ghost use Rattle.scan_segments.specs.declared.bounded.SegmentEviction.TheVariants as by;
 
     ghost Value = { Bounded };
 
     ghost use Rattle.std.specs.Prelude.{◌≡◌, ◌≤◌};
     ghost use Rattle.scan_segments.specs.Bounded.{weight as weight_of};
+    ghost use Rattle.std.specs.Prelude.{suc, ◌*◌, ◌<◌, length};
+    ghost use Rattle.scan_segments.specs.Bounded.{bounded};
+    ghost use Rattle.scan_segments.specs.UseOrder.{plain, Falls, Indexed, behind};
 
-    ghost view = { λ c. record { pairs = c.pairs.entries; capacity = c.capacity; max_entries = c.pairs.cap } };
+    ghost view = { λ c. bounded (plain c.pairs.entries) c.uses.entries c.capacity c.max_entries c.eviction };
 
-    ghost invariant = { λ c. (c.weight ≡ weight_of c.pairs.entries) × (c.weight ≤ c.capacity) };
+    ghost invariant = { λ c. (c.weight ≡ weight_of (plain c.pairs.entries)) × (c.weight ≤ c.capacity)
+        × (length c.pairs.entries ≤ c.max_entries) × (0 < c.max_entries) × (c.pairs.cap ≡ suc c.max_entries)
+        × (c.uses.cap ≡ 4 * c.max_entries)
+        × (c.eviction ≡ by.TinyLfu →
+        Falls c.clock c.pairs.entries × Indexed c.uses.entries c.order (behind c.fresh c.pairs.entries)) };
 }
 
 impl MokaSegmentCache {
@@ -64,24 +84,31 @@ impl MokaSegmentCache {
         eviction: SegmentEviction,
     ) -> Result<Self, NoMemory>
         requires entries { (0 < max_entries) × (max_entries ≤ 65536) }
-        requires eviction { eviction ≡ by.Lru }
-        ensures { IfOk result (λ c. c ≡ record {
-          pairs = [];
-          capacity = max_capacity_bytes;
-          max_entries = max_entries;
-        }) }
+        ensures { IfOk result (λ c. c ≡ bounded [] [] max_capacity_bytes max_entries eviction) }
     {
-        let Some(max_entries) = NonZeroUsize::new(max_entries) else {
+        let Some(room) = NonZeroUsize::new(max_entries + 1) else {
             unreachable!();
         };
-        match LruCache::new(alloc, max_entries) {
-            Ok(pairs) => Ok(MokaSegmentCache {
-                pairs,
-                capacity: max_capacity_bytes,
-                weight: 0,
-            }),
-            Err(_) => Err(NoMemory),
-        }
+        let Some(counted) = NonZeroUsize::new(4 * max_entries) else {
+            unreachable!();
+        };
+        let Ok(pairs) = LruCache::new(alloc, room) else {
+            return Err(NoMemory);
+        };
+        let Ok(uses) = LruCache::sparse(alloc, counted) else {
+            return Err(NoMemory);
+        };
+        Ok(MokaSegmentCache {
+            pairs,
+            uses,
+            order: BTreeMap::new(alloc),
+            fresh: false,
+            clock: 0,
+            capacity: max_capacity_bytes,
+            max_entries,
+            eviction,
+            weight: 0,
+        })
     }
 
     /// What the entries weigh together, in bytes.
@@ -105,11 +132,14 @@ impl MokaSegmentCache {
         ensures { self.new ≡ self.old }
     {}
 
-    /// Drops all entries.
+    /// Drops all entries and use counts.
     pub fn invalidate_all(&mut self)
-        ensures { self.new ≡ with_pairs [] self.old }
+        ensures { self.new ≡ with_both [] [] self.old }
     {
         self.pairs.clear();
+        self.uses.clear();
+        self.order.clear();
+        self.fresh = false;
         self.weight = 0;
     }
 
@@ -127,25 +157,64 @@ impl MokaSegmentCache {
         }
     }
 
-    // Looks a key up, and brings it to the front where it is there.
+    // Looks a key up, brings it to the front where it is there, and counts the use where uses are counted.
     fn look_up(&mut self, key: &SegmentKey) -> CacheGet
         ensures { Gets key.now self.old self.new result }
     {
-        let found = match self.pairs.peek(key) {
-            Some(buffer) => buffer.try_clone(),
-            None => return CacheGet::Miss,
+        match self.eviction {
+            SegmentEviction::Lru => self.look_up_last(key),
+            SegmentEviction::TinyLfu => self.look_up_used(key),
+        }
+    }
+
+    // Looks a key up, and brings it to the front where it is there.
+    fn look_up_last(&mut self, key: &SegmentKey) -> CacheGet
+        requires { self.old.eviction ≡ by.Lru }
+        ensures { Gets key.now self.old self.new result }
+    {
+        let Some(held) = self.pairs.peek(key) else {
+            return CacheGet::Miss;
         };
-        match found {
-            Ok(buffer) => {
-                self.pairs.promote(key);
-                CacheGet::Hit(buffer)
+        let Ok(bytes) = held.bytes.try_clone() else {
+            return CacheGet::NoMemory;
+        };
+        self.pairs.promote(key);
+        CacheGet::Hit(bytes)
+    }
+
+    // The same, and counts the use.
+    fn look_up_used(&mut self, key: &SegmentKey) -> CacheGet
+        requires { self.old.eviction ≡ by.TinyLfu }
+        ensures { Gets key.now self.old self.new result }
+    {
+        if place_front(&self.pairs, &self.uses, &mut self.order, self.fresh).is_err() {
+            return CacheGet::NoMemory;
+        }
+        self.fresh = false;
+        let Some(next) = self.clock.checked_add(1) else {
+            return CacheGet::NoMemory;
+        };
+        match use_key(
+            &mut self.pairs,
+            &mut self.uses,
+            &mut self.order,
+            key,
+            self.clock,
+        ) {
+            Ok(Some(bytes)) => {
+                self.clock = next;
+                self.fresh = true;
+                CacheGet::Hit(bytes)
+            }
+            Ok(None) => {
+                self.clock = next;
+                CacheGet::Miss
             }
             Err(_) => CacheGet::NoMemory,
         }
     }
 
-    // Stores a segment that is no heavier than the capacity, and drops the least recently used ones that then do
-    // not fit.
+    // Stores a segment that is no heavier than the capacity and not rare, and drops pairs that then do not fit.
     fn store(&mut self, key: &SegmentKey, buffer: &ByteBuffer) -> CachePut
         ensures { Puts key.now buffer.now self.old self.new result }
     {
@@ -153,17 +222,71 @@ impl MokaSegmentCache {
         if size > self.capacity {
             return CachePut::Passed;
         }
-        let Ok(key) = key.try_clone() else {
+        match self.eviction {
+            SegmentEviction::Lru => self.store_last(key, buffer, size),
+            SegmentEviction::TinyLfu => self.store_used(key, buffer, size),
+        }
+    }
+
+    // Stores a segment, and drops the least recently used ones that then do not fit.
+    fn store_last(&mut self, key: &SegmentKey, buffer: &ByteBuffer, size: u64) -> CachePut
+        requires size { (size ≡ length buffer.now) × (size ≤ self.old.capacity) }
+        requires eviction { self.old.eviction ≡ by.Lru }
+        ensures { Puts key.now buffer.now self.old self.new result }
+    {
+        let before = u128::from(self.weight) + u128::from(size);
+        let Ok(old) = push_pair(&mut self.pairs, key, buffer, 0) else {
             return CachePut::NoMemory;
         };
-        let Ok(buffer) = buffer.try_clone() else {
+        let total = before - u128::from(old);
+        self.weight = evict(&mut self.pairs, self.capacity, self.max_entries, total);
+        CachePut::Stored
+    }
+
+    // Whether a segment of this weight fits beside all entries.
+    fn has_room(&self, size: u64) -> bool
+        requires { size ≤ self.now.capacity }
+        ensures { result ≡ fits (self.now.capacity - size) (self.now.max_entries - 1) self.now.pairs }
+    {
+        self.weight <= self.capacity - size && self.pairs.len() <= self.max_entries - 1
+    }
+
+    // Stores a segment that is not rare, and drops those looked up least often until all fits.
+    fn store_used(&mut self, key: &SegmentKey, buffer: &ByteBuffer, size: u64) -> CachePut
+        requires size { (size ≡ length buffer.now) × (size ≤ self.old.capacity) }
+        requires eviction { self.old.eviction ≡ by.TinyLfu }
+        ensures { Puts key.now buffer.now self.old self.new result }
+    {
+        let _len = self.pairs.len();
+        let full = !self.has_room(size);
+        if place_front(&self.pairs, &self.uses, &mut self.order, self.fresh).is_err() {
+            return CachePut::NoMemory;
+        }
+        self.fresh = false;
+        if is_rare(&self.pairs, &self.uses, &mut self.order, key, full) {
+            return CachePut::Passed;
+        }
+        let Some(next) = self.clock.checked_add(1) else {
             return CachePut::NoMemory;
         };
         let before = u128::from(self.weight) + u128::from(size);
-        let Ok(gone) = push_pair(&mut self.pairs, key, buffer) else {
+        let place = place_of(&self.pairs, &self.uses, key);
+        let Ok(old) = push_pair(&mut self.pairs, key, buffer, self.clock) else {
             return CachePut::NoMemory;
         };
-        self.weight = evict(&mut self.pairs, self.capacity, before - u128::from(gone));
+        drop_place(&self.pairs, &self.uses, &mut self.order, true, place);
+        let total = before - u128::from(old);
+        self.weight = evict_used(
+            &mut self.pairs,
+            &self.uses,
+            &mut self.order,
+            self.capacity,
+            self.max_entries,
+            self.clock,
+            total,
+        );
+        self.clock = next;
+        self.fresh = true;
         CachePut::Stored
     }
 }
@@ -190,38 +313,69 @@ impl KeyedSegmentCache for MokaSegmentCache {
     }
 }
 
-// Stores a pair, and answers what the pair weighs that it takes the place of.
+// Whether a key is no entry's, has no room beside the entries, and none of them was looked up less often.
+fn is_rare(
+    pairs: &LruCache<SegmentKey, Held>,
+    uses: &LruCache<SegmentKey, u64>,
+    order: &mut BTreeMap<(u64, u64), SegmentKey>,
+    key: &SegmentKey,
+    full: bool,
+) -> bool
+    requires { Indexed uses.now.entries order.old pairs.now.entries }
+    ensures rare { result ≡ (is_none (lookup (same_key key.now) (plain pairs.now.entries))
+        && full && is_least_of uses.now.entries key.now (plain pairs.now.entries)) }
+    ensures indexed { Indexed uses.now.entries order.new pairs.now.entries }
+{
+    if pairs.contains(key) {
+        return false;
+    }
+    if !full {
+        return false;
+    }
+    is_least(pairs, uses, order, key)
+}
+
+// Stores a segment as the front pair of this time, and answers what the pair weighs that it takes the place of.
 fn push_pair(
-    pairs: &mut LruCache<SegmentKey, ByteBuffer>,
-    key: SegmentKey,
-    buffer: ByteBuffer,
+    pairs: &mut LruCache<SegmentKey, Held>,
+    key: &SegmentKey,
+    buffer: &ByteBuffer,
+    tick: u64,
 ) -> Result<u64, NoMemory>
-    ensures weight { IfOk result (λ gone. weight pairs.new.entries + gone ≡ weight pairs.old.entries + length buffer) }
-    ensures pairs { OnOk result (pairs.new ≡ lru_cache (put_entries same_key pairs.old key buffer) pairs.old.cap) }
+    ensures weight { IfOk result (λ gone.
+        weight (plain pairs.new.entries) + gone ≡ weight (plain pairs.old.entries) + length buffer.now) }
+    ensures pairs { OnOk result
+        (pairs.new ≡ lru_cache (put_entries same_key pairs.old key.now (held buffer.now tick)) pairs.old.cap) }
     ensures err { OnErr result (pairs.new ≡ pairs.old) }
     ensures room { 0 < pairs.old.cap }
 {
     let _len = pairs.len();
-    match pairs.push(key, buffer) {
-        Ok(Some((_, old))) => Ok(old.as_slice().len() as u64),
+    let key = key.try_clone()?;
+    let bytes = buffer.try_clone()?;
+    match pairs.push(key, Held { bytes, tick }) {
+        Ok(Some((_, old))) => Ok(old.bytes.as_slice().len() as u64),
         Ok(None) => Ok(0),
         Err(_) => Err(NoMemory),
     }
 }
 
-// Drops the last pairs until the weight fits, and answers the weight that is left.
-fn evict(pairs: &mut LruCache<SegmentKey, ByteBuffer>, capacity: u64, mut total: u128) -> u64
-    requires { total ≡ weight pairs.old.entries }
-    ensures pairs { pairs.new.entries ≡ fitted capacity pairs.old.cap pairs.old.entries }
+// Drops the last pairs until weight and number fit, and answers the weight that is left.
+fn evict(
+    pairs: &mut LruCache<SegmentKey, Held>,
+    capacity: u64,
+    max_entries: usize,
+    mut total: u128,
+) -> u64
+    requires { total ≡ weight (plain pairs.old.entries) }
+    ensures pairs { plain pairs.new.entries ≡ fitted capacity max_entries (plain pairs.old.entries) }
     ensures cap { pairs.new.cap ≡ pairs.old.cap }
-    ensures weight { (result ≡ weight pairs.new.entries) × (result ≤ capacity) }
+    ensures weight { (result ≡ weight (plain pairs.new.entries)) × (result ≤ capacity) }
 {
-    while total > u128::from(capacity) {
+    while total > u128::from(capacity) || pairs.len() > max_entries {
         match pairs.pop_lru() {
-            Some((_, buffer)) => total -= buffer.as_slice().len() as u128,
+            Some((_, held)) => total -= held.bytes.as_slice().len() as u128,
             None => unreachable!(),
         }
     }
-    let _len = pairs.len();
     total as u64
 }

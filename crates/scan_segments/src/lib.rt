@@ -20,6 +20,7 @@ pub mod shared;
 pub mod shared_source;
 pub mod source;
 pub mod ticket;
+mod use_counts;
 
 pub use adapter::SegmentCacheSourceAdapter;
 pub use bounded::{MokaSegmentCache, SegmentEviction};

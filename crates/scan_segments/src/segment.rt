@@ -74,8 +74,9 @@ impl fmt::Display for SegmentId {
     }
 }
 
-/// The name of a source, which its holders share. It is hashed by a number that is made of its text once, so a lookup in a
-/// cache hashes no text. Contracts see the bytes of the text.
+/// The name of a source, which its holders share. Sources of one name share cached segments, so a name has to identify
+/// the contents of its source: the object and its version, and not a path that may be written anew. It is hashed by a
+/// number that is made of its text once, so a lookup in a cache hashes no text. Contracts see the bytes of the text.
 #[derive(Debug, Drop)]
 pub struct SegmentSourceId {
     text: Arc<String>,

@@ -144,8 +144,12 @@ fn manifests_are_read(rt: HostRuntime) -> Result<(), Fail> {
             true,
         ),
         (
-            r#"{"dtype":"i32","files":[{"id":"","layout":{"leaf":[],"rows":0},"segments":[],"dtype":"u8","skip":false,"open":{},"source":{"fail":[],"pending":[1,2]}}],"request":{"projection":"$","exclude":[]}}"#,
+            r#"{"dtype":"i32","files":[{"id":"","layout":{"leaf":[],"rows":0},"segments":[],"dtype":"u8","skip":true,"open":{},"source":{"fail":[],"pending":[1,2]}}],"request":{"projection":"$","exclude":[]}}"#,
             true,
+        ),
+        (
+            r#"{"dtype":"i32","files":[{"id":"","layout":{"leaf":[],"rows":0},"segments":[],"skip":false}],"request":{"projection":"$"}}"#,
+            false,
         ),
         (
             r#"{"dtype":"i32","files":[{"id":"","layout":{"leaf":[],"rows":0},"segments":[]}],"request":{"projection":"$","include":[],"exclude":[]}}"#,

@@ -469,6 +469,21 @@ fn a_second_scan_asks_nothing(rt: HostRuntime) -> Result<(), Fail> {
     Ok(())
 }
 
+#[test]
+fn a_cache_by_use_counts_changes_no_row(rt: HostRuntime) -> Result<(), Fail> {
+    let alloc = rt.alloc();
+    let opener = opener(alloc, table_layout(alloc)?, &[])?;
+    let mut files = file(alloc, opener, source(alloc, &A, &[])?)?;
+    let dtype = table(alloc)?;
+    let mut cache = MokaSegmentCache::new(alloc, 1048576, 1024, SegmentEviction::TinyLfu)?;
+    let a = select(alloc, &["a"])?;
+    let output = scan_through(&rt, alloc, &dtype, &mut files, &mut cache, a)?;
+    assert!(rt; is_one_two_three(&output.chunks));
+    assert_eq!(rt; output.report, counts(1, 0, 0, 1));
+    assert_eq!(rt; asked(&files), [SegmentId::from(0)].as_slice());
+    Ok(())
+}
+
 /// Whether a lookup of this segment missed, and then a put of it ended.
 fn is_missed_and_put(events: &[CacheEvent<SegmentKey>], id: SegmentId) -> bool {
     match events {

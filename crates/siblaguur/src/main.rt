@@ -1,4 +1,4 @@
-// Reads a manifest from standard input, scans, and prints a line for each row.
+//! Reads a manifest from standard input, scans, and prints a line for each row.
 #![tactic(auto)]
 
 use scan_run::run::run;

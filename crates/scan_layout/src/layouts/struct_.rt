@@ -10,6 +10,7 @@ ghost use Rattle.std.specs.List.{list_any};
 ghost use Rattle.scan_values.specs.FieldLists.{names_of};
 ghost use Rattle.scan_values.specs.FieldPaths.{matches_all};
 
+use super::field_places::FieldPlaces;
 use super::{Layout, MaskFault, SlotFault, VTable};
 use crate::check::level_fault;
 use crate::fault::LayoutFault;
@@ -190,11 +191,11 @@ fn every_field(alloc: Global, count: usize) -> Result<Vec<(FieldMask, usize)>, M
 }
 
 // The place of the field of a mask's first name.
-fn field_of(fields: &StructFields, mask: &FieldMask) -> Option<usize>
-    ensures { result ≡ field_of (names_of fields.now) mask.now }
+fn field_of(places: &FieldPlaces, mask: &FieldMask) -> Option<usize>
+    ensures { result ≡ field_of (names_of places.now.fields.now) mask.now }
 {
     match mask.starting_field() {
-        Some(name) => fields.find(name),
+        Some(name) => places.find(name),
         None => None,
     }
 }
@@ -208,9 +209,12 @@ fn named_fields(
 ) -> Result<Vec<(FieldMask, usize)>, MaskFault>
     ensures { TellsMatches result (named_fields (names_of fields.now) masks.now) }
 {
+    let Ok(places) = FieldPlaces::of(alloc, fields) else {
+        return Err(MaskFault::NoMemory);
+    };
     let mut found = Vec::new(alloc);
     for mask in masks {
-        let Some(i) = field_of(fields, mask) else {
+        let Some(i) = field_of(&places, mask) else {
             return Err(MaskFault::NoSuchField);
         };
         let Ok(copy) = mask.try_clone(alloc) else {

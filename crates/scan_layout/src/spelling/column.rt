@@ -1,25 +1,28 @@
 //! A leaf's segment, read in place. Texts are not of one width, and of them it is kept where each ends.
 ghost use Rattle.std.specs.Prelude.{◌≡◌, ◌<◌, ◌≤◌, ◌+◌, ◌*◌, ◌==◌, length, replicate, take, drop, map, get_or, slice_get, is_some, option_and_then, option_map, IfOk, IsTrue, List, Some, true, false};
-ghost use Rattle.std.specs.List.{items_where_true};
+ghost use Rattle.std.specs.List.{items_where_true, slice_range};
 ghost use Rattle.scan_values.specs.Arrays.{of_parts};
-ghost use Rattle.scan_values.specs.Kinds.{is_scalar_type, kind_of};
+ghost use Rattle.scan_values.specs.Kinds.{is_scalar_type, kind_of, ptype_of};
 ghost use Rattle.scan_values.specs.DataType.{nullability_of};
 ghost use Rattle.scan_values.specs.Val.{Val, marked, marked_all, vals_of};
 ghost use Rattle.scan_values.specs.Marked.{is_true};
-ghost use Rattle.scan_values.specs.Fits.{is_bool_type};
+ghost use Rattle.scan_values.specs.Masks.{true_count};
+ghost use Rattle.scan_values.specs.Fits.{fits, fits_all, is_bool_type, is_utf8_type};
 ghost use Rattle.scan_values.specs.Values.{val_of};
 ghost use Rattle.scan_layout.specs.Spelling.{content, bool_of, under_flag, cells, bits_of, bytes_for, group_size, flags_in, decode_slots, decode_under, decode};
 ghost use Rattle.scan_layout.specs.Spells.{Spells};
 ghost use Rattle.scan_layout.specs.Decoded.{Gives};
-ghost use Rattle.scan_layout.specs.LeafColumns.{slot_width, has_width, or_none, spelled, spread, are_flags, is_row, are_rows, is_here, is_set};
+ghost use Rattle.scan_layout.specs.LeafColumns.{slot_width, has_width, or_none, spelled, spread, are_flags, is_row, are_rows, is_here, is_set, int_or_null, bool_or_null, text_or_null};
 ghost use Rattle.scan_layout.specs.TextColumns.{ends_under};
+ghost use Rattle.scan_layout.specs.SlotValues.{slot_val};
 
 use super::bits::{bit, is_group};
-use super::read::{group_size, int_of, width};
+use super::read::{group_size, width};
+use super::slot::SlotValue;
 use super::texts::{ends_under, flag_bytes, flag_of, text_under};
 use super::{DecodeFault, Spelling};
 use scan_segments::ByteBuffer;
-use scan_values::{Array, DType, DTypeKind, Mask, NoMemory, Nullability, Value};
+use scan_values::{DType, DTypeKind, Mask, NoMemory, Nullability, Text, Value};
 use std::alloc::Global;
 use std::marker::Model;
 
@@ -222,88 +225,60 @@ fn slot_at(bytes: &[u8], i: usize, width: usize) -> &[u8]
     &bytes[start..start + width]
 }
 
-// The value of a slot under its flag.
-fn value_of(kind: DTypeKind, flag: u8, slot: &[u8]) -> Value
-    requires width { has_width kind ≡ true }
-    requires long { length slot.now ≡ slot_width kind }
-    requires there { is_some (under_flag flag (content kind slot.now)) ≡ true }
-    ensures { Some (val_of result) ≡ under_flag flag (content kind slot.now) }
-{
-    if flag == 0 {
-        return Value::Null;
-    }
-    match kind {
-        DTypeKind::Primitive(ptype) => Value::Int(int_of(ptype, slot)),
-        _ => Value::Bool(slot[0] == 1),
-    }
-}
-
 // The value at a place of slots that are all there.
-fn plain_at(kind: DTypeKind, rows: u64, bytes: &[u8], i: usize) -> Value
+fn plain_at(kind: DTypeKind, rows: u64, bytes: &[u8], i: usize) -> SlotValue
     requires width { has_width kind ≡ true }
     requires spelled { cells kind (replicate rows 1) bytes.now
         ≡ Some (or_none (cells kind (replicate rows 1) bytes.now)) }
     requires within { i < rows }
-    ensures { Some (val_of result) ≡ slice_get (or_none (cells kind (replicate rows 1) bytes.now)) i }
+    ensures { Some (slot_val result) ≡ slice_get (or_none (cells kind (replicate rows 1) bytes.now)) i }
 {
     let width = slot_width(kind);
-    value_of(kind, 1, slot_at(bytes, i, width))
+    SlotValue::of_slot(kind, 1, slot_at(bytes, i, width))
 }
 
 // The value at a place of slots under their flags.
-fn flagged_at(kind: DTypeKind, flags: &[u8], bytes: &[u8], i: usize) -> Value
+fn flagged_at(kind: DTypeKind, flags: &[u8], bytes: &[u8], i: usize) -> SlotValue
     requires width { has_width kind ≡ true }
     requires spelled { cells kind flags.now bytes.now ≡ Some (or_none (cells kind flags.now bytes.now)) }
     requires within { i < length flags.now }
-    ensures { Some (val_of result) ≡ slice_get (or_none (cells kind flags.now bytes.now)) i }
+    ensures { Some (slot_val result) ≡ slice_get (or_none (cells kind flags.now bytes.now)) i }
 {
     let width = slot_width(kind);
-    value_of(kind, flags[i], slot_at(bytes, i, width))
-}
-
-// A Bool under its flag, of which each is a bit.
-fn bool_value(flag: u8, bit: u8) -> Value
-    requires flag { flag < 2 }
-    requires bit { bit < 2 }
-    ensures { Some (val_of result) ≡ under_flag flag (bool_of bit) }
-{
-    if flag == 0 {
-        return Value::Null;
-    }
-    Value::Bool(bit == 1)
+    SlotValue::of_slot(kind, flags[i], slot_at(bytes, i, width))
 }
 
 // The value at a place of slots that are all there, in either spelling.
-fn plain_value(spelling: Spelling, kind: DTypeKind, rows: u64, bytes: &[u8], i: usize) -> Value
+fn plain_value(spelling: Spelling, kind: DTypeKind, rows: u64, bytes: &[u8], i: usize) -> SlotValue
     requires width { has_width kind ≡ true }
     requires spelled { decode_slots spelling kind rows (replicate rows 1) bytes.now
         ≡ Some (or_none (decode_slots spelling kind rows (replicate rows 1) bytes.now)) }
     requires within { i < rows }
-    ensures { Some (val_of result)
+    ensures { Some (slot_val result)
         ≡ slice_get (or_none (decode_slots spelling kind rows (replicate rows 1) bytes.now)) i }
 {
     match (spelling, kind) {
-        (Spelling::Two, DTypeKind::Bool) => bool_value(1, bit(bytes, i as u64)),
+        (Spelling::Two, DTypeKind::Bool) => SlotValue::of_bits(1, bit(bytes, i as u64)),
         _ => plain_at(kind, rows, bytes, i),
     }
 }
 
 // The value at a place of slots under bits.
-fn value_under_bits(kind: DTypeKind, rows: u64, flags: &[u8], bytes: &[u8], i: usize) -> Value
+fn value_under_bits(kind: DTypeKind, rows: u64, flags: &[u8], bytes: &[u8], i: usize) -> SlotValue
     requires width { has_width kind ≡ true }
     requires flags { length flags.now ≡ bytes_for rows }
     requires spelled { decode_slots Spelling.Two kind rows (take rows (bits_of flags.now)) bytes.now
         ≡ Some (or_none (decode_slots Spelling.Two kind rows (take rows (bits_of flags.now)) bytes.now)) }
     requires within { i < rows }
-    ensures { Some (val_of result)
+    ensures { Some (slot_val result)
         ≡ slice_get (or_none (decode_slots Spelling.Two kind rows (take rows (bits_of flags.now)) bytes.now)) i }
 {
     let flag = bit(flags, i as u64);
     match kind {
-        DTypeKind::Bool => bool_value(flag, bit(bytes, i as u64)),
+        DTypeKind::Bool => SlotValue::of_bits(flag, bit(bytes, i as u64)),
         _ => {
             let width = slot_width(kind);
-            value_of(kind, flag, slot_at(bytes, i, width))
+            SlotValue::of_slot(kind, flag, slot_at(bytes, i, width))
         }
     }
 }
@@ -316,13 +291,13 @@ fn flagged_value(
     flags: &[u8],
     bytes: &[u8],
     i: usize,
-) -> Value
+) -> SlotValue
     requires width { has_width kind ≡ true }
     requires flags { length flags.now ≡ group_size spelling rows }
     requires spelled { decode_slots spelling kind rows (spread spelling rows flags.now) bytes.now
         ≡ Some (or_none (decode_slots spelling kind rows (spread spelling rows flags.now) bytes.now)) }
     requires within { i < rows }
-    ensures { Some (val_of result)
+    ensures { Some (slot_val result)
         ≡ slice_get (or_none (decode_slots spelling kind rows (spread spelling rows flags.now) bytes.now)) i }
 {
     match spelling {
@@ -339,12 +314,12 @@ fn value_at(
     rows: u64,
     bytes: &[u8],
     i: usize,
-) -> Value
+) -> SlotValue
     requires width { has_width kind ≡ true }
     requires spelled { decode_under spelling nullability kind rows bytes.now
         ≡ Some (or_none (decode_under spelling nullability kind rows bytes.now)) }
     requires within { i < rows }
-    ensures { Some (val_of result) ≡ slice_get (or_none (decode_under spelling nullability kind rows bytes.now)) i }
+    ensures { Some (slot_val result) ≡ slice_get (or_none (decode_under spelling nullability kind rows bytes.now)) i }
 {
     match nullability {
         Nullability::NonNullable => plain_value(spelling, kind, rows, bytes, i),
@@ -472,23 +447,43 @@ fn text_ends(
     ends_under(alloc, spelling, dtype.nullability(), rows, bytes)
 }
 
-// The text of a row, by where each ends.
-fn text_at(
-    alloc: Global,
+// The text of a row, if it is not null, by where each ends.
+fn text_at<'a>(
     spelling: Spelling,
     dtype: &DType,
     rows: u64,
-    bytes: &[u8],
+    bytes: &'a [u8],
     ends: &[usize],
     i: usize,
-) -> Result<Value, NoMemory>
+) -> Option<&'a str>
     requires text { kind_of dtype.now ≡ DTypeKind.Utf8 }
     requires spelled { decode spelling dtype.now rows bytes.now ≡ Some (spelled spelling dtype.now rows bytes.now) }
     requires ends { ends_under spelling (nullability_of dtype.now) rows bytes.now ≡ Some ends.now }
     requires within { i < rows }
-    ensures { IfOk result (λ v. Some (val_of v) ≡ slice_get (spelled spelling dtype.now rows bytes.now) i) }
+    ensures { Some (text_or_null (option_map (λ t. t.now) result))
+        ≡ slice_get (spelled spelling dtype.now rows bytes.now) i }
 {
-    text_under(alloc, spelling, dtype.nullability(), rows, bytes, ends, i)
+    text_under(spelling, dtype.nullability(), rows, bytes, ends, i)
+}
+
+// The same as a value.
+fn text_value(alloc: Global, text: Option<&str>) -> Result<Value, NoMemory>
+    ensures { IfOk result (λ v. val_of v ≡ text_or_null (option_map (λ t. t.now) text.entry)) }
+{
+    match text {
+        Some(text) => {
+            let text = String::from_str(alloc, text)?;
+            Ok(Value::Text(Text::new(text)))
+        }
+        None => Ok(Value::Null),
+    }
+}
+
+// How many bits are true.
+fn count_true(bits: &[bool]) -> usize
+    ensures { result ≡ true_count bits.now }
+{
+    bits.iter().filter(|b| **b).count()
 }
 
 impl LeafColumn {
@@ -603,6 +598,15 @@ impl LeafColumn {
         &self.dtype
     }
 
+    /// The dtype of the values, each of which fits it.
+    #[tactic(auto, using(crate::proofs::Fitting::decoded_fit))]
+    pub fn fitted_dtype(&self) -> &DType
+        ensures same { result.now ≡ self.now.dtype }
+        ensures fit { fits_all (marked_all (vals_of self.now.items)) self.now.dtype ≡ true }
+    {
+        &self.dtype
+    }
+
     /// How many rows.
     pub fn len(&self) -> usize
         ensures { result ≡ length self.now.items }
@@ -617,6 +621,39 @@ impl LeafColumn {
         self.len() == 0
     }
 
+    // The text of a row, if it is not null.
+    fn text_lent(&self, i: usize) -> Option<&str>
+        requires text { has_width (kind_of self.now.dtype) ≡ false }
+        requires within { i < length self.now.items }
+        ensures { Some (text_or_null (option_map (λ t. t.now) result)) ≡ slice_get self.now.items i }
+    {
+        text_at(
+            self.spelling,
+            &self.dtype,
+            self.rows,
+            self.bytes.as_slice(),
+            self.ends.as_slice(),
+            i,
+        )
+    }
+
+    // What the slot of a row holds, where all are of one width.
+    fn slot_value(&self, i: usize) -> SlotValue
+        requires width { has_width (kind_of self.now.dtype) ≡ true }
+        requires within { i < length self.now.items }
+        ensures place { Some (slot_val result) ≡ slice_get self.now.items i }
+        ensures fits { fits (marked (slot_val result)) self.now.dtype ≡ true }
+    {
+        value_at(
+            self.spelling,
+            self.dtype.kind(),
+            self.dtype.nullability(),
+            self.rows,
+            self.bytes.as_slice(),
+            i,
+        )
+    }
+
     /// The value of a row.
     ///
     /// # Errors
@@ -626,24 +663,39 @@ impl LeafColumn {
         ensures { IfOk result (λ v. Some (val_of v) ≡ slice_get self.now.items i) }
     {
         if !has_width(self.dtype.kind()) {
-            return text_at(
-                alloc,
-                self.spelling,
-                &self.dtype,
-                self.rows,
-                self.bytes.as_slice(),
-                self.ends.as_slice(),
-                i,
-            );
+            return text_value(alloc, self.text_lent(i));
         }
-        Ok(value_at(
-            self.spelling,
-            self.dtype.kind(),
-            self.dtype.nullability(),
-            self.rows,
-            self.bytes.as_slice(),
-            i,
-        ))
+        Ok(self.slot_value(i).to_value())
+    }
+
+    /// The number of a row of integers, if it is not null. No value is made.
+    #[tactic(auto, using(crate::proofs::LeafCells::int_width, crate::proofs::LeafCells::int_is))]
+    pub fn int_at(&self, i: usize) -> Option<i128>
+        requires ints { is_some (ptype_of self.now.dtype) ≡ true }
+        requires within { i < length self.now.items }
+        ensures { Some (int_or_null result) ≡ slice_get self.now.items i }
+    {
+        self.slot_value(i).to_int()
+    }
+
+    /// The truth value of a row of Bools, if it is not null. No value is made.
+    #[tactic(auto, using(crate::proofs::LeafCells::bool_width, crate::proofs::LeafCells::bool_is))]
+    pub fn bool_at(&self, i: usize) -> Option<bool>
+        requires bools { is_bool_type self.now.dtype ≡ true }
+        requires within { i < length self.now.items }
+        ensures { Some (bool_or_null result) ≡ slice_get self.now.items i }
+    {
+        self.slot_value(i).to_bool()
+    }
+
+    /// The text of a row of texts, lent out of the segment, if it is not null. No value is made.
+    #[tactic(auto, using(crate::proofs::LeafCells::text_width))]
+    pub fn text_at(&self, i: usize) -> Option<&str>
+        requires texts { is_utf8_type self.now.dtype ≡ true }
+        requires within { i < length self.now.items }
+        ensures { Some (text_or_null (option_map (λ t. t.now) result)) ≡ slice_get self.now.items i }
+    {
+        self.text_lent(i)
     }
 
     /// Whether a row is not null. No value is made.
@@ -665,16 +717,34 @@ impl LeafColumn {
     ///
     /// # Errors
     /// `NoMemory`.
-    #[tactic(auto, using(crate::proofs::Columns::pick_pushed, crate::proofs::Columns::pick_passed))]
+    #[tactic(auto, using(crate::proofs::Columns::whole_range))]
     pub fn picked(&self, alloc: Global, mask: &Mask) -> Result<Vec<Value>, NoMemory>
         requires { length mask.now ≡ length self.now.items }
         ensures { IfOk result (λ v. map val_of v.items ≡ items_where_true mask.now self.now.items) }
     {
-        let bits = mask.as_slice();
-        let mut items = Vec::with_capacity(alloc, mask.true_count())?;
-        for (i, bit) in bits.iter().enumerate() {
-            if *bit {
-                items.push(self.value(alloc, i)?)?;
+        self.picked_from(alloc, 0, mask.as_slice())
+    }
+
+    /// Of so many rows as the mask has, from a first one on, the values of the true ones, which alone are made.
+    ///
+    /// # Errors
+    /// `NoMemory`.
+    #[tactic(auto, using(crate::proofs::Columns::range_pushed, crate::proofs::Columns::range_passed))]
+    pub fn picked_from(
+        &self,
+        alloc: Global,
+        first: usize,
+        mask: &[bool],
+    ) -> Result<Vec<Value>, NoMemory>
+        requires { first + length mask.now ≤ length self.now.items }
+        ensures { IfOk result (λ v. map val_of v.items
+            ≡ items_where_true mask.now (slice_range self.now.items first (first + length mask.now))) }
+    {
+        let mut items = Vec::with_capacity(alloc, count_true(mask))?;
+        let _rows = self.len();
+        for i in 0..mask.len() {
+            if mask[i] {
+                items.push(self.value(alloc, first + i)?)?;
             }
         }
         Ok(items)

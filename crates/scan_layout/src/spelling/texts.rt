@@ -1,5 +1,5 @@
 //! Where the texts of a segment end, and the text of a row.
-ghost use Rattle.std.specs.Prelude.{◌≡◌, ◌<◌, ◌≤◌, ◌+◌, length, slice_get, slice_index, get_or, is_some, option_and_then, IfOk, Some, true, take, drop};
+ghost use Rattle.std.specs.Prelude.{◌≡◌, ◌<◌, ◌≤◌, ◌+◌, length, slice_get, slice_index, get_or, is_some, option_and_then, option_map, IfOk, Some, true, take, drop};
 ghost use Rattle.scan_values.specs.Val.{Val};
 ghost use Rattle.scan_values.specs.Values.{val_of};
 ghost use Rattle.scan_values.specs.declared.dtype.DTypeKind.TheVariants as kinds;
@@ -7,12 +7,12 @@ ghost use Rattle.scan_layout.specs.Spelling.{content, under_flag};
 ghost use Rattle.scan_layout.specs.Decoded.{Gives};
 ghost use Rattle.scan_layout.specs.TextColumns.{ends_of, start_of, text_at, row_flags, flag_bytes, ends_under};
 ghost use Rattle.scan_layout.specs.Spelling.{cells, decode_under, flags_in, group_size};
-ghost use Rattle.scan_layout.specs.LeafColumns.{or_none};
+ghost use Rattle.scan_layout.specs.LeafColumns.{or_none, text_or_null};
 
 use super::bits::{bit, is_group};
 use super::read::{framed, group_size, part};
 use super::{DecodeFault, Spelling};
-use scan_values::{NoMemory, Nullability, Text, Value};
+use scan_values::Nullability;
 use std::alloc::Global;
 
 // Whether the bytes are a text.
@@ -153,21 +153,18 @@ pub(super) fn ends_under(
     }
 }
 
-// The text of a row that is there, under its flag.
+// The text under its flag, if it is not null.
 #[tactic(auto, using(crate::proofs::Texts::is_text, crate::proofs::Texts::is_no_text))]
-fn text_value(alloc: Global, flag: u8, text: &[u8]) -> Result<Value, NoMemory>
+fn text_value(flag: u8, text: &[u8]) -> Option<&str>
     requires { is_some (under_flag flag (content kinds.Utf8 text.now)) ≡ true }
-    ensures { IfOk result (λ v. Some (val_of v) ≡ under_flag flag (content kinds.Utf8 text.now)) }
+    ensures { Some (text_or_null (option_map (λ t. t.now) result)) ≡ under_flag flag (content kinds.Utf8 text.now) }
 {
     if flag == 0 {
-        return Ok(Value::Null);
+        return None;
     }
     match str::from_utf8(text) {
-        Ok(text) => {
-            let text = String::from_str(alloc, text)?;
-            Ok(Value::Text(Text::new(text)))
-        }
-        Err(_) => Ok(Value::Null),
+        Ok(text) => Some(text),
+        Err(_) => None,
     }
 }
 
@@ -182,48 +179,46 @@ fn text_at<'a>(bytes: &'a [u8], ends: &[usize], i: usize) -> &'a [u8]
     &bytes[start + 4..ends[i]]
 }
 
-// The value of a row, by where each slot ends.
-fn text_row(
-    alloc: Global,
+// The text of a row, if it is not null, by where each slot ends.
+fn text_row<'a>(
     spelling: Spelling,
     nullability: Nullability,
     rows: u64,
     flags: &[u8],
-    bytes: &[u8],
+    bytes: &'a [u8],
     ends: &[usize],
     i: usize,
-) -> Result<Value, NoMemory>
+) -> Option<&'a str>
     requires flags { length flags.now ≡ flag_bytes spelling nullability rows }
     requires spelled { cells kinds.Utf8 (row_flags spelling nullability rows flags.now) bytes.now
         ≡ Some (or_none (cells kinds.Utf8 (row_flags spelling nullability rows flags.now) bytes.now)) }
     requires ends { ends_of 0 (row_flags spelling nullability rows flags.now) bytes.now ≡ Some ends.now }
     requires within { i < rows }
-    ensures { IfOk result (λ v. Some (val_of v)
-        ≡ slice_get (or_none (cells kinds.Utf8 (row_flags spelling nullability rows flags.now) bytes.now)) i) }
+    ensures { Some (text_or_null (option_map (λ t. t.now) result))
+        ≡ slice_get (or_none (cells kinds.Utf8 (row_flags spelling nullability rows flags.now) bytes.now)) i }
 {
     let flag = flag_of(spelling, nullability, rows, flags, i as u64);
-    text_value(alloc, flag, text_at(bytes, ends, i))
+    text_value(flag, text_at(bytes, ends, i))
 }
 
-/// The value of a row of a segment of texts, by where each ends.
-pub(super) fn text_under(
-    alloc: Global,
+/// The text of a row of a segment of texts, if it is not null, by where each ends.
+pub(super) fn text_under<'a>(
     spelling: Spelling,
     nullability: Nullability,
     rows: u64,
-    bytes: &[u8],
+    bytes: &'a [u8],
     ends: &[usize],
     i: usize,
-) -> Result<Value, NoMemory>
+) -> Option<&'a str>
     requires spelled { decode_under spelling nullability kinds.Utf8 rows bytes.now
         ≡ Some (or_none (decode_under spelling nullability kinds.Utf8 rows bytes.now)) }
     requires ends { ends_under spelling nullability rows bytes.now ≡ Some ends.now }
     requires within { i < rows }
-    ensures { IfOk result (λ v. Some (val_of v)
-        ≡ slice_get (or_none (decode_under spelling nullability kinds.Utf8 rows bytes.now)) i) }
+    ensures { Some (text_or_null (option_map (λ t. t.now) result))
+        ≡ slice_get (or_none (decode_under spelling nullability kinds.Utf8 rows bytes.now)) i }
 {
     let (flags, slots) = bytes.split_at(flag_bytes(spelling, nullability, rows) as usize);
-    text_row(alloc, spelling, nullability, rows, flags, slots, ends, i)
+    text_row(spelling, nullability, rows, flags, slots, ends, i)
 }
 
 /// How many bytes hold the flags of so many rows.

@@ -95,7 +95,7 @@ pub enum ScanFault {
     NoMemory,
     #[error("the opener of file {file} failed")]
     Opener { file: usize },
-    #[error("the source of file {file} failed")]
+    #[error("the source of file {file} failed at {segment}")]
     Source { file: usize, segment: SegmentId },
     #[error("file {file} has another dtype")]
     DTypeMismatch { file: usize },
@@ -107,7 +107,7 @@ pub enum ScanFault {
     RowRange(RangeFault),
     #[error("the layout of file {file}: {fault}")]
     Layout { file: usize, fault: LayoutFault },
-    #[error("a segment of file {file} is missing or damaged")]
+    #[error("{segment} of file {file} is missing or damaged")]
     Corrupt { file: usize, segment: SegmentId },
     #[error("the rows up to file {file} pass the greatest u64")]
     TooManyRows { file: usize },
@@ -347,7 +347,7 @@ struct FileRows {
 
 /// The rows of a file whose layout is well-formed.
 #[tactic(none)]
-fn scan_layout<S: SegmentSource, C: KeyedSegmentCache>(
+fn scan_opened<S: SegmentSource, C: KeyedSegmentCache>(
     alloc: Global,
     source: &mut S,
     name: &SegmentSourceId,
@@ -403,7 +403,7 @@ fn scan_file<O: LayoutReaderFactory, S: SegmentSource, C: KeyedSegmentCache>(
             Some(fault) => Err(fault),
             None => {
                 let name = &file.source_id;
-                scan_layout(alloc, &mut file.source, name, cache, &layout, place, plan)
+                scan_opened(alloc, &mut file.source, name, cache, &layout, place, plan)
             }
         },
         OpenedFile::Skipped => Ok(FileRows {

@@ -1,6 +1,10 @@
 //! Openers of files. After the Rust's `scan::multi`.
 ghost use Rattle.std.specs.Prelude.{◌≡◌, None, Some};
-ghost use Rattle.scan_multi.specs.OpenerMemory.{opener_state};
+ghost use Rattle.scan_segments.specs.Faults.{one_more};
+ghost use Rattle.scan_segments.specs.MemorySource.{stepped};
+ghost use Rattle.scan_segments.specs.Outcomes.{outcome_of};
+ghost use Rattle.scan_multi.specs.Opener.{IsPolledOpen};
+ghost use Rattle.scan_multi.specs.OpenerMemory.{given_of, opener_state, IsAnswerBy, faults_after};
 
 use scan_layout::LayoutRef;
 use scan_segments::{Outcome, Script};
@@ -34,7 +38,8 @@ pub trait LayoutReaderFactory {
         ensures { IsPolledOpen (opener self.old) (opener self.new) result };
 }
 
-/// An opener that gives a layout that it was made with, or a skip. Its polls are numbered from 0.
+/// An opener that gives a layout that it was made with, or a skip. Its polls are numbered from 0, up to the greatest
+/// u64; one without a number neither fails nor is pending.
 #[derive(Drop)]
 pub struct MemoryOpener {
     pub gives: Option<LayoutRef>,
@@ -70,7 +75,17 @@ impl MemoryOpener {
 impl LayoutReaderFactory for MemoryOpener {
     ghost opener = { λ s. opener_state s.gives s.script s.faults s.polls };
 
-    fn poll_open(&mut self, alloc: Global) -> Opening {
+    fn poll_open(&mut self, alloc: Global) -> Opening
+        ensures polled { IsPolledOpen
+            (opener_state self.old.gives self.old.script self.old.faults self.old.polls)
+            (opener_state self.new.gives self.new.script self.new.faults self.new.polls) result }
+        ensures answer { IsAnswerBy (outcome_of self.old.script) (given_of self.old.gives) result }
+        ensures after { self.new ≡ record self.old {
+          script = stepped self.old.script;
+          polls = one_more self.old.polls;
+          faults = faults_after result self.old.faults;
+        } }
+    {
         self.polls = self.polls.saturating_add(1);
         match self.script.step() {
             Outcome::Fails => {

@@ -1,4 +1,4 @@
-use Rattle.std.proofs.Common.{◌≡◌, ◌++◌, ◌+◌, ◌*◌, ◌==◌, drop, map, true}
+use Rattle.std.proofs.Common.{◌≡◌, ◌++◌, ◌+◌, ◌*◌, ◌==◌, ◌≤◌, length, drop, map, true}
 use Rattle.scan_values.specs.DataType.{fields_of}
 use Rattle.scan_values.specs.Values.{val_of}
 use Rattle.scan_values.specs.Val.{vals_of, val_size, vals_size}
@@ -22,10 +22,12 @@ decreases-push_struct l = 4 * vals_size (vals_of (map val_of l.values.now)) + 3
 
 abbrev pub invariant-push_elements-loop-i : goal.invariant-push_elements-loop-i
 invariant-push_elements-loop-i l =
-    l.fn.out.items ++ elements_text true (vals_of (map val_of l.values)) l.element
-    ≡ l.out.items ++ elements_text (l.i == 0) (vals_of (map val_of (drop l.i l.values))) l.element
+    (l.fn.out.items ++ elements_text true (vals_of (map val_of l.values)) l.element
+    ≡ l.out.items ++ elements_text (l.i == 0) (vals_of (map val_of (drop l.i l.values))) l.element)
+    × (length l.fn.out.items ≤ length l.out.items)
 
 abbrev pub invariant-push_fields-loop-i : goal.invariant-push_fields-loop-i
 invariant-push_fields-loop-i l =
-    l.fn.out.items ++ fields_text true (vals_of (map val_of l.values)) (fields_of l.fields)
-    ≡ l.out.items ++ fields_text (l.i == 0) (vals_of (map val_of (drop l.i l.values))) (fields_of (drop l.i l.fields))
+    (l.fn.out.items ++ fields_text true (vals_of (map val_of l.values)) (fields_of l.fields)
+    ≡ l.out.items ++ fields_text (l.i == 0) (vals_of (map val_of (drop l.i l.values))) (fields_of (drop l.i l.fields)))
+    × (length l.fn.out.items ≤ length l.out.items)

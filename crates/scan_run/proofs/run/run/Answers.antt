@@ -1,6 +1,6 @@
 -- What a run has done at each of its ends: other words, the lines written, a write that failed, no memory, and an end before anything is written.
 use Rattle.std.proofs.Common.{Err, refl, sym, ap, ◌∙◌, inl, inr, arith}
-use Rattle.scan_run.proofs.Running.{end_done, end_words, end_refused, end_unbound, end_unreadable, end_io, end_below, ready_done, ready_front}
+use Rattle.scan_run.proofs.Running.{end_done, end_words, end_refused, end_unbound, end_unreadable, end_failing, end_io, end_below, ready_done, ready_front}
 use Rattle.scan_run.proofs.run.run.Goals as goal
 
 pub returns-then-not-is_scan-clause-done : goal.returns-then-not-is_scan-clause-done
@@ -167,3 +167,33 @@ returns-clause-front g c = inl refl
 
 pub returns-clause-statuses : goal.returns-clause-statuses
 returns-clause-statuses g c = end_below c.in-Err.status (g.I.Input.input c.args.input.now) (g.I.Input.input c.take_text.new.input) c.in-Err.ensures.end
+
+pub returns-then-not-is_scan-clause-failing : goal.returns-then-not-is_scan-clause-failing
+returns-then-not-is_scan-clause-failing g c = λ e. absurd (omega arith)
+
+pub returns-then-not-is_scan-clause-stops : goal.returns-then-not-is_scan-clause-stops
+returns-then-not-is_scan-clause-stops g c = omega arith
+
+pub returns-in-Ok-write_all-clause-failing : goal.returns-in-Ok-write_all-clause-failing
+returns-in-Ok-write_all-clause-failing g c = λ e. absurd (omega arith)
+
+pub returns-in-Ok-write_all-clause-stops : goal.returns-in-Ok-write_all-clause-stops
+returns-in-Ok-write_all-clause-stops g c = c.take_text.ensures.stops
+
+pub returns-in-Err-Failed-clause-failing : goal.returns-in-Err-Failed-clause-failing
+returns-in-Err-Failed-clause-failing g c = λ e. absurd (omega arith)
+
+pub returns-in-Err-Failed-clause-stops : goal.returns-in-Err-Failed-clause-stops
+returns-in-Err-Failed-clause-stops g c = c.take_text.ensures.stops
+
+pub returns-in-Ok-clause-failing : goal.returns-in-Ok-clause-failing
+returns-in-Ok-clause-failing g c = λ e. absurd (omega arith)
+
+pub returns-in-Ok-clause-stops : goal.returns-in-Ok-clause-stops
+returns-in-Ok-clause-stops g c = c.take_text.ensures.stops
+
+pub returns-clause-failing : goal.returns-clause-failing
+returns-clause-failing g c = end_failing c.in-Err.status (g.I.Input.input c.args.input.now) (g.I.Input.input c.take_text.new.input) c.in-Err.ensures.end
+
+pub returns-clause-stops : goal.returns-clause-stops
+returns-clause-stops g c = c.take_text.ensures.stops

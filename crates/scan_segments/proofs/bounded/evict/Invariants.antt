@@ -1,12 +1,13 @@
 use Rattle.std.proofs.Common.{◌≡◌, length}
 use Rattle.scan_segments.specs.Bounded.{weight, fitted}
+use Rattle.scan_segments.specs.UseOrder.{plain}
 use Rattle.scan_segments.proofs.bounded.evict.Given as goal
 
 abbrev pub invariant-loop-total : goal.invariant-loop-total
 invariant-loop-total l = record {
   cap : l.pairs.cap ≡ l.initial.pairs.cap;
-  weight : l.total ≡ weight l.pairs.entries;
-  fits : fitted l.capacity l.pairs.cap l.pairs.entries ≡ fitted l.capacity l.pairs.cap l.initial.pairs.entries;
+  weight : l.total ≡ weight (plain l.pairs.entries);
+  fits : fitted l.capacity l.max_entries (plain l.pairs.entries) ≡ fitted l.capacity l.max_entries (plain l.initial.pairs.entries);
 }
 
 abbrev pub decreases-loop-total : goal.decreases-loop-total

@@ -14,13 +14,13 @@ bit-requires c =
     (two_bools c.args.spelling c.args.kind c.args.rows (replicate c.args.rows 1) c.args.bytes.now vs c.in-Two-Bool.is-0 c.in-Two-Bool.is-1 c.requires.spelled)
     (length-replicate {A = ℕ} c.args.rows 1) c.requires.within
 
-pub bool_value-requires-clause-bit : goal.bool_value-requires-clause-bit
-bool_value-requires-clause-bit c = rw c.bit.ensures (bits_small c.args.bytes.now c.args.i)
+pub of_bits-requires-clause-bit : goal.of_bits-requires-clause-bit
+of_bits-requires-clause-bit c = rw c.bit.ensures (bits_small c.args.bytes.now c.args.i)
 
 pub returns-in-Two-Bool : goal.returns-in-Two-Bool
 returns-in-Two-Bool c =
     let vs : List Val = or_none (decode_slots c.args.spelling c.args.kind c.args.rows (replicate c.args.rows 1) c.args.bytes.now) in
-    c.bool_value.ensures ∙ ap (λ b. under_flag 1 (bool_of b)) c.bit.ensures
+    c.of_bits.ensures ∙ ap (λ b. under_flag 1 (bool_of b)) c.bit.ensures
     ∙ ap (λ f. under_flag f (bool_of (get_or (bits_of c.args.bytes.now) c.args.i 0))) (sym (get_or-replicate c.args.rows c.args.i 1 0 c.requires.within))
     ∙ bool_place c.args.rows (replicate c.args.rows 1) c.args.bytes.now vs c.args.i
     (two_bools c.args.spelling c.args.kind c.args.rows (replicate c.args.rows 1) c.args.bytes.now vs c.in-Two-Bool.is-0 c.in-Two-Bool.is-1 c.requires.spelled)

@@ -1,7 +1,6 @@
-use Rattle.std.proofs.Common.{◌≡◌, List, ap, subst, slice_get, IfOk, Some}
+use Rattle.std.proofs.Common.{◌≡◌, ◌∙◌, List, ap, slice_get, Some}
 use Rattle.scan_values.specs.declared.dtype.DTypeKind.{DTypeKind}
 use Rattle.scan_values.specs.Val.{Val}
-use Rattle.scan_values.specs.Values.{val_of}
 use Rattle.scan_layout.specs.Spelling.{decode_under}
 use Rattle.scan_layout.specs.LeafColumns.{or_none, spelled}
 use Rattle.scan_layout.proofs.BitColumns.{still}
@@ -21,4 +20,4 @@ pub returns : goal.returns
 returns c =
     let vs : List Val = spelled c.args.spelling c.args.dtype.now c.args.rows c.args.bytes.now in
     let read : decode_under c.args.spelling c.nullability.result DTypeKind.Utf8 c.args.rows c.args.bytes.now ≡ Some vs = rw c.nullability.ensures (text_read c.args.spelling c.args.dtype.now c.args.rows c.args.bytes.now c.requires.spelled c.requires.text) in
-    subst (λ us. IfOk c.text_under.result (λ v. Some (val_of v) ≡ slice_get us c.args.i)) (ap or_none read) c.text_under.ensures
+    c.text_under.ensures ∙ ap (λ us. slice_get us c.args.i) (ap or_none read)

@@ -1,6 +1,5 @@
-use Rattle.std.proofs.Common.{◌≡◌, ◌<◌, ℕ, List, subst, sym, length, IfOk, Some, get_or, is_some, true, slice_get}
+use Rattle.std.proofs.Common.{◌≡◌, ◌<◌, ℕ, List, ◌∙◌, ap, subst, sym, length, get_or, is_some, true}
 use Rattle.scan_values.specs.Val.{Val}
-use Rattle.scan_values.specs.Values.{val_of}
 use Rattle.scan_values.specs.declared.dtype.DTypeKind.TheVariants as kinds
 use Rattle.scan_layout.specs.Spelling.{cells, under_flag, content}
 use Rattle.scan_layout.specs.LeafColumns.{or_none}
@@ -45,7 +44,6 @@ returns c =
     let fs : List ℕ = row_flags c.args.spelling c.args.nullability c.args.rows c.args.flags.now in
     let vs : List Val = or_none (cells kinds.Utf8 fs c.args.bytes.now) in
     let low : c.args.i < length fs = rw (flags_length c.args.spelling c.args.nullability c.args.rows c.args.flags.now c.requires.flags) c.requires.within in
-    subst (λ o. IfOk c.text_value.result (λ v. Some (val_of v) ≡ o))
-    (subst (λ s. under_flag (get_or fs c.args.i 0) (content kinds.Utf8 s) ≡ slice_get vs c.args.i) (sym c.text_at.ensures)
-    (row_place fs c.args.bytes.now vs c.args.ends.now c.args.i c.requires.spelled c.requires.ends low))
-    (subst (λ f. IfOk c.text_value.result (λ v. Some (val_of v) ≡ under_flag f (content kinds.Utf8 c.text_at.result.now))) c.flag_of-flag.ensures c.text_value.ensures)
+    c.text_value.ensures ∙ ap (λ f. under_flag f (content kinds.Utf8 c.text_at.result.now)) c.flag_of-flag.ensures
+    ∙ ap (λ s. under_flag (get_or fs c.args.i 0) (content kinds.Utf8 s)) c.text_at.ensures
+    ∙ row_place fs c.args.bytes.now vs c.args.ends.now c.args.i c.requires.spelled c.requires.ends low

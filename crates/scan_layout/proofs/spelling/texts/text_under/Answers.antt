@@ -1,6 +1,5 @@
-use Rattle.std.proofs.Common.{◌≡◌, List, ap, subst, IfOk, Some, slice_get}
+use Rattle.std.proofs.Common.{◌≡◌, ◌∙◌, List, ap, Some, slice_get}
 use Rattle.scan_values.specs.Val.{Val}
-use Rattle.scan_values.specs.Values.{val_of}
 use Rattle.scan_values.specs.declared.dtype.DTypeKind.TheVariants as kinds
 use Rattle.scan_layout.specs.Spelling.{cells, decode_under}
 use Rattle.scan_layout.specs.LeafColumns.{or_none}
@@ -30,4 +29,4 @@ returns c =
     let vs : List Val = or_none (decode_under c.args.spelling c.args.nullability kinds.Utf8 c.args.rows c.args.bytes.now) in
     let parts = text_parts c.args.spelling c.args.nullability c.args.rows c.args.bytes.now vs c.requires.spelled in
     let read : cells kinds.Utf8 (row_flags c.args.spelling c.args.nullability c.args.rows c.split_at.result.0.now) c.split_at.result.1.now ≡ Some vs = rw (c.split_at.ensures.front, c.split_at.ensures.back, c.flag_bytes.ensures) parts.1 in
-    subst (λ us. IfOk c.text_row.result (λ v. Some (val_of v) ≡ slice_get us c.args.i)) (ap or_none read) c.text_row.ensures
+    c.text_row.ensures ∙ ap (λ us. slice_get us c.args.i) (ap or_none read)

@@ -23,46 +23,46 @@ returns-in-Some-clause-named g c =
     let h : IsChecked c.args.place c.args.plan.now.projection.scope c.in-Layout.layout.value (Some c.in-Some.fault) = subst (λ z. IsChecked c.args.place z c.in-Layout.layout.value (Some c.in-Some.fault)) c.scope.ensures (subst (λ z. IsChecked c.args.place c.scope.result.now z (Some c.in-Some.fault)) c.deref.ensures c.in-Some.ensures) in
     fault-names c.args.plan.now.projection.scope c.in-Layout.layout.value c.args.place c.in-Some.fault h
 
-pub scan_layout-requires-clause-idle : goal.scan_layout-requires-clause-idle
-scan_layout-requires-clause-idle g c =
+pub scan_opened-requires-clause-idle : goal.scan_opened-requires-clause-idle
+scan_opened-requires-clause-idle g c =
     c.requires.idle
 
-pub scan_layout-requires-clause-plan : goal.scan_layout-requires-clause-plan
-scan_layout-requires-clause-plan g c =
+pub scan_opened-requires-clause-plan : goal.scan_opened-requires-clause-plan
+scan_opened-requires-clause-plan g c =
     c.requires.plan
 
-pub scan_layout-requires-clause-form : goal.scan_layout-requires-clause-form
-scan_layout-requires-clause-form g c =
+pub scan_opened-requires-clause-form : goal.scan_opened-requires-clause-form
+scan_opened-requires-clause-form g c =
     let form : first_fault c.in-Layout.layout.value c.args.plan.now.projection.scope ≡ None = rw (c.deref.ensures, c.scope.ensures) at c.in-None.ensures in
     rw c.deref-in-None.ensures form
 
 pub returns-in-Layout-clause-moves : goal.returns-in-Layout-clause-moves
 returns-in-Layout-clause-moves g c =
     let form : first_fault c.in-Layout.layout.value c.args.plan.now.projection.scope ≡ None = rw (c.deref.ensures, c.scope.ensures) at c.in-None.ensures in
-    layout_moves g.O.LayoutReaderFactory.opener g.S.SegmentSource.state c.args.plan.now.projection.scope c.args.plan.now.request.now c.args.plan.now.projection c.args.plan.now.places.items c.args.plan.now.chosen.items c.requires.plan c.args.file.now _ _ c.in-Layout.layout.value c.args.file.now.source_id (g.C.KeyedSegmentCache.cache c.args.cache.now) (g.C.KeyedSegmentCache.cache c.scan_layout.new.cache) c.in-Layout.ensures.0 c.in-Layout.ensures.1 form c.requires.idle (rw c.deref-in-None.ensures at c.scan_layout.ensures.fetches)
+    layout_moves g.O.LayoutReaderFactory.opener g.S.SegmentSource.state c.args.plan.now.projection.scope c.args.plan.now.request.now c.args.plan.now.projection c.args.plan.now.places.items c.args.plan.now.chosen.items c.requires.plan c.args.file.now _ _ c.in-Layout.layout.value c.args.file.now.source_id (g.C.KeyedSegmentCache.cache c.args.cache.now) (g.C.KeyedSegmentCache.cache c.scan_opened.new.cache) c.in-Layout.ensures.0 c.in-Layout.ensures.1 form c.requires.idle (rw c.deref-in-None.ensures at c.scan_opened.ensures.fetches)
 
 pub returns-in-Layout-clause-read : goal.returns-in-Layout-clause-read
 returns-in-Layout-clause-read g c =
     let form : first_fault c.in-Layout.layout.value c.args.plan.now.projection.scope ≡ None = rw (c.deref.ensures, c.scope.ensures) at c.in-None.ensures in
-    ok_always c.scan_layout.result (IfSome (g.O.LayoutReaderFactory.opener c.args.file.now.opener).gives (IsSkippedOrRead c.args.plan.now.projection.scope)) (read-layout c.args.plan.now.projection.scope (g.O.LayoutReaderFactory.opener c.args.file.now.opener).gives c.in-Layout.layout.value c.in-Layout.ensures.1 form)
+    ok_always c.scan_opened.result (IfSome (g.O.LayoutReaderFactory.opener c.args.file.now.opener).gives (IsSkippedOrRead c.args.plan.now.projection.scope)) (read-layout c.args.plan.now.projection.scope (g.O.LayoutReaderFactory.opener c.args.file.now.opener).gives c.in-Layout.layout.value c.in-Layout.ensures.1 form)
 
 pub returns-in-Layout-clause-ok : goal.returns-in-Layout-clause-ok
 returns-in-Layout-clause-ok g c =
     let form : first_fault c.in-Layout.layout.value c.args.plan.now.projection.scope ≡ None = rw (c.deref.ensures, c.scope.ensures) at c.in-None.ensures in
-    IfOk-weaker c.scan_layout.result _ _ (λ r h told trust. layout_given g.O.LayoutReaderFactory.opener g.S.SegmentSource.state c.args.plan.now.projection.scope c.args.plan.now.request.now c.args.plan.now.projection c.args.plan.now.places.items c.args.plan.now.chosen.items c.requires.plan c.args.file.now c.in-Layout.layout.value c.args.place r.chunk c.in-Layout.ensures.1 form (h trust) told) (rw c.deref-in-None.ensures at c.scan_layout.ensures.ok)
+    IfOk-weaker c.scan_opened.result _ _ (λ r h told trust. layout_given g.O.LayoutReaderFactory.opener g.S.SegmentSource.state c.args.plan.now.projection.scope c.args.plan.now.request.now c.args.plan.now.projection c.args.plan.now.places.items c.args.plan.now.chosen.items c.requires.plan c.args.file.now c.in-Layout.layout.value c.args.place r.chunk c.in-Layout.ensures.1 form (h trust) told) (rw c.deref-in-None.ensures at c.scan_opened.ensures.ok)
 
 pub returns-in-Layout-clause-chunks : goal.returns-in-Layout-clause-chunks
 returns-in-Layout-clause-chunks g c =
-    c.scan_layout.ensures.chunks
+    c.scan_opened.ensures.chunks
 
 pub returns-in-Layout-clause-cause : goal.returns-in-Layout-clause-cause
 returns-in-Layout-clause-cause g c =
     let form : first_fault c.in-Layout.layout.value c.args.plan.now.projection.scope ≡ None = rw (c.deref.ensures, c.scope.ensures) at c.in-None.ensures in
-    IfErr-weaker c.scan_layout.result _ _ (λ e h. layout_cause g.O.LayoutReaderFactory.opener g.S.SegmentSource.state c.args.plan.now.projection.scope c.args.plan.now.request.now c.args.plan.now.projection c.args.plan.now.places.items c.args.plan.now.chosen.items c.requires.plan (g.C.KeyedSegmentCache.cache c.args.cache.now) c.args.file.now _ _ c.in-Layout.layout.value c.args.place e c.in-Layout.ensures.1 form h) (rw c.deref-in-None.ensures at c.scan_layout.ensures.err)
+    IfErr-weaker c.scan_opened.result _ _ (λ e h. layout_cause g.O.LayoutReaderFactory.opener g.S.SegmentSource.state c.args.plan.now.projection.scope c.args.plan.now.request.now c.args.plan.now.projection c.args.plan.now.places.items c.args.plan.now.chosen.items c.requires.plan (g.C.KeyedSegmentCache.cache c.args.cache.now) c.args.file.now _ _ c.in-Layout.layout.value c.args.place e c.in-Layout.ensures.1 form h) (rw c.deref-in-None.ensures at c.scan_opened.ensures.err)
 
 pub returns-in-Layout-clause-named : goal.returns-in-Layout-clause-named
 returns-in-Layout-clause-named g c =
-    IfErr-weaker c.scan_layout.result _ _ (λ e h. layout_names c.args.place c.args.file.now.source_id _ _ _ _ e h) c.scan_layout.ensures.err
+    IfErr-weaker c.scan_opened.result _ _ (λ e h. layout_names c.args.place c.args.file.now.source_id _ _ _ _ e h) c.scan_opened.ensures.err
 
 pub returns-in-Skipped-clause-moves : goal.returns-in-Skipped-clause-moves
 returns-in-Skipped-clause-moves g c =
@@ -86,7 +86,7 @@ returns-in-Failed-clause-moves g c =
 
 pub returns-in-Failed-clause-cause : goal.returns-in-Failed-clause-cause
 returns-in-Failed-clause-cause g c =
-    c.in-Failed.ensures.1
+    (c.in-Failed.ensures.1, c.in-Failed.ensures.2)
 
 pub returns-in-Failed-clause-named : goal.returns-in-Failed-clause-named
 returns-in-Failed-clause-named g c =
@@ -109,10 +109,10 @@ pub returns-clause-fetches : goal.returns-clause-fetches
 returns-clause-fetches g c = record { wants = []; fetches = fetches_nothing c.args.file.now.source_id [] (g.C.KeyedSegmentCache.cache c.args.cache.now) (g.S.SegmentSource.state c.args.file.now.source) c.requires.idle }
 
 pub returns-in-Layout-clause-fetches : goal.returns-in-Layout-clause-fetches
-returns-in-Layout-clause-fetches g c = record { wants = _; fetches = c.scan_layout.ensures.fetches }
+returns-in-Layout-clause-fetches g c = record { wants = _; fetches = c.scan_opened.ensures.fetches }
 
 pub returns-in-Layout-clause-counts : goal.returns-in-Layout-clause-counts
-returns-in-Layout-clause-counts g c = c.scan_layout.ensures.counts
+returns-in-Layout-clause-counts g c = c.scan_opened.ensures.counts
 
 pub returns-in-Skipped-clause-counts : goal.returns-in-Skipped-clause-counts
 returns-in-Skipped-clause-counts g c = counts_nothing c.args.file.now.source_id (g.C.KeyedSegmentCache.cache c.args.cache.now) (g.S.SegmentSource.state c.args.file.now.source) c.default.result c.requires.idle c.default.ensures

@@ -1,0 +1,10 @@
+pub mod Rising
+pub mod Inboxes
+pub mod Wanting
+pub mod Grids
+pub mod Runs
+pub mod Pushing
+pub mod Inside
+pub mod Numbers
+pub mod Mapping
+pub mod Registered

@@ -1,0 +1,358 @@
+#!/usr/bin/env python3
+"""Holds manifests against the schemas in docs/, and the schemas and the examples against the program.
+
+  check.py FILE..      says where each manifest leaves the form, or what is served so far
+  check.py             the examples in cases/ against the schemas and against statuses.txt, and the schema of the
+                       form against the tests of the manifest's reader (crates/scan_vectors/src/manifest.rt)
+  check.py --run       the same, and the program on each example: its status and its lines
+  check.py --variants  the program on some hundred manifests that are made wrong in one place:
+                       it has status 2 exactly where a schema refuses
+
+The last two build the program once by `rt try`, in about a minute. Needs python3.8 alone.
+"""
+import json
+import re
+import subprocess
+import sys
+import tempfile
+from pathlib import Path
+
+HERE = Path(__file__).resolve().parent
+DOCS = HERE.parent / "docs"
+FORM = json.loads((DOCS / "manifest.schema.json").read_text())
+SERVED = json.loads((DOCS / "served.schema.json").read_text())
+
+
+# ---- JSON as the program reads it
+
+def no_number(text):
+    raise ValueError(f"{text}: a number has no fraction and no exponent")
+
+
+def whole(text):
+    if text == "-0" or not -2**63 <= int(text) < 2**64:
+        raise ValueError(f"{text} is no number of the form")
+    return int(text)
+
+
+def read(data):
+    return json.loads(data.decode("utf-8"), parse_int=whole, parse_float=no_number, parse_constant=no_number)
+
+
+# ---- a validator for the words that the two schemas use: the first place that does not fit, or None
+
+KINDS = {
+    "null": lambda v: v is None,
+    "boolean": lambda v: isinstance(v, bool),
+    "integer": lambda v: isinstance(v, int) and not isinstance(v, bool),
+    "string": lambda v: isinstance(v, str),
+    "array": lambda v: isinstance(v, list),
+    "object": lambda v: isinstance(v, dict),
+}
+
+
+def same(a, b):
+    return type(a) is type(b) and a == b
+
+
+def fault(schema, value, root, place="$"):
+    """(place, why) of the first fault."""
+    if schema is True:
+        return None
+    if schema is False:
+        return place, "is not allowed here"
+    for word, arg in schema.items():
+        found = WORDS[word](arg, value, root, place, schema) if word in WORDS else None
+        if found:
+            return found
+    return None
+
+
+def check_ref(ref, value, root, place, _):
+    schema = root
+    for part in ref.lstrip("#/").split("/"):
+        schema = schema[part]
+    return fault(schema, value, root, place)
+
+
+def check_type(kinds, value, root, place, _):
+    kinds = kinds if isinstance(kinds, list) else [kinds]
+    return None if any(KINDS[k](value) for k in kinds) else (place, f"is no {' or '.join(kinds)}")
+
+
+def check_any(branches, value, root, place, _):
+    faults = [fault(b, value, root, place) for b in branches]
+    if None in faults:
+        return None
+    return max(faults, key=lambda f: len(f[0]))  # the branch that went furthest
+
+
+def check_items(schema, value, root, place, around):
+    if not isinstance(value, list):
+        return None
+    for i in range(len(around.get("prefixItems", [])), len(value)):
+        found = fault(schema, value[i], root, f"{place}[{i}]")
+        if found:
+            return found
+    return None
+
+
+def check_prefix(schemas, value, root, place, _):
+    if not isinstance(value, list):
+        return None
+    for i, (schema, item) in enumerate(zip(schemas, value)):
+        found = fault(schema, item, root, f"{place}[{i}]")
+        if found:
+            return found
+    return None
+
+
+def check_properties(schemas, value, root, place, _):
+    if not isinstance(value, dict):
+        return None
+    for key, item in value.items():
+        found = fault(schemas[key], item, root, f"{place}.{key}") if key in schemas else None
+        if found:
+            return found
+    return None
+
+
+def check_additional(allowed, value, root, place, around):
+    assert allowed is False
+    more = [k for k in value if k not in around["properties"]] if isinstance(value, dict) else []
+    return (f"{place}.{more[0]}", "is no key of this form") if more else None
+
+
+def check_required(keys, value, root, place, _):
+    missing = [k for k in keys if k not in value] if isinstance(value, dict) else []
+    return (place, f"lacks {json.dumps(missing[0])}") if missing else None
+
+
+def check_unique(wanted, value, root, place, _):
+    twice = isinstance(value, list) and len({json.dumps(v) for v in value}) < len(value)
+    return (place, "has an item twice") if wanted and twice else None
+
+
+def on(kind, test, why):
+    return lambda arg, value, root, place, _: (place, why(arg)) if KINDS[kind](value) and not test(arg, value) else None
+
+
+WORDS = {
+    "$ref": check_ref,
+    "type": check_type,
+    "anyOf": check_any,
+    "not": lambda s, v, root, place, _: None if fault(s, v, root, place) else (place, f"has what excludes each other: {s}"),
+    "const": lambda c, v, root, place, _: None if same(c, v) else (place, f"is not {json.dumps(c)}"),
+    "enum": lambda cs, v, root, place, _: None if any(same(c, v) for c in cs) else (place, f"is none of {cs}"),
+    "items": check_items,
+    "prefixItems": check_prefix,
+    "uniqueItems": check_unique,
+    "properties": check_properties,
+    "additionalProperties": check_additional,
+    "required": check_required,
+    "minItems": on("array", lambda n, v: len(v) >= n, lambda n: f"has fewer items than {n}"),
+    "maxItems": on("array", lambda n, v: len(v) <= n, lambda n: f"has more items than {n}"),
+    "minProperties": on("object", lambda n, v: len(v) >= n, lambda n: f"has fewer keys than {n}"),
+    "maxProperties": on("object", lambda n, v: len(v) <= n, lambda n: f"has more keys than {n}"),
+    "minimum": on("integer", lambda n, v: v >= n, lambda n: f"is below {n}"),
+    "maximum": on("integer", lambda n, v: v <= n, lambda n: f"is above {n}"),
+    "pattern": on("string", lambda p, v: re.fullmatch(p.strip("^$"), v), lambda p: f"does not match {p}"),
+}
+PLAIN = {"$schema", "$defs", "title", "description"}
+
+
+def unknown_words(schema):
+    """Words of a schema that this validator does not know."""
+    if isinstance(schema, list):
+        return [w for s in schema for w in unknown_words(s)]
+    if not isinstance(schema, dict):
+        return []
+    found = [w for w in schema if w not in WORDS and w not in PLAIN]
+    for word, arg in schema.items():
+        if word in ("properties", "$defs"):
+            found += unknown_words(list(arg.values()))
+        elif word not in ("enum", "const"):
+            found += unknown_words(arg)
+    return found
+
+
+# ---- what a schema can't say
+
+def depth(dtype):
+    if isinstance(dtype, str):
+        return 1
+    inner = [dtype["list"]] if "list" in dtype else [d for _, d in dtype["struct"]]
+    return 1 + max(map(depth, inner), default=0)
+
+
+def walk(value, place="$"):
+    yield value, place
+    items = value.items() if isinstance(value, dict) else enumerate(value) if isinstance(value, list) else ()
+    for key, item in items:
+        yield from walk(item, f"{place}.{key}" if isinstance(value, dict) else f"{place}[{key}]")
+
+
+def beyond(manifest):
+    for value, place in walk(manifest):
+        if re.search(r"\.(fail|pending|include|exclude)$", place) and all(KINDS["integer"](v) for v in value):
+            if value != sorted(set(value)):
+                return place, "does not rise"
+        if re.search(r"\.(dtype|type)$", place) and depth(value) > 66:
+            return place, "is a dtype deeper than 66"
+    segments = {}
+    for i, file in enumerate(manifest["files"]):
+        own = {id: bytes.fromhex(text) for id, text in file["segments"]}
+        if len(own) < len(file["segments"]):
+            return f"$.files[{i}].segments", "has an id twice"
+        if segments.setdefault(file["id"], own) != own:
+            return f"$.files[{i}].segments", "differs from that of a file of the same id"
+    return None
+
+
+def form_fault(data):
+    """Why these bytes are no manifest, or None."""
+    try:
+        manifest = read(data)
+    except (ValueError, RecursionError) as e:
+        return f"no JSON: {e}"
+    at = fault(FORM, manifest, FORM) or beyond(manifest)
+    return at and f"no manifest: {at[0]} {at[1]}"
+
+
+def judge(data):
+    """Why these bytes are refused by status 2, or None."""
+    why = form_fault(data)
+    at = None if why else fault(SERVED, read(data), SERVED)
+    return why or at and f"not served: {at[0]} {at[1]}"
+
+
+# ---- against what the tests of the manifest's reader say of it
+
+READER = HERE.parent / "crates" / "scan_vectors" / "src" / "manifest.rt"
+ONE = '{"dtype":%s,"files":[{"id":"A","layout":%s,"segments":[]}],"request":{"projection":%s}}'
+BOOL, ROOT, NO_LEAVES = '"bool"', '"$"', '{"leaf":[],"rows":0}'
+
+
+def reader_rows():
+    """Texts of whole manifests, and whether the reader takes each."""
+    for test in READER.read_text().split("#[test]")[1:]:
+        name = re.search(r"fn (\w+)_are_read", test).group(1)
+        for _, raw, plain, taken in re.findall(r'\(\s*(?:r(#+)"(.*?)"\1|"(.*?)"),\s*(true|false),?\s*\)', test, re.S):
+            text = raw or plain
+            whole = {
+                "dtypes": ONE % (text, NO_LEAVES, ROOT),
+                "layouts": ONE % (BOOL, text, ROOT),
+                "expressions": ONE % (BOOL, NO_LEAVES, text),
+            }
+            yield whole.get(name, text), taken == "true"
+
+
+# ---- against jsonschema, where it is installed
+
+def agrees_with_jsonschema(data):
+    try:
+        from jsonschema import Draft202012Validator
+        manifest = read(data)
+    except (ImportError, ValueError):
+        return True
+    for schema in (FORM, SERVED):
+        Draft202012Validator.check_schema(schema)
+        if Draft202012Validator(schema).is_valid(manifest) != (fault(schema, manifest, schema) is None):
+            return False
+    return True
+
+
+# ---- the program
+
+def run(folder):
+    """The status of each case of a folder, and whether all lines are the wanted ones."""
+    words = ["rt", "try", "--cases", str(folder), "--", "scan"]
+    crate = HERE.parent / "crates" / "siblaguur"
+    done = subprocess.run(words, cwd=crate, stdout=subprocess.PIPE, stderr=subprocess.STDOUT, text=True)
+    statuses = dict(re.findall(r"^case=(\S+) run=ended status=(\d+)", done.stdout, re.M))
+    if not statuses or done.returncode:
+        print(done.stdout)
+    return {name: int(status) for name, status in statuses.items()}, done.returncode == 0
+
+
+def changed(value):
+    """A value with one part taken away, replaced or added, each in turn."""
+    for other in (None, 0, 2, -1, 2**64, "x", "$", "i32?", "00", [], {}, [0], True):
+        if not same(other, value):
+            yield other
+    if isinstance(value, dict):
+        yield {**value, "more": 1}
+        for key in value:
+            yield {k: v for k, v in value.items() if k != key}
+            for item in changed(value[key]):
+                yield {**value, key: item}
+    if isinstance(value, list):
+        yield value + [1]
+        for i in range(len(value)):
+            yield value[:i] + value[i + 1:]
+            for item in changed(value[i]):
+                yield value[:i] + [item] + value[i + 1:]
+
+
+def variants(most):
+    """Evenly many of all changes of each example that is a manifest."""
+    found = {}
+    for path in manifests():
+        try:
+            base = read(path.read_bytes())
+        except ValueError:
+            continue
+        for manifest in changed(base):
+            found.setdefault(json.dumps(manifest), None)
+    texts = list(found)
+    return [t.encode() for t in texts[::max(1, len(texts) // most)]]
+
+
+def manifests():
+    return sorted(p for p in (HERE / "cases").iterdir() if not p.suffix)
+
+
+def main(words):
+    bad = []
+    unknown = unknown_words(FORM) + unknown_words(SERVED)
+    if unknown:
+        bad.append(f"schemas use words that are not known here: {unknown}")
+    if words and not words[0].startswith("--"):
+        for word in words:
+            print(f"{word}: {judge(Path(word).read_bytes()) or 'a manifest that is served'}")
+        return 0
+    lines = (HERE / "statuses.txt").read_text().splitlines()
+    wanted = {line.split()[0]: int(line.split()[1]) for line in lines if line and line[0] != "#"}
+    for path in manifests():
+        data, status = path.read_bytes(), wanted.get(path.name)
+        why = judge(data)
+        if status is None or (why is not None) != (status == 2):
+            bad.append(f"{path.name}: wanted status {status}, and the schemas say: {why}")
+        if not agrees_with_jsonschema(data):
+            bad.append(f"{path.name}: jsonschema judges otherwise")
+    rows = list(reader_rows())
+    bad += [f"the reader's tests say {taken} of: {text}" for text, taken in rows if (form_fault(text.encode()) is None) != taken]
+    bad += [f"jsonschema judges otherwise: {text}" for text, _ in rows if not agrees_with_jsonschema(text.encode())]
+    if set(wanted) != {p.name for p in manifests()}:
+        bad.append("statuses.txt and cases/ name different examples")
+    if "--run" in words:
+        statuses, right = run(HERE / "cases")
+        bad += [] if right else ["the program wrote other lines"]
+        bad += [f"{n}: wanted status {wanted[n]}, found {statuses.get(n)}" for n in wanted if statuses.get(n) != wanted[n]]
+    if "--variants" in words:
+        with tempfile.TemporaryDirectory() as folder:
+            texts = variants(400)
+            for i, text in enumerate(texts):
+                (Path(folder) / f"v{i}").write_bytes(text)
+            statuses, _ = run(folder)
+            for i, text in enumerate(texts):
+                why, status = judge(text), statuses.get(f"v{i}")
+                if (why is not None) != (status == 2) or not agrees_with_jsonschema(text):
+                    bad.append(f"status {status}, and the schemas say: {why}: {text.decode()}")
+            print(f"{len(texts)} variants, {sum(s == 2 for s in statuses.values())} of them refused by status 2")
+    print("\n".join(bad) or f"{len(wanted)} examples and {len(rows)} texts of the reader's tests agree")
+    return 1 if bad else 0
+
+
+if __name__ == "__main__":
+    sys.exit(main(sys.argv[1:]))
