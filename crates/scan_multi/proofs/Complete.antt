@@ -19,7 +19,7 @@ use Rattle.scan_multi.specs.Places.{HasBad}
 use Rattle.scan_multi.specs.Traffic.{Trusts}
 use Rattle.scan_multi.specs.Served.{is_built, of_bind, early_fault, first_request_fault}
 use Rattle.scan_multi.specs.Causes.{IfTold, IsOfOtherType, IsIllFormed, told, told_file, IsLawful, HasCause}
-use Rattle.scan_multi.specs.Valid.{IsGood, IsSound, NeverOverflows, IsValid, NoneRose}
+use Rattle.scan_multi.specs.Valid.{IsGood, IsSound, NeverOverflows, IsValid, NoneFailed}
 use Rattle.scan_multi.specs.declared.scan.files.ScanFile.{ScanFile}
 use Rattle.scan_multi.specs.declared.scan.files.ScanFault.{ScanFault}
 use Rattle.scan_multi.specs.declared.scan.files.ScanFault.TheVariants as fault
@@ -73,7 +73,7 @@ module _ {O S : Type 0} (opener : O → OpenerState) (source : S → SourceState
   told-at : (P : ToldFile → Type 0) → All P (told opener source old) → (k : ℕ) (f : ScanFile O S) → k < length old → P (told_file opener source (get_or old k f))
   told-at P h k f lt = subst P (get_or-map (told_file opener source) old k f (told_file opener source f) lt) (h k (told_file opener source f) (rw length-map lt))
 
-  pub complete : (e : ScanFault) → HasCause opener source workers d q cache old new e → is_built workers (length old) d q ≡ true → IsLawful opener source old cache → IsValid workers d q (told opener source old) → NoneRose opener source old new → e ≡ fault.NoMemory
+  pub complete : (e : ScanFault) → HasCause opener source workers d q cache old new e → is_built workers (length old) d q ≡ true → IsLawful opener source old cache → IsValid workers d q (told opener source old) → NoneFailed opener source old new → e ≡ fault.NoMemory
   complete e h b lawful valid none = go e h where
     early : early_fault workers (length old) d q ≡ None
     early = typed-early workers (length old) d q b (typed workers (length old) d q b valid.no_fault)
@@ -85,7 +85,7 @@ module _ {O S : Type 0} (opener : O → OpenerState) (source : S → SourceState
     go fault.NoMemory h = refl
     go (fault.Bind f) h = let never : ◌≡◌ {A = Option ScanFault} None (Some (fault.Bind f)) = sym early ∙ h in cc
     go fault.NotBuilt h = let never : ◌≡◌ {A = Option ScanFault} None (Some fault.NotBuilt) = sym early ∙ h in cc
-    go (fault.Opener place) at = absurd (some old _ at.there (λ f. (none place f at.there).0 (at.cause f).0))
+    go (fault.Opener place) at = absurd (some old _ at.there (λ f. (none place f at.there).0 (at.cause f)))
     go (fault.Source place id) at = absurd (some old _ at.there (λ f. (none place f at.there).1 ((at.cause f).0)))
     go (fault.Corrupt place id) at =
         absurd (some old _ at.there (λ f. whole d q (opener (get_or old place f).opener).gives (source (get_or old place f).source).holds id (lawful.tells place f at.there).gives (lawful.tells place f at.there).holds ((at.cause f).0 (trusts place f at.there)) (told-at (IsSound d q) valid.sound place f at.there)))

@@ -5,7 +5,6 @@ use Rattle.std.specs.List.{slice_index_or}
 use Rattle.std.proofs.lemmas.List.Elements.{All-weaker}
 use Rattle.std.proofs.lemmas.Bool.Decides.{nat_tests}
 use Rattle.std.proofs.Math.Nat.{le_refl}
-use Rattle.scan_segments.specs.Faults.{Rose}
 use Rattle.scan_segments.specs.Source.{SourceState, Store, none_live}
 use Rattle.scan_segments.specs.Cache.{Entries, CacheState, Loses, Both}
 use Rattle.scan_segments.specs.Events.{missed_keys, found_keys, offered_keys, times, puts_follow_misses}
@@ -15,7 +14,7 @@ use Rattle.scan_segments.specs.declared.cache.CacheEvent.TheVariants.{Offered}
 use Rattle.scan_segments.specs.declared.segment.SegmentKey.{SegmentKey}
 use Rattle.scan_segments.proofs.Agrees.{contains}
 use Rattle.scan_multi.specs.Traffic.{key_of, IsKept, Trusts, Grows}
-use Rattle.scan_multi.specs.Fetch.{Asks, IsFed, Feeds, Fetches, store_of, held_among, PutsWhatCame, IsFetched, FaultCause, IsFetchFault}
+use Rattle.scan_multi.specs.Fetch.{Asks, IsFed, Feeds, Fetches, store_of, held_among, PutsWhatCame, IsFetched, SourceFailed, FaultCause, IsFetchFault}
 use Rattle.scan_multi.specs.declared.scan.fetch.Fetched.{Fetched}
 use Rattle.scan_multi.specs.declared.scan.fetch.FetchFault.{FetchFault}
 use Rattle.scan_multi.specs.declared.scan.fetch.FetchFault.TheVariants as fault
@@ -89,6 +88,7 @@ module _ (name wants : List ℕ) (c d e : Cache) (s t u v : SourceState) (held :
     live = asks.live;
     faults = let a = asks.faults in let b = r.asks.faults in let x = h.asks.faults in omega arith;
     turns = let a = asks.turns in let b = r.asks.turns in let x = h.asks.turns in omega arith;
+    can_fail = asks.can_fail ∙ r.asks.can_fail ∙ h.asks.can_fail;
   }
 
   pub among-all : All (Contains wants) ids
@@ -128,10 +128,11 @@ module _ (name wants : List ℕ) (c d e : Cache) (s t u v : SourceState) (held :
     cause : (x : FetchFault) → IsReceiptFault held t u x → FaultCause ids s v x
     cause fault.NoMemory p = tt
     cause (fault.Source id) p =
-        let rose = p.0 in
+        let rose = p.0.0 in
         let a = h.asks.faults in
         let b = asks.faults in
-        (let k : Rose s.faults v.faults = omega arith in k, contains id ids (h.all_asked id ∙ p.1))
+        let failed : SourceFailed s v = (omega arith, sym h.asks.can_fail ∙ p.0.1) in
+        (failed, contains id ids (h.all_asked id ∙ p.1))
 
 -- ---- on success
 come-all : (o : Option Store) (held : List Want) (before now : Came) (wants : List ℕ) → IfSome o (λ store. IsSound store before) → IfSome o (λ store. IsSound store before → TellsMore store held [] before now) → All (λ id. (has id (ids_of held) ≡ true) ⊎ IfSome o (λ store. store_of before id ≡ store id)) wants → IfSome o (λ store. All (λ id. store_of now id ≡ store id) wants)
@@ -197,7 +198,7 @@ failed-early name wants c d s t held table h after asks = fetch-fault name wants
 
 -- no want was looked up
 pub not-begun : (name wants : List ℕ) (c : Cache) (s : SourceState) → s.live ≡ none_live → IsFetchFault name wants c c s s fault.NoMemory
-not-begun name wants c s idle = failed-early name wants c c s s [] [] (none-held name wants c s [] refl) s (record { holds = refl; asked = sym (append-nil s.asked); live = idle; faults = le_refl s.faults; turns = le_refl s.turns })
+not-begun name wants c s idle = failed-early name wants c c s s [] [] (none-held name wants c s [] refl) s (record { holds = refl; asked = sym (append-nil s.asked); live = idle; faults = le_refl s.faults; turns = le_refl s.turns; can_fail = refl })
 
 pub failed-late : {U : Type 0} (r : Result U FetchFault) (name name' wants : List ℕ) (c d e : Cache) (s t u : SourceState) (held held' : List Want) (table last : TableEntries) → name' ≡ name → held' ≡ held → Holds name wants c d s t held table → OnErr r (Receives name' held' [] d e t u last) → IfErr r (IsReceiptFault held' t u) → IfErr r (λ x. Afterwards u (λ after. IsFetchFault name wants c e s after x))
 failed-late (Ok x) name name' wants c d e s t u held held' table last p q h receives cause = tt

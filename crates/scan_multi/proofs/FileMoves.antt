@@ -86,11 +86,13 @@ module _ {O S : Type 0} (opener : O → OpenerState) (source : S → SourceState
     gives = p.gives;
     opener_faults = p.faults;
     opener_turns = p.turns;
+    opener_can_fail = p.can_fail;
     polled = p.polled;
     polls = p.most;
     holds = refl;
     source_faults = omega arith;
     source_turns = omega arith;
+    source_can_fail = refl;
     live = refl;
     ids = [];
     asked = sym (append-nil _);
@@ -117,11 +119,13 @@ module _ {O S : Type 0} (opener : O → OpenerState) (source : S → SourceState
     gives = p.gives;
     opener_faults = p.faults;
     opener_turns = p.turns;
+    opener_can_fail = p.can_fail;
     polled = p.polled;
     polls = p.most;
     holds = r.asks.holds;
     source_faults = r.asks.faults;
     source_turns = r.asks.turns;
+    source_can_fail = r.asks.can_fail;
     live = r.asks.live ∙ sym idle;
     ids = r.ids;
     asked = r.asks.asked;

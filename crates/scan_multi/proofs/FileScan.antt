@@ -38,7 +38,7 @@ same-entries name s (Some m) = λ k b e. inl e
 pub fetches_nothing : (name wants : List ℕ) (c : CacheState SegmentKey) (s : SourceState) → s.live ≡ none_live → Fetches name wants c c s s
 fetches_nothing name wants c s idle = record {
   ids = [];
-  asks = record { holds = refl; asked = sym (append-nil s.asked); live = idle; faults = omega arith; turns = omega arith };
+  asks = record { holds = refl; asked = sym (append-nil s.asked); live = idle; faults = omega arith; turns = omega arith; can_fail = refl };
   among = All-nil (Contains wants);
   events = [];
   ended = same-events c.ended;

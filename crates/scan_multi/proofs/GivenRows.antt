@@ -31,11 +31,13 @@ module _ {O S : Type 0} (opener : O → OpenerState) (source : S → SourceState
     gives = refl;
     opener_faults = omega arith;
     opener_turns = omega arith;
+    opener_can_fail = refl;
     polled = omega arith;
     polls = omega arith;
     holds = refl;
     source_faults = omega arith;
     source_turns = omega arith;
+    source_can_fail = refl;
     live = refl;
     ids = [];
     asked = sym (append-nil _);

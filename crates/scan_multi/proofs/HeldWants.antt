@@ -71,13 +71,14 @@ asks-on xs ys s t u a b = record {
   asked = b.asked ∙ ap (λ l. l ++ ys) a.asked ∙ append_assoc s.asked xs ys;
   faults = let p = a.faults in let q = b.faults in omega arith;
   turns = let p = a.turns in let q = b.turns in omega arith;
+  can_fail = b.can_fail ∙ a.can_fail;
 }
 
 pub asks-none : (s : SourceState) → AsksFor [] s s
-asks-none s = record { holds = refl; asked = sym (append-nil s.asked); faults = le_refl s.faults; turns = le_refl s.turns }
+asks-none s = record { holds = refl; asked = sym (append-nil s.asked); faults = le_refl s.faults; turns = le_refl s.turns; can_fail = refl }
 
 pub asks-stays : (s t : SourceState) → Stays s t → AsksFor [] s t
-asks-stays s t h = record { holds = h.holds; asked = h.asked ∙ sym (append-nil s.asked); faults = h.faults; turns = h.turns }
+asks-stays s t h = record { holds = h.holds; asked = h.asked ∙ sym (append-nil s.asked); faults = h.faults; turns = h.turns; can_fail = h.can_fail }
 
 -- ---- the ids that are held
 pub ids-snoc : (ws : List Want) (w : Want) → ids_of (ws ++ w ∷ []) ≡ ids_of ws ++ w.holder.id ∷ []

@@ -15,7 +15,7 @@ use Rattle.scan_multi.proofs.Holders.{held-answered, none-live}
 use Rattle.scan_multi.proofs.HeldWants.{asks-on, asks-none, asks-stays}
 
 pub asks-ends : (id : ℕ) (s t : SourceState) → Ends id s t → AsksFor [] s t
-asks-ends id s t h = record { holds = h.holds; asked = h.asked ∙ sym (append-nil s.asked); faults = h.faults; turns = h.turns }
+asks-ends id s t h = record { holds = h.holds; asked = h.asked ∙ sym (append-nil s.asked); faults = h.faults; turns = h.turns; can_fail = h.can_fail }
 
 asks-rests : (s t : SourceState) (e : Option (Held SharedAnswer)) → Rests s t e → AsksFor [] s t
 asks-rests s t e (inl r) = subst (AsksFor [] s) (sym r.1) (asks-none s)
@@ -26,13 +26,13 @@ later : (before s t : SourceState) (id : ℕ) (a : Option SharedAnswer) → s.fa
 later before s t id None le h = tt
 later before s t id (Some (answer.Bytes b)) le h = h
 later before s t id (Some answer.Missing) le h = h
-later before s t id (Some (answer.Failed n)) le h = omega (arith, h)
+later before s t id (Some (answer.Failed n)) le h = let p = h.0 in (omega arith, h.1)
 
 -- one that was found now
-found : (fits : ℕ → List ℕ → Type 0) (before s t : SourceState) (id : ℕ) (a : SharedAnswer) → s.holds ≡ before.holds → before.faults ≤ s.faults → IsFound fits id s t a → IsAnswered before t id (Some a)
-found fits before s t id (answer.Bytes b) holds le h = subst (λ (o : Option Store). IfSome o (λ store. store id ≡ Some b)) holds h.0
-found fits before s t id answer.Missing holds le h = subst (λ (o : Option Store). IfSome o (λ store. store id ≡ None)) holds h
-found fits before s t id (answer.Failed n) holds le h = let p = h.0 in omega (arith, p)
+found : (fits : ℕ → List ℕ → Type 0) (before s t : SourceState) (id : ℕ) (a : SharedAnswer) → AsksFor [] before s → IsFound fits id s t a → IsAnswered before t id (Some a)
+found fits before s t id (answer.Bytes b) asks h = subst (λ (o : Option Store). IfSome o (λ store. store id ≡ Some b)) asks.holds h.0
+found fits before s t id answer.Missing asks h = subst (λ (o : Option Store). IfSome o (λ store. store id ≡ None)) asks.holds h
+found fits before s t id (answer.Failed n) asks h = let p = h.0 in let le = asks.faults in (omega arith, sym asks.can_fail ∙ h.1)
 
 answer-put : (before t : SourceState) (id : ℕ) (a : SharedAnswer) (e : Option (Held SharedAnswer)) → IsAnswered before t id (Some a) → IsAnswered before t id (answer_of (answered a e))
 answer-put before t id a None h = tt
@@ -49,19 +49,19 @@ pub polls-one : (fits : ℕ → List ℕ → Type 0) (s t : SourceState) (old ne
 polls-one fits s t old new id (inl p) = record {
   source = asks-rests s t (entry_at old id) p.1;
   held = λ ws h. subst (IsHeldBy ws) (sym p.0) h;
-  answered = λ before holds le all. subst (AreAnswered before t) (sym p.0) (λ i. later before s t i (answer_of (entry_at old i)) (asks-rests s t (entry_at old id) p.1).faults (all i));
+  answered = λ before asks all. subst (AreAnswered before t) (sym p.0) (λ i. later before s t i (answer_of (entry_at old i)) (asks-rests s t (entry_at old id) p.1).faults (all i));
 }
 polls-one fits s t old new id (inr p) = record {
   source = asks-ends id s t p.source;
   held = λ ws h. held-answered ws old new id p.answer h p.step;
-  answered = λ before holds le all. answers-put before s t old new id p.answer p.step p.source.faults (found fits before s t id p.answer holds le p.found) all;
+  answered = λ before asks all. answers-put before s t old new id p.answer p.step p.source.faults (found fits before s t id p.answer asks p.found) all;
 }
 
 pub polls-on : (s t u : SourceState) (a b c : TableEntries) → PollsHeld s t a b → PollsHeld t u b c → PollsHeld s u a c
 polls-on s t u a b c p q = record {
   source = asks-on [] [] s t u p.source q.source;
   held = λ ws h. q.held ws (p.held ws h);
-  answered = λ before holds le all. q.answered before (p.source.holds ∙ holds) (let m = p.source.faults in omega arith) (p.answered before holds le all);
+  answered = λ before asks all. q.answered before (asks-on [] [] before s t asks p.source) (p.answered before asks all);
 }
 
 held-answer : (n : ℕ) (a : SharedAnswer) (e : Option (Held SharedAnswer)) → is_held n (answered a e) ≡ is_held n e
@@ -89,6 +89,7 @@ none-left s t table held none h agree asks = record {
   live = none-live t.live table (subst (λ ws. IsHeldBy ws table) none h) agree;
   faults = asks.faults;
   turns = asks.turns;
+  can_fail = asks.can_fail;
 }
 
 -- a list of no wants

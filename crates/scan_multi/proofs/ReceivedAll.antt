@@ -109,7 +109,7 @@ module _ (name : List ℕ) (ws : List Want) (c d e : Cache) (s t u : SourceState
     ended-more = puts.ended ∙ ap (option_map (λ es. es ++ map Offered puts.more)) h.ended ∙ ended-on c.ended (map Offered h.keys) (map Offered puts.more) ∙ ap (λ xs. option_map (λ es. es ++ xs) c.ended) (sym (puts-append h.keys puts.more))
 
     answered-more : AreAnswered s u new
-    answered-more = polls.answered s h.asks.holds h.asks.faults h.answered
+    answered-more = polls.answered s h.asks h.answered
 
     abbrev receives-more : Receives name ws left c e s u new
     receives-more = record {
@@ -174,18 +174,18 @@ module _ (name : List ℕ) (ws : List Want) (c d e : Cache) (s t u : SourceState
     pub lost-cause : (x : FetchFault) → Receives name ws rest c d s t old → IsLost w.holder.id (answer_of (entry_at new w.holder.id)) x → IsReceiptFault ws s u x
     lost-cause fault.NoMemory h l = tt
     lost-cause (fault.Source id) h l =
-        let a = polls.answered s h.asks.holds h.asks.faults h.answered w.holder.id in
+        let a = polls.answered s h.asks h.answered w.holder.id in
         (subst (IsAnswered s u w.holder.id) l.1.1 a, ap (λ k. has k (ids_of ws)) l.0 ∙ id-at ws i w lt here)
 
     pub lost-one : Receives name ws rest c d s t old → (e ≡ d) ⊎ PutsAnswer w.asked key (answer_of (entry_at new w.holder.id)) d e → Receives name ws [] c e s u new
     lost-one h (inl is) = receives-less h (puts-none name (asked_ids ws) s w.asked key d e is)
     lost-one h (inr p) =
-        let a = polls.answered s h.asks.holds h.asks.faults h.answered w.holder.id in
+        let a = polls.answered s h.asks h.answered w.holder.id in
         receives-less h (puts-all name (asked_ids ws) s w.asked key p.bytes d e (fed p.bytes (subst (IsAnswered s u w.holder.id) p.is a)) p.puts).puts
 
     module _ (begun came now : Came) (h : ReceivesAll name ws rest c d s t old begun came) where
       answered-here : (a : SharedAnswer) → answer_of (entry_at new w.holder.id) ≡ Some a → IsAnswered s u w.holder.id (Some a)
-      answered-here a is = subst (IsAnswered s u w.holder.id) is (polls.answered s h.receives.asks.holds h.receives.asks.faults h.receives.answered w.holder.id)
+      answered-here a is = subst (IsAnswered s u w.holder.id) is (polls.answered s h.receives.asks h.receives.answered w.holder.id)
 
       asked-held : (store : Store) (bytes : List ℕ) (b : Bool) → store w.holder.id ≡ Some bytes → length (filter (λ id. is_some (store id)) (only_if b w.holder.id)) ≡ length (only_if b 0)
       asked-held store bytes true is = rw is refl

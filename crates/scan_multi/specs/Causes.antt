@@ -1,16 +1,16 @@
 -- What a scan does to its files, and why it may fail.
-use Rattle.std.specs.Prelude.{◌≡◌, ◌≢◌, ◌⊎◌, ℕ, ◌<◌, ◌≤◌, ◌+◌, List, [], ◌++◌, true, Option, None, Some, IfSome, IsSome, All, Contains, map, length, get_or, unwrap_or}
+use Rattle.std.specs.Prelude.{◌≡◌, ◌≢◌, ◌⊎◌, ℕ, ◌<◌, ◌≤◌, ◌+◌, List, ◌++◌, Option, None, Some, IfSome, IsSome, All, Contains, map, length, get_or, unwrap_or}
 use Rattle.scan_values.specs.DataType.{DataType}
 use Rattle.scan_expr.specs.declared.request.ScanRequest.{ScanRequest}
-use Rattle.scan_segments.specs.Faults.{Rose}
 use Rattle.scan_segments.specs.Source.{SourceState, Store, none_live}
 use Rattle.scan_segments.specs.Cache.{CacheState}
 use Rattle.scan_segments.specs.declared.segment.SegmentKey.{SegmentKey}
 use Rattle.scan_layout.specs.Layout.{dtype_of}
 use Rattle.scan_layout.specs.Check.{first_fault}
 use Rattle.scan_layout.specs.declared.fault.LayoutFault.{LayoutFault}
-use Rattle.scan_multi.specs.Opener.{OpenerState, Given, skip, layout_of}
+use Rattle.scan_multi.specs.Opener.{OpenerState, OpenerFailed, Given, skip, layout_of}
 use Rattle.scan_multi.specs.Answer.{ToldFile}
+use Rattle.scan_multi.specs.Fetch.{SourceFailed}
 use Rattle.scan_multi.specs.Overflow.{OverflowsIn}
 use Rattle.scan_multi.specs.Places.{WasAsked, HasBad}
 use Rattle.scan_multi.specs.Named.{named, named_places}
@@ -75,18 +75,20 @@ module _ {O S : Type 0} (opener : O → OpenerState) (source : S → SourceState
   abbrev pub IsIdle : ScanFile O S → Type 0
   IsIdle f = (source f.source).live ≡ none_live
 
-  -- A file after calls of its opener and its source. It tells what it told, its faults did not fall and its turns did not rise, the opener was polled at most once more than it put off an answer,
-  -- as many requests are live, and only named segments were asked.
+  -- A file after calls of its opener and its source. It tells what it told, its faults did not fall and its turns did not rise, what can fail of it is the same,
+  -- the opener was polled at most once more than it put off an answer, as many requests are live, and only named segments were asked.
   pub record FileMoves (d : DataType) (request : ScanRequest) (old new : ScanFile O S) : Type 0 where
     pub source_id : new.source_id ≡ old.source_id
     pub gives : (opener new.opener).gives ≡ (opener old.opener).gives
     pub opener_faults : (opener old.opener).faults ≤ (opener new.opener).faults
     pub opener_turns : (opener new.opener).turns ≤ (opener old.opener).turns
+    pub opener_can_fail : (opener new.opener).can_fail ≡ (opener old.opener).can_fail
     pub polled : (opener old.opener).polled ≤ (opener new.opener).polled
     pub polls : (opener new.opener).polled + (opener new.opener).turns ≤ (opener old.opener).polled + (opener old.opener).turns + 1
     pub holds : (source new.source).holds ≡ (source old.source).holds
     pub source_faults : (source old.source).faults ≤ (source new.source).faults
     pub source_turns : (source new.source).turns ≤ (source old.source).turns
+    pub source_can_fail : (source new.source).can_fail ≡ (source old.source).can_fail
     pub live : (source new.source).live ≡ (source old.source).live
     pub ids : List ℕ
     pub asked : (source new.source).asked ≡ (source old.source).asked ++ ids
@@ -113,8 +115,8 @@ module _ {O S : Type 0} (opener : O → OpenerState) (source : S → SourceState
   -- why the scan of a file may fail, over this cache
   abbrev pub IsFileCause : DataType → ScanRequest → CacheState SegmentKey → ScanFile O S → ScanFile O S → ScanFault → Type 0
   IsFileCause d request cache old new fault.NoMemory = Unit {0}
-  IsFileCause d request cache old new (fault.Opener place) = Rose (opener old.opener).faults (opener new.opener).faults × ((opener old.opener).can_fail ≡ true)
-  IsFileCause d request cache old new (fault.Source place id) = Rose (source old.source).faults (source new.source).faults × AskedOf d id old new
+  IsFileCause d request cache old new (fault.Opener place) = OpenerFailed (opener old.opener) (opener new.opener)
+  IsFileCause d request cache old new (fault.Source place id) = SourceFailed (source old.source) (source new.source) × AskedOf d id old new
   IsFileCause d request cache old new (fault.Corrupt place id) = (Trusts old.source_id cache (source old.source) → IfTold (opener old.opener).gives (source old.source).holds (λ g store. HasBad store (named_places d request g store) id)) × CameOf d cache id old new
   IsFileCause d request cache old new (fault.DTypeMismatch place) = IfSome (opener old.opener).gives (IsOfOtherType d) × NoneAsked old new
   IsFileCause d request cache old new (fault.Layout place f) = IfSome (opener old.opener).gives (IsIllFormed d f) × NoneAsked old new

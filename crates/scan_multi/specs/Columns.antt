@@ -1,5 +1,5 @@
 -- Whole columns, as they are read.
-use Rattle.std.specs.Prelude.{◌≡◌, ℕ, ◌<◌, ◌==◌, List, [], ◌∷◌, ◌++◌, Bool, true, false, cond, Option, None, Some, option_and_then, IfSome, get_or, length, map, All, IsTrue}
+use Rattle.std.specs.Prelude.{◌≡◌, ℕ, ◌<◌, ◌==◌, List, [], ◌∷◌, ◌++◌, Bool, true, false, cond, Option, None, Some, IfSome, get_or, length, map, All, IsTrue}
 use Rattle.scan_values.specs.DataType.{DataType}
 use Rattle.scan_values.specs.Kinds.{is_scalar_type}
 use Rattle.scan_values.specs.Val.{Val, null_val, struct_val, vals_of, marked_all}

@@ -1,5 +1,5 @@
 -- What fetching the segments of one file does to its source and to the cache, and what it gives.
-use Rattle.std.specs.Prelude.{◌≡◌, ◌⊎◌, ℕ, ◌+◌, ◌≤◌, ◌<◌, ◌^◌, ◌-◌, List, [], ◌++◌, true, false, Option, Some, IfSome, All, Contains, map, length, filter, is_some, option_map, nat_eq}
+use Rattle.std.specs.Prelude.{◌≡◌, ◌⊎◌, ℕ, ◌+◌, ◌≤◌, ◌<◌, ◌^◌, ◌-◌, List, ◌++◌, true, false, Option, Some, IfSome, All, Contains, map, length, filter, is_some, option_map, nat_eq}
 use Rattle.std.specs.Map.{lookup}
 use Rattle.scan_segments.specs.Faults.{Rose}
 use Rattle.scan_segments.specs.Source.{SourceState, Store, TellsBytes, none_live}
@@ -19,6 +19,11 @@ pub record Asks (ids : List ℕ) (old new : SourceState) : Type 0 where
   pub live : new.live ≡ none_live
   pub faults : old.faults ≤ new.faults
   pub turns : new.turns ≤ old.turns
+  pub can_fail : new.can_fail ≡ old.can_fail
+
+-- the count of a source's faults rose, and it can fail
+abbrev pub SourceFailed : SourceState → SourceState → Type 0
+SourceFailed old new = Rose old.faults new.faults × (old.can_fail ≡ true)
 
 -- bytes of one of these segments, as the source tells them
 pub record IsFed (name ids : List ℕ) (source : SourceState) (k : SegmentKey) (bytes : List ℕ) : Type 0 where
@@ -69,10 +74,10 @@ pub record IsFetched (name wants : List ℕ) (c d : CacheState SegmentKey) (s t 
   pub found : length (found_keys fetches.events) ≡ hits
   pub lookups : length (missed_keys fetches.events) ≡ shared + length fetches.ids
 
--- the count of faults rose over one of these segments
+-- the source failed over one of these segments
 abbrev pub FaultCause : List ℕ → SourceState → SourceState → FetchFault → Type 0
 FaultCause ids s t fault.NoMemory = Unit {0}
-FaultCause ids s t (fault.Source id) = Rose s.faults t.faults × Contains ids id
+FaultCause ids s t (fault.Source id) = SourceFailed s t × Contains ids id
 
 -- why fetching may fail: want of memory, or a fault of the source over a segment that was asked for
 pub record IsFetchFault (name wants : List ℕ) (c d : CacheState SegmentKey) (s t : SourceState) (e : FetchFault) : Type 0 where

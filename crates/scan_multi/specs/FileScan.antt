@@ -1,6 +1,5 @@
 -- What the scan of one file does to its source and to the cache, how it counts that, and why it may fail.
 use Rattle.std.specs.Prelude.{◌≡◌, ◌⊎◌, ℕ, ◌+◌, ◌≤◌, List, Bool, Option, IfSome, All, map, length}
-use Rattle.scan_segments.specs.Faults.{Rose}
 use Rattle.scan_segments.specs.Source.{SourceState, Store}
 use Rattle.scan_segments.specs.Cache.{CacheState}
 use Rattle.scan_segments.specs.Events.{missed_keys, found_keys, offered_keys, times}
@@ -8,7 +7,7 @@ use Rattle.scan_segments.specs.declared.segment.SegmentKey.{SegmentKey}
 use Rattle.scan_layout.specs.Layout.{Layout, kids_of}
 use Rattle.scan_layout.specs.Places.{Place}
 use Rattle.scan_multi.specs.Traffic.{key_of, Trusts, IsKept, capped_report}
-use Rattle.scan_multi.specs.Fetch.{Fetches, PutsWhatCame, held_among}
+use Rattle.scan_multi.specs.Fetch.{Fetches, SourceFailed, PutsWhatCame, held_among}
 use Rattle.scan_multi.specs.Places.{WasAsked, HasBad}
 use Rattle.scan_multi.specs.Columns.{nodes_in, chosen_places}
 use Rattle.scan_multi.specs.declared.scan.files.ScanFault.{ScanFault}
@@ -46,6 +45,6 @@ pub record Counts (name : List ℕ) (c d : CacheState SegmentKey) (s t : SourceS
 -- why a well-formed layout with segments at these places may not be read
 abbrev pub IsLayoutFault : ℕ → List ℕ → List Place → CacheState SegmentKey → SourceState → SourceState → ScanFault → Type 0
 IsLayoutFault file name places c s t fault.NoMemory = Unit {0}
-IsLayoutFault file name places c s t (fault.Source place id) = (place ≡ file) × Rose s.faults t.faults × WasAsked id s t
+IsLayoutFault file name places c s t (fault.Source place id) = (place ≡ file) × SourceFailed s t × WasAsked id s t
 IsLayoutFault file name places c s t (fault.Corrupt place id) = (place ≡ file) × (Trusts name c s → IfSome s.holds (λ store. HasBad store places id)) × (WasAsked id s t ⊎ IsKept c (key_of name id))
 IsLayoutFault file name places c s t _ = ⊥

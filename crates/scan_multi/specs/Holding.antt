@@ -65,6 +65,7 @@ pub record AsksFor (ids : List ℕ) (old new : SourceState) : Type 0 where
   pub asked : new.asked ≡ old.asked ++ ids
   pub faults : old.faults ≤ new.faults
   pub turns : new.turns ≤ old.turns
+  pub can_fail : new.can_fail ≡ old.can_fail
 
 -- a cache after lookups
 pub record LooksUp (c d : CacheState SegmentKey) : Type 0 where

@@ -1,9 +1,8 @@
 -- What waiting for an opener may answer.
-use Rattle.std.specs.Prelude.{◌≡◌, ◌+◌, ◌≤◌, true, IfSome}
-use Rattle.scan_segments.specs.Faults.{Rose}
+use Rattle.std.specs.Prelude.{◌≡◌, ◌+◌, ◌≤◌, IfSome}
 use Rattle.scan_multi.specs.declared.scan.open.OpenedFile.{OpenedFile}
 use Rattle.scan_multi.specs.declared.scan.open.OpenedFile.TheVariants as opened
-use Rattle.scan_multi.specs.Opener.{OpenerState, layout_of, skip}
+use Rattle.scan_multi.specs.Opener.{OpenerState, OpenerFailed, layout_of, skip}
 
 -- an opener after some polls, at most one more than it put off an answer
 pub record Opens (old new : OpenerState) : Type 0 where
@@ -17,5 +16,5 @@ pub record Opens (old new : OpenerState) : Type 0 where
 abbrev pub IsOpened : OpenerState → OpenerState → OpenedFile → Type 0
 IsOpened old new (opened.Layout layout) = Opens old new × IfSome old.gives (λ g. g ≡ layout_of layout.value)
 IsOpened old new opened.Skipped = Opens old new × IfSome old.gives (λ g. g ≡ skip)
-IsOpened old new opened.Failed = Opens old new × Rose old.faults new.faults × (old.can_fail ≡ true)
+IsOpened old new opened.Failed = Opens old new × OpenerFailed old new
 IsOpened old new opened.NoMemory = Opens old new

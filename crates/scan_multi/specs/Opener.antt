@@ -31,9 +31,13 @@ pub record PolledOnce (old new : OpenerState) : Type 0 where
   pub polled_grows : old.polled ≤ new.polled
   pub can_fail : new.can_fail ≡ old.can_fail
 
+-- the count of an opener's faults rose, and it can fail
+abbrev pub OpenerFailed : OpenerState → OpenerState → Type 0
+OpenerFailed old new = Rose old.faults new.faults × (old.can_fail ≡ true)
+
 abbrev pub IsPolledOpen : OpenerState → OpenerState → Opening → Type 0
 IsPolledOpen old new Pending = PolledOnce old new × (new.turns < old.turns)
 IsPolledOpen old new (Opened layout) = PolledOnce old new × IfSome old.gives (λ g. g ≡ layout_of layout.value)
 IsPolledOpen old new Skipped = PolledOnce old new × IfSome old.gives (λ g. g ≡ skip)
-IsPolledOpen old new Failed = PolledOnce old new × Rose old.faults new.faults × (old.can_fail ≡ true)
+IsPolledOpen old new Failed = PolledOnce old new × OpenerFailed old new
 IsPolledOpen old new NoMemory = PolledOnce old new

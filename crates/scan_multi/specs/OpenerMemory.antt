@@ -1,8 +1,8 @@
 -- An opener in memory, as an opener.
-use Rattle.std.specs.Prelude.{◌≡◌, ℕ, List, [], ◌∷◌, Bool, true, false, Option, None, Some}
+use Rattle.std.specs.Prelude.{◌≡◌, ℕ, Option, None, Some}
 use Rattle.std.specs.declared.alloc.Global.{Global}
 use Rattle.std.specs.declared.rc.Rc.{Rc}
-use Rattle.scan_segments.specs.Script.{ScriptState, turns_left}
+use Rattle.scan_segments.specs.Script.{ScriptState, turns_left, has_number}
 use Rattle.scan_segments.specs.Faults.{one_more}
 use Rattle.scan_segments.specs.declared.script.Outcome.{Outcome}
 use Rattle.scan_segments.specs.declared.script.Outcome.TheVariants.{Goes, Waits, Fails}
@@ -15,11 +15,6 @@ use Rattle.scan_multi.specs.declared.scan.multi.Opening.TheVariants.{Pending, Op
 abbrev pub given_of : Option (Rc Layout Global) → Given
 given_of None = skip
 given_of (Some l) = layout_of l.value
-
--- there is a number
-abbrev pub has_number : List ℕ → Bool
-has_number [] = false
-has_number (k ∷ ks) = true
 
 -- it tells what it gives, and can fail where a call of its script does
 abbrev pub opener_state : Option (Rc Layout Global) → ScriptState → ℕ → ℕ → OpenerState

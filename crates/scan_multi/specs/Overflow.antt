@@ -1,5 +1,5 @@
 -- Where the expressions of a request overflow in a file.
-use Rattle.std.specs.Prelude.{◌≡◌, ℕ, ◌<◌, ◌≤◌, List, Bool, true, false, Contains, map}
+use Rattle.std.specs.Prelude.{◌≡◌, ℕ, ◌<◌, ◌≤◌, Bool, true, false, Contains, map}
 use Rattle.std.specs.List.{list_all}
 use Rattle.scan_values.specs.DataType.{DataType}
 use Rattle.scan_values.specs.Marked.{Marked, lost, null, gone, boolean, integer, text, list, struct}

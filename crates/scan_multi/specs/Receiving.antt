@@ -1,6 +1,5 @@
 -- Receiving the held wants of a fetch, and giving them up.
 use Rattle.std.specs.Prelude.{◌≡◌, ◌⊎◌, ℕ, ◌+◌, ◌-◌, ◌^◌, ◌<◌, ◌≤◌, List, [], ◌++◌, Bool, true, false, map, length, filter, Option, None, Some, IfSome, is_some, option_map}
-use Rattle.scan_segments.specs.Faults.{Rose}
 use Rattle.scan_segments.specs.Source.{SourceState, Store, TellsBytes, TellsNone}
 use Rattle.scan_segments.specs.Cache.{CacheState, Both}
 use Rattle.scan_segments.specs.Cached.{Offers}
@@ -11,7 +10,7 @@ use Rattle.scan_segments.specs.declared.holder.SharedAnswer.{SharedAnswer}
 use Rattle.scan_segments.specs.declared.holder.SharedAnswer.TheVariants as answer
 use Rattle.scan_segments.specs.declared.segment.SegmentKey.{SegmentKey}
 use Rattle.scan_multi.specs.Traffic.{key_of, Grows}
-use Rattle.scan_multi.specs.Fetch.{Asks, Feeds, store_of}
+use Rattle.scan_multi.specs.Fetch.{Asks, Feeds, SourceFailed, store_of}
 use Rattle.scan_multi.specs.Holding.{TableEntries, ids_of, asked_ids, IsHeldBy, AsksFor, Keeps, IsSound}
 use Rattle.scan_multi.specs.declared.scan.fetch.FetchFault.{FetchFault}
 use Rattle.scan_multi.specs.declared.scan.fetch.FetchFault.TheVariants as fault
@@ -22,7 +21,7 @@ abbrev pub IsAnswered : SourceState → SourceState → ℕ → Option SharedAns
 IsAnswered s t id None = Unit {0}
 IsAnswered s t id (Some (answer.Bytes bytes)) = TellsBytes s id bytes
 IsAnswered s t id (Some answer.Missing) = TellsNone s id
-IsAnswered s t id (Some (answer.Failed n)) = Rose s.faults t.faults
+IsAnswered s t id (Some (answer.Failed n)) = SourceFailed s t
 
 -- each answer that a table keeps is one of those
 abbrev pub AreAnswered : SourceState → SourceState → TableEntries → Type 0
@@ -32,7 +31,7 @@ AreAnswered s t table = (id : ℕ) → IsAnswered s t id (answer_of (entry_at ta
 pub record PollsHeld (s t : SourceState) (old new : TableEntries) : Type 0 where
   pub source : AsksFor [] s t
   pub held : (wants : List Want) → IsHeldBy wants old → IsHeldBy wants new
-  pub answered : (before : SourceState) → s.holds ≡ before.holds → before.faults ≤ s.faults → AreAnswered before s old → AreAnswered before t new
+  pub answered : (before : SourceState) → AsksFor [] before s → AreAnswered before s old → AreAnswered before t new
 
 -- the answer that gives bytes, or that there are none
 abbrev pub answer_with : Option (List ℕ) → SharedAnswer
@@ -98,7 +97,7 @@ pub record ReceivesAll (name : List ℕ) (wants rest : List Want) (c d : CacheSt
 -- why receiving wants fails
 abbrev pub IsReceiptFault : List Want → SourceState → SourceState → FetchFault → Type 0
 IsReceiptFault wants s t fault.NoMemory = Unit {0}
-IsReceiptFault wants s t (fault.Source id) = Rose s.faults t.faults × (has id (ids_of wants) ≡ true)
+IsReceiptFault wants s t (fault.Source id) = SourceFailed s t × (has id (ids_of wants) ≡ true)
 
 -- what holds of a source once its requests are given up
 abbrev pub Afterwards : SourceState → (SourceState → Type 0) → Type 0

@@ -2,13 +2,13 @@
 use Rattle.std.specs.Prelude.{◌≡◌, ℕ, ◌<◌, ◌^◌, List, true, None, All, Contains, map, sum, length, get_or}
 use Rattle.scan_values.specs.DataType.{DataType}
 use Rattle.scan_expr.specs.declared.request.ScanRequest.{ScanRequest}
-use Rattle.scan_segments.specs.Faults.{Rose}
 use Rattle.scan_segments.specs.Source.{SourceState}
 use Rattle.scan_layout.specs.Layout.{rows_of}
 use Rattle.scan_layout.specs.Places.{Place}
-use Rattle.scan_multi.specs.Opener.{OpenerState, Given, skip, layout_of}
+use Rattle.scan_multi.specs.Opener.{OpenerState, OpenerFailed, Given, skip, layout_of}
 use Rattle.scan_multi.specs.Answer.{ToldFile, is_good}
 use Rattle.scan_multi.specs.Named.{named_places}
+use Rattle.scan_multi.specs.Fetch.{SourceFailed}
 use Rattle.scan_multi.specs.Overflow.{OverflowsIn}
 use Rattle.scan_multi.specs.Places.{IsBad}
 use Rattle.scan_multi.specs.Served.{first_request_fault}
@@ -40,8 +40,8 @@ pub record IsValid (workers : ℕ) (d : DataType) (request : ScanRequest) (files
   pub rows : sum (map (λ f. rows_given f.given) files) < 2 ^ 64
 
 module _ {O S : Type 0} (opener : O → OpenerState) (source : S → SourceState) where
-  -- the faults of no opener and no source rose
-  abbrev pub NoneRose : List (ScanFile O S) → List (ScanFile O S) → Type 0
-  NoneRose old new =
+  -- no opener and no source failed
+  abbrev pub NoneFailed : List (ScanFile O S) → List (ScanFile O S) → Type 0
+  NoneFailed old new =
       (k : ℕ) (f : ScanFile O S) → k < length old
-      → (Rose (opener (get_or old k f).opener).faults (opener (get_or new k f).opener).faults → ⊥) × (Rose (source (get_or old k f).source).faults (source (get_or new k f).source).faults → ⊥)
+      → (OpenerFailed (opener (get_or old k f).opener) (opener (get_or new k f).opener) → ⊥) × (SourceFailed (source (get_or old k f).source) (source (get_or new k f).source) → ⊥)

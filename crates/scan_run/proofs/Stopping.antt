@@ -68,6 +68,10 @@ module _ (m : Manifest) (spec : FileSpec) (f : ScanFile MemoryOpener MemorySourc
   opener_fails zero c = (c.cause f).1
   opener_fails (suc k) c = let t = c.there in absurd (omega arith)
 
+  source_fails : (place id : ℕ) → FaultAt memory_opener source_state m.workers m.dtype m.request empty_cache (f ∷ []) new place (fault.Source place id) → (source_state f.source).can_fail ≡ true
+  source_fails zero id c = (c.cause f).0.1
+  source_fails (suc k) id c = let t = c.there in absurd (omega arith)
+
   source_read : (place id : ℕ) → FaultAt memory_opener source_state m.workers m.dtype m.request empty_cache (f ∷ []) new place (fault.Source place id) → IsRead m.dtype (given_by spec)
   source_read zero id c = told_is _ (given_by spec) (IsRead m.dtype) is.gives (c.cause f).1.read
   source_read (suc k) id c = let t = c.there in absurd (omega arith)
@@ -97,8 +101,8 @@ module _ (m : Manifest) (spec : FileSpec) (f : ScanFile MemoryOpener MemorySourc
   -- each cause is one that the manifest shows
   pub stopped : (e : ScanFault) → HasCause memory_opener source_state m.workers m.dtype m.request empty_cache (f ∷ []) new e → IsStop m (stop_of e)
   stopped fault.NoMemory c = tt
-  stopped (fault.Opener place) c = record { late = no_early _ place c; file = spec; there = only m.files spec one; failing = of_opener (sym is.can_fail ∙ opener_fails place c) }
-  stopped (fault.Source place id) c = record { late = no_early _ place c; file = spec; there = only m.files spec one; failing = of_source (source_read place id c) }
+  stopped (fault.Opener place) c = record { late = no_early _ place c; file = spec; there = only m.files spec one; failing = of_opener (sym is.opener_can_fail ∙ opener_fails place c) }
+  stopped (fault.Source place id) c = record { late = no_early _ place c; file = spec; there = only m.files spec one; failing = of_source (sym is.source_can_fail ∙ source_fails place id c) (source_read place id c) }
   stopped (fault.DTypeMismatch place) c = unreadable _ place c (of_type (other_type place c))
   stopped (fault.Bind b) c = (b, subst (λ k. early_fault m.workers k m.dtype m.request ≡ Some (fault.Bind b)) same_count c)
   stopped fault.Partitions c = absurd c

@@ -12,7 +12,7 @@ use Rattle.scan_multi.specs.Opener.{Given, skip, layout_of}
 use Rattle.scan_multi.specs.Answer.{Item, ToldFile, answer}
 use Rattle.scan_multi.specs.Output.{ChunkData, Admits, given}
 use Rattle.scan_multi.specs.Served.{early_fault, first_request_fault, is_built}
-use Rattle.scan_multi.specs.OpenerMemory.{has_number}
+use Rattle.scan_segments.specs.Script.{has_number}
 use Rattle.scan_multi.specs.Causes.{IsRead, IsOfOtherType, IsIllFormed}
 use Rattle.scan_multi.specs.Overflow.{OverflowsIn}
 use Rattle.scan_multi.specs.Places.{HasBad}
@@ -112,10 +112,10 @@ pub record IsUnreadable (m : Manifest) : Type 0 where
   pub there : Contains m.files file
   pub bad : IsBadFile m file
 
--- what of a file may fail: its opener, where a call of its script does, or its source, where the file is read
+-- what of a file may fail, where a call of its script does: its opener, or the source of a file that is read
 pub data CanFail (m : Manifest) (f : FileSpec) : Type 0 where
   of_opener : has_number f.opener.fail ≡ true → CanFail m f
-  of_source : IsRead m.dtype (given_by f) → CanFail m f
+  of_source : has_number f.source.fail ≡ true → IsRead m.dtype (given_by f) → CanFail m f
 
 -- the request has no fault, and what may fail of a file did
 pub record IsFailing (m : Manifest) : Type 0 where

@@ -28,9 +28,9 @@ stage_at stages id = lookup (nat_eq id) stages
 abbrev pub has_stage : List (ℕ × Stage) → ℕ → Bool
 has_stage stages id = is_some (stage_at stages id)
 
--- as a source it does not tell what it holds; its faults are the inner source's, and its turns those of both
+-- as a source it does not tell what it holds; its faults are the inner source's, which alone can fail, and its turns those of both
 abbrev pub adapted : {C S : Type 0} → (C → CacheState ℕ) → (S → SourceState) → Adapted C S → SourceState
-adapted cache source a = record { holds = None; asked = a.asked; live = has_stage a.stages; faults = (source a.source).faults; turns = (cache a.cache).turns + (source a.source).turns }
+adapted cache source a = record { holds = None; asked = a.asked; live = has_stage a.stages; faults = (source a.source).faults; turns = (cache a.cache).turns + (source a.source).turns; can_fail = (source a.source).can_fail }
 
 abbrev pub is_asked : Option Stage → Bool
 is_asked None = false

@@ -8,7 +8,7 @@ use Rattle.std.specs.BTreeSet.{insert_key}
 use Rattle.std.specs.Set.{remove_key}
 use Rattle.scan_segments.specs.Faults.{one_more}
 use Rattle.scan_segments.specs.Source.{SourceState}
-use Rattle.scan_segments.specs.Script.{ScriptState, turns_left, number_after}
+use Rattle.scan_segments.specs.Script.{ScriptState, turns_left, number_after, has_number}
 use Rattle.scan_segments.specs.Sharing.{has}
 use Rattle.scan_segments.specs.Outcomes.{outcome_of}
 use Rattle.scan_segments.specs.declared.script.Outcome.{Outcome}
@@ -39,7 +39,7 @@ memory_code = code_by Parts (coded× (coded× (map.code coded_ℕ (coded_list co
 
 -- it tells what it holds
 abbrev pub source_state : MemoryState → SourceState
-source_state s = record { holds = Some (λ id. map.get s.segments id); asked = s.asked; live = λ id. has id s.live; faults = s.faults; turns = turns_left s.script }
+source_state s = record { holds = Some (λ id. map.get s.segments id); asked = s.asked; live = λ id. has id s.live; faults = s.faults; turns = turns_left s.script; can_fail = has_number s.script.failing }
 
 -- the rising ids without this one
 abbrev pub ended : ℕ → List ℕ → List ℕ

@@ -1,5 +1,5 @@
 -- What one poll of a segment may answer.
-use Rattle.std.specs.Prelude.{ℕ, ◌<◌, List}
+use Rattle.std.specs.Prelude.{◌≡◌, ℕ, ◌<◌, List, true}
 use Rattle.scan_segments.specs.declared.source.Polled.{Polled}
 use Rattle.scan_segments.specs.declared.source.Polled.TheVariants.{Pending, Bytes, Missing, Failed, NoMemory}
 use Rattle.scan_segments.specs.Faults.{Rose}
@@ -10,5 +10,5 @@ abbrev pub IsPolled : (ℕ → List ℕ → Type 0) → ℕ → SourceState → 
 IsPolled fits id old new Pending = Stays old new × (new.turns < old.turns)
 IsPolled fits id old new (Bytes bytes) = Ends id old new × TellsBytes old id bytes × fits id bytes
 IsPolled fits id old new Missing = Ends id old new × TellsNone old id
-IsPolled fits id old new Failed = Ends id old new × Rose old.faults new.faults
+IsPolled fits id old new Failed = Ends id old new × Rose old.faults new.faults × (old.can_fail ≡ true)
 IsPolled fits id old new NoMemory = Stays old new

@@ -62,7 +62,7 @@ IsOpen old new NoMemory = Unit {0}
 abbrev pub IsFound : (ℕ → List ℕ → Type 0) → ℕ → SourceState → SourceState → SharedAnswer → Type 0
 IsFound fits id old new (answer.Bytes b) = TellsBytes old id b × fits id b
 IsFound fits id old new answer.Missing = TellsNone old id
-IsFound fits id old new (answer.Failed n) = Rose old.faults new.faults × (n ≡ new.faults)
+IsFound fits id old new (answer.Failed n) = Rose old.faults new.faults × (old.can_fail ≡ true) × (n ≡ new.faults)
 
 -- the answer of a live request comes from the source, and is kept
 pub record Arrives (fits : ℕ → List ℕ → Type 0) (old new : SourceState) (s t : List (ℕ × Held SharedAnswer)) (id : ℕ) : Type 0 where

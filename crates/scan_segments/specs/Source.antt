@@ -17,6 +17,8 @@ pub record SourceState : Type 0 where
   pub faults : ℕ
   -- at most so often it can still put off an answer
   pub turns : ℕ
+  -- whether any of its polls can fail
+  pub can_fail : Bool
 
 -- the list without this number
 abbrev pub without : ℕ → List ℕ → List ℕ
@@ -41,6 +43,7 @@ pub record Begins (id : ℕ) (old new : SourceState) : Type 0 where
   pub live : new.live ≡ with_live id old.live
   pub faults : old.faults ≤ new.faults
   pub turns : new.turns ≤ old.turns
+  pub can_fail : new.can_fail ≡ old.can_fail
 
 -- nothing is asked and no request begins or ends
 pub record Stays (old new : SourceState) : Type 0 where
@@ -49,6 +52,7 @@ pub record Stays (old new : SourceState) : Type 0 where
   pub live : new.live ≡ old.live
   pub faults : old.faults ≤ new.faults
   pub turns : new.turns ≤ old.turns
+  pub can_fail : new.can_fail ≡ old.can_fail
 
 -- the request of an id ends
 pub record Ends (id : ℕ) (old new : SourceState) : Type 0 where
@@ -57,6 +61,7 @@ pub record Ends (id : ℕ) (old new : SourceState) : Type 0 where
   pub live : new.live ≡ without_live id old.live
   pub faults : old.faults ≤ new.faults
   pub turns : new.turns ≤ old.turns
+  pub can_fail : new.can_fail ≡ old.can_fail
 
 -- a told store has these bytes at the id
 abbrev pub TellsBytes : SourceState → ℕ → List ℕ → Type 0

@@ -14,7 +14,7 @@ ghost use Rattle.scan_multi.specs.FileScan.{ids_of, chosen_in, SameAt, FetchesSo
 ghost use Rattle.scan_multi.specs.Traffic.{Trusts, CacheMoves, LooksUpFirst, PutsWhatItAsked, IsReport, ended_since, asked_keys};
 ghost use Rattle.scan_multi.specs.Served.{are_plain, is_plain, is_plain_struct, is_choice, is_all, is_of_all_rows, is_built, early_fault, first_request_fault};
 ghost use Rattle.scan_multi.specs.Plan.{IsPlannable, IsPlan, IsPlanFault, IsWhole, IsScanned, items_in, placed, placed_fetch, IsPlacedFault, IsChecked, NamesFile};
-ghost use Rattle.scan_multi.specs.Valid.{IsValid, NoneRose};
+ghost use Rattle.scan_multi.specs.Valid.{IsValid, NoneFailed};
 ghost use Rattle.scan_multi.specs.Causes.{told, told_file, Tells, IsLawful, IsIdle, IsSkippedOrRead, ReadWhereTold, FileMoves, EachMoves, HasCause, IsFileCause};
 
 use crate::gate::Gate;
@@ -479,7 +479,7 @@ pub fn scan_files<
     ensures untouched { IfSome (early_fault workers (length files.old.items) dtype.now request.now) (λ e. (files.new.items ≡ files.old.items) × (C.cache cache.new ≡ C.cache cache.old)) }
     ensures early { result ≢ Err ScanFault.NoMemory → IfSome (early_fault workers (length files.old.items) dtype.now request.now) (λ e. result ≡ Err e) }
     ensures cause { IfErr result (λ e. HasCause O.opener S.state workers dtype.now request.now (C.cache cache.old) files.old.items files.new.items e) }
-    ensures complete { IfErr result (λ e. is_built workers (length files.old.items) dtype.now request.now ≡ true → IsLawful O.opener S.state files.old.items (C.cache cache.old) → IsValid workers dtype.now request.now (told O.opener S.state files.old.items) → NoneRose O.opener S.state files.old.items files.new.items → e ≡ ScanFault.NoMemory) }
+    ensures complete { IfErr result (λ e. is_built workers (length files.old.items) dtype.now request.now ≡ true → IsLawful O.opener S.state files.old.items (C.cache cache.old) → IsValid workers dtype.now request.now (told O.opener S.state files.old.items) → NoneFailed O.opener S.state files.old.items files.new.items → e ≡ ScanFault.NoMemory) }
 {
     if !is_built(workers, files.len(), dtype, request) {
         return Err(ScanFault::NotBuilt);

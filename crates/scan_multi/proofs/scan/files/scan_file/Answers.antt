@@ -86,7 +86,7 @@ returns-in-Failed-clause-moves g c =
 
 pub returns-in-Failed-clause-cause : goal.returns-in-Failed-clause-cause
 returns-in-Failed-clause-cause g c =
-    (c.in-Failed.ensures.1, c.in-Failed.ensures.2)
+    c.in-Failed.ensures.1
 
 pub returns-in-Failed-clause-named : goal.returns-in-Failed-clause-named
 returns-in-Failed-clause-named g c =
