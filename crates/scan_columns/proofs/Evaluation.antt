@@ -49,7 +49,7 @@ true_on s e (v ∷ vs) h =
     let p = neither (overflows s e (marked v) 0) (overflows_on s e vs) h in
     λ i. is_true (clean_on s e v p.0 i) ∷ true_on s e vs p.1 i
 
-chain_marked : (vs : List Val) → marked_all (vals_of vs) ≡ chained (map marked vs)
+pub chain_marked : (vs : List Val) → marked_all (vals_of vs) ≡ chained (map marked vs)
 chain_marked [] = refl
 chain_marked (v ∷ vs) = ap (more (marked v)) (chain_marked vs)
 

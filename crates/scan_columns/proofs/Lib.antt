@@ -1,5 +1,15 @@
 pub mod ListLemmas
 pub mod TypedLemmas
+pub mod NestedLemmas
+pub mod FieldLemmas
+pub mod PartLemmas
+pub mod LeafLemmas
+pub mod NumberLemmas
 pub mod FitLemmas
 pub mod Evaluation
-pub mod Comparing
+pub mod RowLemmas
+pub mod Sizes
+pub mod Pairing
+pub mod Joining
+pub mod KernelLemmas
+pub mod StructLemmas

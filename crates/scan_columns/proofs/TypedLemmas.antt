@@ -131,7 +131,7 @@ both_lengths (b ∷ bs) [] h = absurd (omega (arith, h))
 both_lengths (b ∷ bs) (m ∷ ms) h = λ i. suc (both_lengths bs ms (omega (arith, h)) i)
 
 -- the nulls are the slots without a value
-typed_nulls : {A : Type 0} (f : A → Val) (xs : List A) (bs : List Bool) → ((x : A) → is_nothing (marked (f x)) ≡ false) → length bs ≡ length xs → map not bs ≡ map (λ v. is_nothing (marked v)) (typed f xs bs)
+pub typed_nulls : {A : Type 0} (f : A → Val) (xs : List A) (bs : List Bool) → ((x : A) → is_nothing (marked (f x)) ≡ false) → length bs ≡ length xs → map not bs ≡ map (λ v. is_nothing (marked v)) (typed f xs bs)
 typed_nulls f [] [] there h = refl
 typed_nulls f [] (b ∷ bs) there h = absurd (omega (arith, h))
 typed_nulls f (x ∷ xs) [] there h = absurd (omega (arith, h))

@@ -1,5 +1,12 @@
 pub mod Typed
+pub mod Nested
+pub mod Parts
+pub mod Numbers
 pub mod Cells
+pub mod CellsFall
 pub mod Compared
 pub mod Evaluated
+pub mod Joined
 pub mod Literals
+pub mod Operands
+pub mod Rows

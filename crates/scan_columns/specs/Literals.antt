@@ -1,9 +1,8 @@
--- The number that an operand of a comparison is.
+-- Which operators compare or add, and the number that an operand is.
 use Rattle.std.specs.Prelude.{ℤ, Bool, true, false, cond, Option, Some, None}
 use Rattle.scan_values.specs.Val.{Val, null_val, bool_val, int_val, text_val, list_val, struct_val}
 use Rattle.scan_expr.specs.declared.op.Binary.{Binary}
 use Rattle.scan_expr.specs.declared.op.Binary.TheVariants.{Mask, And, Or, Equal, NotEqual, Less, LessOrEqual, Greater, GreaterOrEqual, CheckedAdd, CheckedSub}
-use Rattle.scan_expr.specs.Expr.{Expr, root, row_index, literal, unary, binary, pack}
 
 abbrev pub is_comparison : Binary → Bool
 is_comparison Mask = false
@@ -18,6 +17,32 @@ is_comparison GreaterOrEqual = true
 is_comparison CheckedAdd = false
 is_comparison CheckedSub = false
 
+abbrev pub is_sum : Binary → Bool
+is_sum Mask = false
+is_sum And = false
+is_sum Or = false
+is_sum Equal = false
+is_sum NotEqual = false
+is_sum Less = false
+is_sum LessOrEqual = false
+is_sum Greater = false
+is_sum GreaterOrEqual = false
+is_sum CheckedAdd = true
+is_sum CheckedSub = true
+
+abbrev pub is_logic : Binary → Bool
+is_logic Mask = false
+is_logic And = true
+is_logic Or = true
+is_logic Equal = false
+is_logic NotEqual = false
+is_logic Less = false
+is_logic LessOrEqual = false
+is_logic Greater = false
+is_logic GreaterOrEqual = false
+is_logic CheckedAdd = false
+is_logic CheckedSub = false
+
 abbrev pub number_of : Val → Option ℤ
 number_of null_val = None
 number_of (bool_val b) = None
@@ -25,11 +50,3 @@ number_of (int_val z) = Some z
 number_of (text_val s) = None
 number_of (list_val vs) = None
 number_of (struct_val vs) = None
-
-abbrev pub number_in : Expr → Option ℤ
-number_in root = None
-number_in row_index = None
-number_in (literal d w) = number_of w
-number_in (unary u e) = None
-number_in (binary b x y) = None
-number_in (pack ps n) = None

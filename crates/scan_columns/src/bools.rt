@@ -1,12 +1,14 @@
 // Truth values, kept as bits.
-ghost use Rattle.std.specs.Prelude.{◌≡◌, ◌<◌, ◌≤◌, ◌++◌, slice_range, cond, IfOk, IfSome, Some, map, length, slice_get};
+ghost use Rattle.std.specs.Prelude.{◌≡◌, ◌<◌, ◌≤◌, ◌++◌, ◌∷◌, [], slice_range, cond, IfOk, IfSome, Some, map, length, slice_get};
 ghost use Rattle.std.specs.List.{items_where_true};
 ghost use Rattle.scan_values.specs.Marked.{is_true};
 ghost use Rattle.scan_values.specs.Values.{val_of};
 ghost use Rattle.scan_values.specs.Val.{marked, null_val, bool_val};
 ghost use Rattle.scan_values.specs.Masks.{null_where_false};
 ghost use Rattle.scan_expr.specs.Eval.{is_nothing};
-ghost use Rattle.scan_columns.specs.Typed.{typed};
+ghost use Rattle.scan_layout.specs.LeafColumns.{bool_or_null};
+ghost use Rattle.scan_columns.specs.Typed.{typed, cell};
+ghost use Rattle.scan_columns.specs.Evaluated.{not_val};
 
 use crate::slots::{both, contrary, kept};
 use scan_values::{Mask, NoMemory, Value};
@@ -60,6 +62,15 @@ impl Bools {
         ensures { Some (val_of result) ≡ slice_get self.now i }
     {
         bool_at(self.values.as_slice(), self.valid.as_slice(), i)
+    }
+
+    /// The bit of the slot at a place, and whether it is there.
+    #[tactic(auto, using(crate::proofs::TypedLemmas::typed_length))]
+    pub fn slot(&self, i: usize) -> (bool, bool)
+        requires { i < length self.now }
+        ensures { Some (cell bool_val result) ≡ slice_get self.now i }
+    {
+        bool_slot_at(self.values.as_slice(), self.valid.as_slice(), i)
     }
 
     /// The values.
@@ -126,6 +137,20 @@ impl Bools {
         Ok(Bools::new(values, valid))
     }
 
+    /// These, and then one more.
+    #[tactic(auto, using(crate::proofs::TypedLemmas::typed_append, crate::proofs::TypedLemmas::pushed_even))]
+    pub fn pushed(self, value: Option<bool>) -> Result<Bools, NoMemory>
+        ensures { IfOk result (λ v. v ≡ self ++ bool_or_null value ∷ []) }
+    {
+        let Bools {
+            mut values,
+            mut valid,
+        } = self;
+        values.push(value.unwrap_or(false))?;
+        valid.push(value.is_some())?;
+        Ok(Bools::new(values, valid))
+    }
+
     /// A copy that equals this one.
     pub fn try_clone(&self, alloc: Global) -> Result<Bools, NoMemory>
         ensures { IfOk result (λ v. v ≡ self.now) }
@@ -137,6 +162,25 @@ impl Bools {
 }
 
 impl Bools {
+    /// These truth values, each there.
+    #[tactic(auto, using(crate::proofs::KernelLemmas::typed_full))]
+    pub fn of_bits(alloc: Global, bits: Vec<bool>) -> Result<Bools, NoMemory>
+        ensures { IfOk result (λ v. v ≡ map bool_val bits.items) }
+    {
+        let valid = vec![in alloc; true; bits.len()]?;
+        Ok(Bools::new(bits, valid))
+    }
+
+    /// Of each the contrary.
+    #[tactic(auto, using(crate::proofs::KernelLemmas::typed_not, crate::proofs::KernelLemmas::not_length))]
+    pub fn negated(&self, alloc: Global) -> Result<Bools, NoMemory>
+        ensures { IfOk result (λ v. v ≡ map not_val self.now) }
+    {
+        let values = contrary(alloc, self.values.as_slice())?;
+        let valid = Vec::from_slice(alloc, self.valid.as_slice())?;
+        Ok(Bools::new(values, valid))
+    }
+
     /// Where the value is true.
     pub fn truths(&self, alloc: Global) -> Result<Mask, NoMemory>
         ensures { IfOk result (λ m. m ≡ map (λ v. is_true (marked v)) self.now) }
@@ -158,6 +202,14 @@ fn bool_at(values: &[bool], valid: &[bool], i: usize) -> Value
     ensures { Some (val_of result) ≡ slice_get (typed bool_val values.now valid.now) i }
 {
     bool_cell(values[i], valid[i])
+}
+
+fn bool_slot_at(values: &[bool], valid: &[bool], i: usize) -> (bool, bool)
+    requires place { i < length values.now }
+    requires even { length valid.now ≡ length values.now }
+    ensures { Some (cell bool_val result) ≡ slice_get (typed bool_val values.now valid.now) i }
+{
+    (values[i], valid[i])
 }
 
 fn bool_values(alloc: Global, values: &[bool], valid: &[bool]) -> Result<Vec<Value>, NoMemory>

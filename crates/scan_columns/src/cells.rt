@@ -13,20 +13,93 @@ ghost use Rattle.scan_columns.specs.Cells.{vals_in};
 use crate::bools::{Bools, bools_of};
 use crate::compared::is_null;
 use crate::constant::Constant;
+use crate::ends::Ends;
 use crate::ints::{Ints, ints_of};
 use crate::values::{appended, compared_values, copied, kept_values, masked_values};
 use scan_expr::{Binary, Lent};
 use scan_values::{DType, Mask, NoMemory, Value, Values};
 use std::alloc::Global;
+use std::marker::Model;
 use std::ops::Range;
 
 /// Cells, kept by kind.
+#[cycle(cells)]
 #[derive(Drop)]
 pub enum Cells {
     Ints(Ints),
     Bools(Bools),
     Values(Values),
     Constant(Constant),
+    Lists(Lists),
+    Structs(Structs),
+}
+
+/// Lists: the cells of all their elements, and where each list ends.
+#[cycle(cells)]
+#[derive(Drop)]
+pub struct Lists {
+    pub(crate) ends: Ends,
+    pub(crate) valid: Vec<bool>,
+    pub(crate) elements: Box<Cells>,
+}
+
+impl Model for Lists {
+    ghost use Rattle.std.specs.Prelude.{◌≡◌, length};
+    ghost use Rattle.scan_columns.specs.Nested.{Deep, deep_code, cuts, total, list_of};
+    ghost use Rattle.scan_columns.specs.Typed.{typed};
+
+    ghost Value = { Deep };
+
+    ghost coded = { deep_code };
+
+    ghost use Rattle.scan_columns.specs.Cells.{vals_in, depth_in};
+
+    ghost view = { λ a. record {
+      depth = depth_in a.elements.value;
+      items = typed list_of (cuts a.ends (vals_in a.elements.value)) a.valid.items;
+    } };
+
+    ghost invariant = { λ a. (length a.valid.items ≡ length a.ends)
+        × (total a.ends ≡ length (vals_in a.elements.value)) };
+
+    ghost size = { λ d. d.depth };
+
+    ghost use Rattle.scan_columns.specs.CellsFall.{list_falls};
+
+    ghost size_decreases = { λ a h. list_falls a.elements.value };
+}
+
+/// Structs: the cells of each field.
+#[cycle(cells)]
+#[derive(Drop)]
+pub struct Structs {
+    pub(crate) valid: Vec<bool>,
+    pub(crate) fields: Vec<Cells>,
+}
+
+impl Model for Structs {
+    ghost use Rattle.std.specs.Prelude.{map, length};
+    ghost use Rattle.scan_columns.specs.Nested.{Deep, deep_code, rows_of, struct_of, AreLong};
+    ghost use Rattle.scan_columns.specs.Typed.{typed};
+
+    ghost Value = { Deep };
+
+    ghost coded = { deep_code };
+
+    ghost use Rattle.scan_columns.specs.Cells.{vals_in, deepest};
+
+    ghost view = { λ a. record {
+      depth = deepest a.fields.items;
+      items = typed struct_of (rows_of (length a.valid.items) (map vals_in a.fields.items)) a.valid.items;
+    } };
+
+    ghost invariant = { λ a. AreLong (length a.valid.items) (map vals_in a.fields.items) };
+
+    ghost size = { λ d. d.depth };
+
+    ghost use Rattle.scan_columns.specs.CellsFall.{struct_falls};
+
+    ghost size_decreases = { λ a h. struct_falls a.fields.items };
 }
 
 impl Cells {
@@ -56,23 +129,40 @@ impl Cells {
             Cells::Bools(bools) => bools.len(),
             Cells::Values(values) => values.len(),
             Cells::Constant(constant) => constant.len(),
+            Cells::Lists(lists) => lists.len(),
+            Cells::Structs(structs) => structs.len(),
         }
     }
 
     /// The value at a place, lent or made.
-    pub fn lent<'a>(&'a self, i: usize) -> Lent<'a>
+    pub fn lent<'a>(&'a self, alloc: Global, i: usize) -> Result<Lent<'a>, NoMemory>
         requires { i < length (vals_in self.now) }
-        ensures { Some (lent_val result) ≡ slice_get (vals_in self.entry.now) i }
+        ensures { IfOk result (λ v. Some (lent_val v) ≡ slice_get (vals_in self.entry.now) i) }
     {
         match self {
-            Cells::Ints(ints) => Lent::Made(ints.value(i)),
-            Cells::Bools(bools) => Lent::Made(bools.value(i)),
-            Cells::Values(values) => Lent::Held(&values.as_slice()[i]),
-            Cells::Constant(constant) => Lent::Held(constant.value(i)),
+            Cells::Ints(ints) => Ok(Lent::Made(ints.value(i))),
+            Cells::Bools(bools) => Ok(Lent::Made(bools.value(i))),
+            Cells::Values(values) => Ok(Lent::Held(&values.as_slice()[i])),
+            Cells::Constant(constant) => Ok(Lent::Held(constant.value(i))),
+            Cells::Lists(_) | Cells::Structs(_) => Ok(Lent::Made(self.made(alloc, i)?)),
+        }
+    }
+
+    /// The value at a place, made anew.
+    fn made(&self, alloc: Global, i: usize) -> Result<Value, NoMemory>
+        requires { i < length (vals_in self.now) }
+        ensures { IfOk result (λ v. Some (val_of v) ≡ slice_get (vals_in self.now) i) }
+    {
+        let _count = self.len();
+        let mut values = self.slice(alloc, i..i + 1)?.into_values(alloc)?;
+        match values.pop() {
+            Some(value) => Ok(value),
+            None => Ok(Value::Null),
         }
     }
 
     /// The values, moved where they are kept as such.
+    #[cycle(into_values)]
     pub fn into_values(self, alloc: Global) -> Result<Vec<Value>, NoMemory>
         ensures { IfOk result (λ v. map val_of v.items ≡ vals_in self) }
     {
@@ -81,10 +171,13 @@ impl Cells {
             Cells::Bools(bools) => bools.to_values(alloc),
             Cells::Values(values) => Ok(values.into_vec()),
             Cells::Constant(constant) => constant.to_values(alloc),
+            Cells::Lists(lists) => lists.into_values(alloc),
+            Cells::Structs(structs) => structs.into_values(alloc),
         }
     }
 
     /// Those at which the mask is true.
+    #[cycle(filter)]
     pub fn filter(&self, alloc: Global, m: &Mask) -> Result<Cells, NoMemory>
         requires { length m.now ≡ length (vals_in self.now) }
         ensures { IfOk result (λ c. vals_in c ≡ items_where_true m.now (vals_in self.now)) }
@@ -97,6 +190,8 @@ impl Cells {
                 Ok(Cells::Values(Values::new(made)))
             }
             Cells::Constant(constant) => Ok(Cells::Constant(constant.filter(alloc, m)?)),
+            Cells::Lists(lists) => Ok(Cells::Lists(lists.filter(alloc, m)?)),
+            Cells::Structs(structs) => Ok(Cells::Structs(structs.filter(alloc, m)?)),
         }
     }
 
@@ -117,10 +212,13 @@ impl Cells {
                 let made = masked_values(alloc, values.as_slice(), m)?;
                 Ok(Cells::Values(Values::new(made)))
             }
+            Cells::Lists(lists) => Ok(Cells::Lists(lists.mask(alloc, m)?)),
+            Cells::Structs(structs) => Ok(Cells::Structs(structs.mask(alloc, m)?)),
         }
     }
 
     /// Those of a range of places.
+    #[cycle(slice)]
     pub fn slice(&self, alloc: Global, r: Range<usize>) -> Result<Cells, NoMemory>
         requires ordered { r.start ≤ r.end }
         requires within { r.end ≤ length (vals_in self.now) }
@@ -134,16 +232,22 @@ impl Cells {
                 Ok(Cells::Values(Values::new(made)))
             }
             Cells::Constant(constant) => Ok(Cells::Constant(constant.slice(alloc, r)?)),
+            Cells::Lists(lists) => Ok(Cells::Lists(lists.slice(alloc, r)?)),
+            Cells::Structs(structs) => Ok(Cells::Structs(structs.slice(alloc, r)?)),
         }
     }
 
     /// These, and then the others: of one kind as that kind, else as values.
+    #[cycle(append)]
     pub fn append(self, alloc: Global, other: Cells) -> Result<Cells, NoMemory>
         ensures { IfOk result (λ c. vals_in c ≡ vals_in self ++ vals_in other) }
     {
         match (self, other) {
             (Cells::Ints(ints), Cells::Ints(others)) => Ok(Cells::Ints(ints.append(&others)?)),
             (Cells::Bools(bools), Cells::Bools(others)) => Ok(Cells::Bools(bools.append(&others)?)),
+            (Cells::Lists(lists), Cells::Lists(others)) => {
+                Ok(Cells::Lists(lists.append(alloc, others)?))
+            }
             (first, second) => {
                 let values = first.into_values(alloc)?;
                 let others = second.into_values(alloc)?;
@@ -154,6 +258,7 @@ impl Cells {
     }
 
     /// A copy that equals this one.
+    #[cycle(clone)]
     pub fn try_clone(&self, alloc: Global) -> Result<Cells, NoMemory>
         ensures { IfOk result (λ c. vals_in c ≡ vals_in self.now) }
     {
@@ -162,6 +267,8 @@ impl Cells {
             Cells::Bools(bools) => Ok(Cells::Bools(bools.try_clone(alloc)?)),
             Cells::Values(values) => Ok(Cells::Values(values.try_clone(alloc)?)),
             Cells::Constant(constant) => Ok(Cells::Constant(constant.try_clone(alloc)?)),
+            Cells::Lists(lists) => Ok(Cells::Lists(lists.try_clone(alloc)?)),
+            Cells::Structs(structs) => Ok(Cells::Structs(structs.try_clone(alloc)?)),
         }
     }
 
@@ -181,6 +288,11 @@ impl Cells {
                 Ok(Cells::Values(Values::new(made)))
             }
             Cells::Constant(constant) => Ok(Cells::Constant(constant.compare(op, literal))),
+            Cells::Lists(_) | Cells::Structs(_) => {
+                let values = self.try_clone(alloc)?.into_values(alloc)?;
+                let made = compared_values(alloc, op, values.as_slice(), literal)?;
+                Ok(Cells::Values(Values::new(made)))
+            }
         }
     }
 
@@ -193,7 +305,7 @@ impl Cells {
             _ => {
                 let mut bits = Vec::with_capacity(alloc, self.len())?;
                 for i in 0..self.len() {
-                    bits.push(self.lent(i).as_value().is_true())?;
+                    bits.push(self.lent(alloc, i)?.as_value().is_true())?;
                 }
                 Ok(Mask::from_bools(bits))
             }
@@ -208,6 +320,8 @@ impl Cells {
             Cells::Ints(ints) => ints.nulls(alloc),
             Cells::Bools(bools) => bools.nulls(alloc),
             Cells::Constant(constant) => constant.nulls(alloc),
+            Cells::Lists(lists) => lists.nulls(alloc),
+            Cells::Structs(structs) => structs.nulls(alloc),
             Cells::Values(values) => {
                 let items = values.as_slice();
                 let mut bits = Vec::with_capacity(alloc, items.len())?;

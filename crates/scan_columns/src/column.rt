@@ -105,11 +105,11 @@ impl Column {
     }
 
     /// The value at a place: lent where the column keeps it, or made.
-    pub fn value<'a>(&'a self, i: usize) -> Lent<'a>
+    pub fn value<'a>(&'a self, alloc: Global, i: usize) -> Result<Lent<'a>, NoMemory>
         requires { i < length self.now.items }
-        ensures { Some (lent_val result) ≡ slice_get self.entry.now.items i }
+        ensures { IfOk result (λ v. Some (lent_val v) ≡ slice_get self.entry.now.items i) }
     {
-        self.cells.lent(i)
+        self.cells.lent(alloc, i)
     }
 
     /// The values as an array, moved where they are kept as such.

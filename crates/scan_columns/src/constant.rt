@@ -1,8 +1,8 @@
 // One value, so many times.
-ghost use Rattle.std.specs.Prelude.{◌≡◌, ◌<◌, ◌≤◌, ◌-◌, IfOk, Some, map, length, replicate, slice_get, slice_range};
+ghost use Rattle.std.specs.Prelude.{◌≡◌, ◌<◌, ◌≤◌, ◌-◌, IfOk, IfSome, Some, map, length, replicate, slice_get, slice_range};
 ghost use Rattle.std.specs.List.{items_where_true};
 ghost use Rattle.scan_values.specs.Values.{val_of};
-ghost use Rattle.scan_values.specs.Val.{marked};
+ghost use Rattle.scan_values.specs.Val.{marked, bool_val, int_val};
 ghost use Rattle.scan_expr.specs.Eval.{is_nothing};
 ghost use Rattle.scan_columns.specs.Compared.{compare_val};
 
@@ -73,6 +73,26 @@ impl Constant {
             Mask::new_true(alloc, self.len)
         } else {
             Mask::new_false(alloc, self.len)
+        }
+    }
+
+    /// The number that the value is, where it is one.
+    pub fn number(&self) -> Option<i128>
+        ensures { IfSome result (λ z. self.now ≡ replicate (length self.now) (int_val z)) }
+    {
+        match self.value {
+            Value::Int(number) => Some(number),
+            _ => None,
+        }
+    }
+
+    /// The truth value that the value is, where it is one.
+    pub fn truth(&self) -> Option<bool>
+        ensures { IfSome result (λ b. self.now ≡ replicate (length self.now) (bool_val b)) }
+    {
+        match self.value {
+            Value::Bool(bit) => Some(bit),
+            _ => None,
         }
     }
 

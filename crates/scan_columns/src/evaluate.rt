@@ -1,21 +1,24 @@
 // Evaluation of bound expressions over columns.
-ghost use Rattle.std.specs.Prelude.{◌≡◌, IfOk, IfSome, Some, map, replicate, Err, true, false};
+ghost use Rattle.std.specs.Prelude.{◌≡◌, IfOk, map, Err, true, false};
+ghost use Rattle.std.specs.List.{range_with_len};
 ghost use Rattle.scan_values.specs.Val.{marked};
 ghost use Rattle.scan_values.specs.Marked.{is_true};
-ghost use Rattle.scan_expr.specs.Expr.{uses_row_index, binary};
-ghost use Rattle.scan_values.specs.Values.{val_of};
-ghost use Rattle.scan_columns.specs.Literals.{is_comparison, number_of, number_in};
+ghost use Rattle.scan_expr.specs.Expr.{uses_row_index};
 ghost use Rattle.scan_expr.specs.Infer.{infer};
 ghost use Rattle.scan_expr.specs.Eval.{eval};
 ghost use Rattle.scan_expr.specs.Overflow.{overflows_on};
 ghost use Rattle.scan_columns.specs.Cells.{vals_in};
-ghost use Rattle.scan_columns.specs.Evaluated.{value_on};
+ghost use Rattle.scan_columns.specs.Evaluated.{value_in, overflows_in};
+ghost use Rattle.scan_columns.specs.Rows.{part_rows, AreColumnsOf};
+ghost use Rattle.scan_columns.specs.Joined.{AreAsLong, IsScopeOf, joined_at, root_overflows};
 
 use crate::cells::Cells;
 use crate::column::Column;
-use crate::constant::Constant;
-use scan_expr::{ApplyFault, Binary, BoundExpression, BoundNode};
-use scan_values::{Mask, NoMemory, Value, Values};
+use crate::nodes::{evaluated, field_place};
+use crate::parts::cells_of;
+use crate::rows::Rows;
+use scan_expr::{ApplyFault, BoundExpression};
+use scan_values::Mask;
 use std::alloc::Global;
 use std::sync::Arc;
 
@@ -32,9 +35,27 @@ impl Column {
         ensures overflow { result ≡ Err ApplyFault.Overflow →
             overflows_on expr.now.scope expr.now.expr self.now.items ≡ true }
     {
-        let cells = evaluated(alloc, expr, &self.cells)?;
+        let given = evaluated(alloc, expr, Rows::Whole(&self.cells))?;
+        let cells = given.into_cells(alloc)?;
         let dtype = Arc::new(alloc, expr.dtype().try_clone(alloc)?)?;
         Ok(Column::of_fitting(dtype, cells))
+    }
+
+    /// As `evaluate`, of a column that is given away: where the expression is `$`, nothing is copied.
+    pub fn evaluate_owned(self, alloc: Global, expr: &BoundExpression) -> Result<Column, ApplyFault>
+        requires scope { self.dtype ≡ expr.now.scope }
+        requires rows { uses_row_index expr.now.expr ≡ false }
+        ensures dtype { IfOk result (λ c. c.dtype ≡ infer expr.now.scope expr.now.expr) }
+        ensures items { IfOk result (λ c. map marked c.items ≡
+            map (λ v. eval expr.now.scope expr.now.expr (marked v) 0) self.items) }
+        ensures within { IfOk result (λ _. overflows_on expr.now.scope expr.now.expr self.items ≡ false) }
+        ensures overflow { result ≡ Err ApplyFault.Overflow →
+            overflows_on expr.now.scope expr.now.expr self.items ≡ true }
+    {
+        if expr.is_root() {
+            return Ok(self);
+        }
+        self.evaluate(alloc, expr)
     }
 
     /// For each value of the column, whether an expression is true on it; no value is made where the result is kept as
@@ -48,113 +69,54 @@ impl Column {
         ensures overflow { result ≡ Err ApplyFault.Overflow →
             overflows_on expr.now.scope expr.now.expr self.now.items ≡ true }
     {
-        let cells = evaluated(alloc, expr, &self.cells)?;
-        Ok(cells.truths(alloc)?)
+        let given = evaluated(alloc, expr, Rows::Whole(&self.cells))?;
+        Ok(given.as_cells().truths(alloc)?)
+    }
+
+    /// For each row the root's value, over the struct of the parts' values in that row, which is not made: a field of
+    /// the root is the part at its place. `Overflow` exactly where the root overflows on some row. Condition: the root
+    /// is over a struct of the parts' dtypes, and each part has this length.
+    pub fn evaluate_over(
+        alloc: Global,
+        root: &BoundExpression,
+        parts: Vec<Column>,
+        len: usize,
+    ) -> Result<Column, ApplyFault>
+        requires scope { IsScopeOf parts.items root.now.scope }
+        requires length { AreAsLong len parts.items }
+        ensures dtype { IfOk result (λ c. c.dtype ≡ infer root.now.scope root.now.expr) }
+        ensures items { IfOk result (λ c. map marked c.items ≡
+            map (joined_at root.now parts.items) (range_with_len 0 len)) }
+        ensures within { IfOk result (λ _. root_overflows root.now parts.items len ≡ false) }
+        ensures overflow { result ≡ Err ApplyFault.Overflow → root_overflows root.now parts.items len ≡ true }
+    {
+        let columns = cells_of(alloc, parts)?;
+        let cells = over_columns(alloc, root, columns, len)?;
+        let dtype = Arc::new(alloc, root.dtype().try_clone(alloc)?)?;
+        Ok(Column::of_fitting(dtype, cells))
     }
 }
 
-/// The values of an expression on cells.
-#[cycle(evaluation)]
-fn evaluated(alloc: Global, expr: &BoundExpression, cells: &Cells) -> Result<Cells, ApplyFault>
-    ensures items { IfOk result (λ c. vals_in c ≡ map (value_on expr.now.scope expr.now.expr) (vals_in cells.now)) }
-    ensures within { IfOk result (λ _. overflows_on expr.now.scope expr.now.expr (vals_in cells.now) ≡ false) }
-    ensures overflow { result ≡ Err ApplyFault.Overflow →
-        overflows_on expr.now.scope expr.now.expr (vals_in cells.now) ≡ true }
-{
-    match expr.node() {
-        BoundNode::Root => Ok(cells.try_clone(alloc)?),
-        BoundNode::Literal(_, value) => Ok(Cells::Constant(repeated(alloc, value, cells.len())?)),
-        BoundNode::Binary(op, x, y) => match compared_number(op, y) {
-            Some(literal) => compared_with(alloc, op, x, y, literal, cells),
-            None => row_by_row(alloc, expr, cells),
-        },
-        _ => row_by_row(alloc, expr, cells),
-    }
-}
-
-/// A copy of a value, `len` times.
-fn repeated(alloc: Global, value: &Value, len: usize) -> Result<Constant, NoMemory>
-    ensures { IfOk result (λ c. c ≡ replicate len (val_of value.now)) }
-{
-    let value = value.try_clone(alloc)?;
-    Ok(Constant::new(value, len))
-}
-
-/// The number that a comparison is with, where it is with one.
-fn compared_number(op: Binary, y: &BoundExpression) -> Option<i128>
-    ensures { IfSome result (λ z. (is_comparison op ≡ true) × (number_in y.now.expr ≡ Some z)) }
-{
-    if is_comparison(op) {
-        literal_number(y)
-    } else {
-        None
-    }
-}
-
-fn is_comparison(op: Binary) -> bool
-    ensures { result ≡ is_comparison op }
-{
-    match op {
-        Binary::Equal | Binary::NotEqual => true,
-        Binary::Less | Binary::LessOrEqual => true,
-        Binary::Greater | Binary::GreaterOrEqual => true,
-        _ => false,
-    }
-}
-
-fn literal_number(y: &BoundExpression) -> Option<i128>
-    ensures { IfSome result (λ z. number_in y.now.expr ≡ Some z) }
-{
-    match y.node() {
-        BoundNode::Literal(_, value) => number_of(value),
-        _ => None,
-    }
-}
-
-fn number_of(value: &Value) -> Option<i128>
-    ensures { IfSome result (λ z. number_of (val_of value.now) ≡ Some z) }
-{
-    match value {
-        Value::Int(number) => Some(*number),
-        _ => None,
-    }
-}
-
-/// Of each value of an expression on cells whether it compares so with a number.
-#[cycle(evaluation)]
-fn compared_with(
+/// The root over columns: one of them, moved, where the root is a field.
+fn over_columns(
     alloc: Global,
-    op: Binary,
-    x: &BoundExpression,
-    y: &BoundExpression,
-    literal: i128,
-    cells: &Cells,
+    root: &BoundExpression,
+    mut columns: Vec<Cells>,
+    len: usize,
 ) -> Result<Cells, ApplyFault>
-    requires compares { is_comparison op ≡ true }
-    requires number { number_in y.now.expr ≡ Some literal }
+    requires over { AreColumnsOf root.now.scope len (map vals_in columns.items) }
     ensures items { IfOk result (λ c. vals_in c ≡
-        map (value_on x.now.scope (binary op x.now.expr y.now.expr)) (vals_in cells.now)) }
+        map (value_in root.now.scope root.now.expr) (part_rows (map vals_in columns.items) len)) }
     ensures within { IfOk result (λ _.
-        overflows_on x.now.scope (binary op x.now.expr y.now.expr) (vals_in cells.now) ≡ false) }
+        overflows_in root.now.scope root.now.expr (part_rows (map vals_in columns.items) len) ≡ false) }
     ensures overflow { result ≡ Err ApplyFault.Overflow →
-        overflows_on x.now.scope (binary op x.now.expr y.now.expr) (vals_in cells.now) ≡ true }
+        overflows_in root.now.scope root.now.expr (part_rows (map vals_in columns.items) len) ≡ true }
 {
-    let values = evaluated(alloc, x, cells)?;
-    Ok(values.compare(alloc, op, literal)?)
-}
-
-/// The same, of one value after another.
-fn row_by_row(alloc: Global, expr: &BoundExpression, cells: &Cells) -> Result<Cells, ApplyFault>
-    ensures items { IfOk result (λ c. vals_in c ≡ map (value_on expr.now.scope expr.now.expr) (vals_in cells.now)) }
-    ensures within { IfOk result (λ _. overflows_on expr.now.scope expr.now.expr (vals_in cells.now) ≡ false) }
-    ensures overflow { result ≡ Err ApplyFault.Overflow →
-        overflows_on expr.now.scope expr.now.expr (vals_in cells.now) ≡ true }
-{
-    let mut items = Vec::with_capacity(alloc, cells.len())?;
-    for i in 0..cells.len() {
-        let row = cells.lent(i);
-        let value = expr.value_at(alloc, row.as_value(), 0)?;
-        items.push(value)?;
+    match field_place(root) {
+        Some(place) => Ok(columns.swap_remove(place)),
+        None => {
+            let given = evaluated(alloc, root, Rows::Parts(columns.as_slice(), len))?;
+            Ok(given.into_cells(alloc)?)
+        }
     }
-    Ok(Cells::Values(Values::new(items)))
 }

@@ -1,5 +1,5 @@
 // Integers, kept as numbers.
-ghost use Rattle.std.specs.Prelude.{◌≡◌, ◌<◌, ◌≤◌, ◌++◌, slice_range, cond, IfOk, IfSome, Some, map, length, slice_get};
+ghost use Rattle.std.specs.Prelude.{◌≡◌, ◌<◌, ◌≤◌, ◌++◌, ◌∷◌, [], slice_range, cond, IfOk, IfSome, Some, map, length, slice_get};
 ghost use Rattle.std.specs.List.{items_where_true};
 ghost use Rattle.std.specs.Ordering.{int_cmp};
 ghost use Rattle.scan_expr.specs.Eval.{holds};
@@ -8,7 +8,8 @@ ghost use Rattle.scan_values.specs.Values.{val_of};
 ghost use Rattle.scan_values.specs.Val.{marked, null_val, int_val};
 ghost use Rattle.scan_values.specs.Masks.{null_where_false};
 ghost use Rattle.scan_expr.specs.Eval.{is_nothing};
-ghost use Rattle.scan_columns.specs.Typed.{typed};
+ghost use Rattle.scan_layout.specs.LeafColumns.{int_or_null};
+ghost use Rattle.scan_columns.specs.Typed.{typed, cell};
 
 use crate::bools::Bools;
 use crate::compared::holds_of;
@@ -65,6 +66,15 @@ impl Ints {
         ensures { Some (val_of result) ≡ slice_get self.now i }
     {
         int_at(self.values.as_slice(), self.valid.as_slice(), i)
+    }
+
+    /// The number of the slot at a place, and whether it is there.
+    #[tactic(auto, using(crate::proofs::TypedLemmas::typed_length))]
+    pub fn slot(&self, i: usize) -> (i128, bool)
+        requires { i < length self.now }
+        ensures { Some (cell int_val result) ≡ slice_get self.now i }
+    {
+        int_slot_at(self.values.as_slice(), self.valid.as_slice(), i)
     }
 
     /// The values.
@@ -131,6 +141,20 @@ impl Ints {
         Ok(Ints::new(values, valid))
     }
 
+    /// These, and then one more.
+    #[tactic(auto, using(crate::proofs::TypedLemmas::typed_append, crate::proofs::TypedLemmas::pushed_even))]
+    pub fn pushed(self, value: Option<i128>) -> Result<Ints, NoMemory>
+        ensures { IfOk result (λ v. v ≡ self ++ int_or_null value ∷ []) }
+    {
+        let Ints {
+            mut values,
+            mut valid,
+        } = self;
+        values.push(value.unwrap_or(0))?;
+        valid.push(value.is_some())?;
+        Ok(Ints::new(values, valid))
+    }
+
     /// A copy that equals this one.
     pub fn try_clone(&self, alloc: Global) -> Result<Ints, NoMemory>
         ensures { IfOk result (λ v. v ≡ self.now) }
@@ -169,6 +193,20 @@ fn int_at(values: &[i128], valid: &[bool], i: usize) -> Value
     ensures { Some (val_of result) ≡ slice_get (typed int_val values.now valid.now) i }
 {
     int_cell(&values[i], valid[i])
+}
+
+fn int_pair(number: &i128, there: bool) -> (i128, bool)
+    ensures { cell int_val result ≡ cond there (int_val number.now) null_val }
+{
+    (*number, there)
+}
+
+fn int_slot_at(values: &[i128], valid: &[bool], i: usize) -> (i128, bool)
+    requires place { i < length values.now }
+    requires even { length valid.now ≡ length values.now }
+    ensures { Some (cell int_val result) ≡ slice_get (typed int_val values.now valid.now) i }
+{
+    int_pair(&values[i], valid[i])
 }
 
 fn int_values(alloc: Global, values: &[i128], valid: &[bool]) -> Result<Vec<Value>, NoMemory>

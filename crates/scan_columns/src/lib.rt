@@ -1,18 +1,34 @@
 //! Columns: values of one dtype, kept by kind, and the evaluation of expressions over them.
 #![tactic(auto)]
 
+mod binary;
 mod bools;
+mod by_value;
 mod cells;
 mod column;
 mod compared;
 mod constant;
+mod ends;
 mod evaluate;
+mod integers;
 mod ints;
 mod laws;
+mod leaf;
+mod lists;
+mod nodes;
+mod numbers;
+mod parts;
+mod rest;
+mod rows;
 mod slots;
+mod structs;
 mod threads;
+mod truths;
+mod unary;
 mod values;
 
 pub use column::Column;
-pub use laws::an_evaluation_gives_what_apply_gives;
+pub use laws::{
+    an_evaluation_gives_what_apply_gives, an_evaluation_over_parts_gives_what_apply_gives,
+};
 pub use threads::columns_cross_threads;

@@ -1,6 +1,6 @@
 // The slots of typed cells, of whatever kind.
-ghost use Rattle.std.specs.Prelude.{◌≡◌, IfOk, map, length, not};
-ghost use Rattle.std.specs.List.{items_where_true};
+ghost use Rattle.std.specs.Prelude.{◌≡◌, ◌≤◌, IfOk, map, length, not, slice_range};
+ghost use Rattle.std.specs.List.{items_where_true, list_all};
 ghost use Rattle.scan_values.specs.Masks.{both_true};
 
 use scan_values::{Mask, NoMemory};
@@ -18,6 +18,21 @@ pub(crate) fn kept<T: Copy>(alloc: Global, items: &[T], m: &Mask) -> Result<Vec<
             made.push(*item)?;
         }
     }
+    Ok(made)
+}
+
+/// The items of a range of places.
+pub(crate) fn part<T: Copy>(
+    alloc: Global,
+    items: &[T],
+    from: usize,
+    to: usize,
+) -> Result<Vec<T>, NoMemory>
+    requires ordered { from ≤ to }
+    requires within { to ≤ length items.now }
+    ensures { IfOk result (λ v. v.items ≡ slice_range items.now from to) }
+{
+    let made = Vec::from_slice(alloc, &items[from..to])?;
     Ok(made)
 }
 
@@ -39,4 +54,11 @@ pub(crate) fn contrary(alloc: Global, bits: &[bool]) -> Result<Vec<bool>, NoMemo
 {
     let made = bits.iter().map(|b| !*b).collect(alloc)?;
     Ok(made)
+}
+
+/// Whether every bit is true.
+pub(crate) fn all_true(bits: &[bool]) -> bool
+    ensures { result ≡ list_all (λ b. b) bits.now }
+{
+    bits.iter().all(|b| *b)
 }

@@ -109,14 +109,19 @@ fn a_filter_keeps_the_rows_of_its_mask(rt: HostRuntime) -> Result<(), Fail> {
     Ok(())
 }
 
-/// A column under a mask, then a part of it.
-fn masked(alloc: Global, kind: Kind) -> Result<Array, Fail> {
+/// A column under a mask.
+fn under_mask(alloc: Global, kind: Kind) -> Result<Column, Fail> {
     let column = column(alloc, kind)?;
     let mask = Mask::from_bools(Vec::from_slice(alloc, &[true, true, false])?);
     if mask.len() != column.len() {
         return Err(Fail::from("another length"));
     }
-    let masked = column.mask(alloc, &mask)?;
+    Ok(column.mask(alloc, &mask)?)
+}
+
+/// A part of a column under a mask.
+fn masked(alloc: Global, kind: Kind) -> Result<Array, Fail> {
+    let masked = under_mask(alloc, kind)?;
     if masked.len() != 3 {
         return Err(Fail::from("another length"));
     }

@@ -3,3 +3,7 @@
 
 #[cfg(test)]
 mod columns;
+#[cfg(test)]
+mod nodes;
+#[cfg(test)]
+mod parts;

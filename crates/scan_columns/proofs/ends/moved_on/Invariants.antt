@@ -1,0 +1,9 @@
+use Rattle.std.proofs.Common.{◌≡◌, ◌++◌, drop}
+use Rattle.scan_columns.specs.Nested.{sizes, sums, Rises}
+use Rattle.scan_columns.proofs.ends.moved_on.Given as goal
+
+abbrev pub invariant-loop-end : goal.invariant-loop-end
+invariant-loop-end l = record {
+  made : l.made.items ++ sums l.last (sizes l.before (drop l.end-index l.others)) ≡ l.fn.ends.items ++ sums l.start (sizes 0 l.others);
+  rises : Rises l.before (drop l.end-index l.others);
+}
