@@ -1,0 +1,67 @@
+-- What is read where nothing lacks.
+use Rattle.std.proofs.Common.{◌≡◌, ℕ, ◌==◌, Bool, true, false, ◌||◌, ◌&&◌, List, [], ◌∷◌, Option, Some, None, Err, is_none, refl, ap, ◌∙◌, sym}
+use Rattle.std.specs.Prelude.{option_and_then}
+use Rattle.std.proofs.lemmas.Bool.{eqb-true}
+use Rattle.scan_values.specs.Selections.{is_among}
+use Rattle.scan_layout.specs.Spelling.{decode}
+use Rattle.scan_layout.specs.Places.{Place, decoded}
+use Rattle.scan_plans.specs.PlanTree.{PlanTree}
+use Rattle.scan_plans.specs.Came.{Came, arrived}
+use Rattle.scan_plans.specs.Wants.{wanted, names_id, lacks, spoils, is_bad}
+use Rattle.scan_plans.specs.Reads.{Collects, Reads, fails}
+use Rattle.scan_plans.specs.Given.{Complete, Lacks, Gives}
+use Rattle.scan_plans.specs.declared.fault.ReadFault.{ReadFault}
+use Rattle.scan_plans.specs.declared.fault.ReadFault.TheVariants.{Corrupt, Overflow, NoMemory}
+
+-- what has arrived and is no good there
+bad_here : (p : Place) (here : Came) (id : ℕ) → (p.id == id) ≡ true → is_none (here id) ≡ false → is_none (decoded (arrived here) p) ≡ true → is_bad p (here id) ≡ true
+bad_here p here id e n d = by (here id) refl n
+  where
+    same : p.id ≡ id
+    same = eqb-true p.id id e
+
+    by : (o : Option (Option (List ℕ))) → here id ≡ o → is_none o ≡ false → is_bad p o ≡ true
+    by None w n = absurd cc
+    by (Some None) w n = refl
+    by (Some (Some bytes)) w n = let z : arrived here p.id ≡ Some bytes = ap (arrived here) same ∙ ap (option_and_then (λ b. b)) w in sym (ap (λ o. is_none (option_and_then (decode p.spelling p.dtype p.rows) o)) z) ∙ d
+
+left_none : (a b c : Bool) → ((a || b) && c) ≡ false → a ≡ true → c ≡ false
+left_none true b c h e = h
+left_none false b c h e = absurd cc
+
+rest_none : (a b c : Bool) → ((a || b) && c) ≡ false → (b && c) ≡ false
+rest_none true true c h = h
+rest_none true false c h = refl
+rest_none false b c h = h
+
+pub fails_spoils : (places : List Place) (here : Came) (id : ℕ) → lacks places here id ≡ false → fails places (arrived here) id ≡ true → spoils places here id ≡ true
+fails_spoils [] here id c h = absurd cc
+fails_spoils (p ∷ ps) here id c h = first (p.id == id) (is_none (decoded (arrived here) p)) refl refl h (fails_spoils ps here id (rest_none (p.id == id) (names_id id ps) (is_none (here id)) c))
+  where
+    or_true : (b : Bool) → (b || true) ≡ true
+    or_true true = refl
+    or_true false = refl
+
+    first : (a d : Bool) → (p.id == id) ≡ a → is_none (decoded (arrived here) p) ≡ d → ((a && d) || fails ps (arrived here) id) ≡ true → (fails ps (arrived here) id ≡ true → spoils ps here id ≡ true) → (((p.id == id) && is_bad p (here id)) || spoils ps here id) ≡ true
+    first true true e f h later = let n = left_none (p.id == id) (names_id id ps) (is_none (here id)) c e in rw (e, bad_here p here id e n f) refl
+    first true false e f h later = rw (later h) (or_true ((p.id == id) && is_bad p (here id)))
+    first false d e f h later = rw (later h) (or_true ((p.id == id) && is_bad p (here id)))
+
+-- ---- what lacks
+pub lacks_none : (places : List Place) (here : Came) (ids : List ℕ) → ((id : ℕ) → is_among ids id ≡ (is_among [] id || lacks places here id)) → ids ≡ [] → Complete places here
+lacks_none places here ids h e id = sym (h id) ∙ ap (λ (js : List ℕ). is_among js id) e
+
+pub lacks_fault : (A : Type 0) (old new : List ℕ) (places : List Place) (here : Came) (f : ReadFault) → Collects {A = A} old new places here (Err f) → Lacks places here (Err f)
+lacks_fault A old new places here (Corrupt id) h = h
+lacks_fault A old new places here Overflow h = h
+lacks_fault A old new places here NoMemory h = tt
+
+pub gives_lack : (p : PlanTree) (here : Came) (is : List ℕ) (f : ReadFault) → Lacks (wanted p here is) here (Err f) → Gives p here is (Err f)
+gives_lack p here is (Corrupt id) h = h
+gives_lack p here is Overflow h = absurd h
+gives_lack p here is NoMemory h = tt
+
+pub gives_fault : (p : PlanTree) (here : Came) (is : List ℕ) (f : ReadFault) → Complete (wanted p here is) here → Reads p here is (Err f) → Gives p here is (Err f)
+gives_fault p here is (Corrupt id) c h = fails_spoils (wanted p here is) here id (c id) h
+gives_fault p here is Overflow c h = (c, h)
+gives_fault p here is NoMemory c h = tt

@@ -1,0 +1,8 @@
+use Rattle.scan_plans.specs.Came.{came}
+use Rattle.scan_plans.proofs.future.ArrayFuture.poll.Goals as goal
+
+pub returns-in-Ok-clause-answer : goal.returns-in-Ok-clause-answer
+returns-in-Ok-clause-answer c = c.answered.ensures (came c.args.inbox.now) c.args.self.now c.in-Ok.ensures.answer
+
+pub returns-in-Err-clause-answer : goal.returns-in-Err-clause-answer
+returns-in-Err-clause-answer c = c.refused.ensures (came c.args.inbox.now) c.args.self.now c.in-Err.ensures.answer

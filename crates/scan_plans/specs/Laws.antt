@@ -1,0 +1,27 @@
+-- Laws of what plans want.
+use Rattle.std.specs.Prelude.{◌≡◌, ◌+◌, ℕ, Bool, true, not, List, [], length}
+use Rattle.std.specs.List.{list_all}
+use Rattle.scan_values.specs.Selections.{is_among}
+use Rattle.scan_layout.specs.Places.{Place}
+use Rattle.scan_layout.specs.Touched.{leaf_touched}
+use Rattle.scan_plans.specs.PlanTree.{PlanTree}
+use Rattle.scan_plans.specs.Came.{Came}
+use Rattle.scan_plans.specs.Meaning.{true_rows}
+use Rattle.scan_plans.specs.Pruning.{IsWithin}
+use Rattle.scan_plans.specs.Wants.{leaf_wanted, wanted, may, names_id}
+
+-- what is wanted, whatever has arrived, is named when the plan is made
+abbrev pub WantsLieInMay : Type 0
+WantsLieInMay = (p : PlanTree) (here : Came) (is : List ℕ) (id : ℕ) → names_id id (wanted p here is) ≡ true → is_among (may p) id ≡ true
+
+-- true rows of a range want of a leaf only what the range touches
+abbrev pub LeavesWantWhatIsTouched : Type 0
+LeavesWantWhatIsTouched = (places : List Place) (base first : ℕ) (mask : List Bool) (id : ℕ) → names_id id (leaf_wanted base places (true_rows first mask)) ≡ true → names_id id (leaf_touched base places first (first + length mask)) ≡ true
+
+-- fewer rows want no more of a leaf
+abbrev pub LeavesWantNoMoreForLess : Type 0
+LeavesWantNoMoreForLess = (places : List Place) (base first : ℕ) (less mask : List Bool) (id : ℕ) → IsWithin less mask → names_id id (leaf_wanted base places (true_rows first less)) ≡ true → names_id id (leaf_wanted base places (true_rows first mask)) ≡ true
+
+-- no row wants nothing of a leaf
+abbrev pub NoRowWantsNothing : Type 0
+NoRowWantsNothing = (places : List Place) (base first : ℕ) (mask : List Bool) → list_all not mask ≡ true → leaf_wanted base places (true_rows first mask) ≡ []

@@ -1,0 +1,23 @@
+//! Plans: what a reader makes of an expression, what rows of it want of the segments, and what they give.
+#![tactic(auto)]
+
+mod fault;
+mod future;
+mod given;
+mod laws;
+mod leaf;
+mod mask;
+mod node;
+mod plan;
+mod reading;
+mod threads;
+
+pub use future::ArrayFuture;
+pub use laws::{
+    leaves_want_no_more_for_less, leaves_want_what_is_touched, no_row_wants_nothing_of_a_leaf,
+    wants_are_fixed_when_a_plan_is_made,
+};
+pub use mask::MaskFuture;
+pub use node::{PlanNode, PlanNodes};
+pub use plan::Plan;
+pub use threads::plans_cross_threads;

@@ -1,0 +1,268 @@
+//! What the examples are made of.
+ghost use Rattle.std.specs.Prelude.{◌≡◌, IfOk, length, true, false};
+ghost use Rattle.scan_values.specs.DataType.{int_type};
+ghost use Rattle.scan_values.specs.Fits.{is_bool_type};
+ghost use Rattle.scan_values.specs.declared.ptype.Nullability.TheVariants.{NonNullable};
+ghost use Rattle.scan_values.specs.declared.ptype.PType.TheVariants.{I32};
+ghost use Rattle.scan_expr.specs.Bound.{bound_of};
+ghost use Rattle.scan_expr.specs.Expr.{uses_row_index};
+ghost use Rattle.scan_expr.specs.Infer.{infer};
+ghost use Rattle.scan_layout.specs.Check.{total_rows};
+ghost use Rattle.scan_plans.specs.Meaning.{Within, plan_dtype};
+
+use scan_expr::{BoundExpression, Expression};
+use scan_layout::{LeafSegments, Spelling};
+use scan_plans::{ArrayFuture, MaskFuture, Plan, PlanNode};
+use scan_segments::{ByteBuffer, SegmentId};
+use scan_splits::{Arrival, Inbox, Poll, SegmentRuns};
+use scan_values::{Array, DType, Mask, Nullability, PType, Value};
+use std::alloc::Global;
+use std::sync::Arc;
+use std::test::Fail;
+
+/// Numbers of i32, without null.
+pub(crate) fn int() -> DType
+    ensures { result ≡ int_type PType.I32 Nullability.NonNullable }
+{
+    DType::primitive(PType::I32, Nullability::NonNullable)
+}
+
+/// An expression over numbers of i32.
+pub(crate) fn over_ints(alloc: Global, e: &Expression) -> Result<BoundExpression, Fail>
+    ensures { IfOk result (λ b. b ≡ bound_of (int_type PType.I32 Nullability.NonNullable) e.now) }
+{
+    let bound = e.bind(alloc, &int())?;
+    Ok(bound)
+}
+
+/// The segments 0, of two rows, and 1, of one.
+fn two_segments(alloc: Global) -> Result<SegmentRuns, Fail>
+    ensures { IfOk result (λ runs. total_rows runs ≡ 3) }
+{
+    let mut segments = Vec::new(alloc);
+    segments.push((SegmentId::from(0), 2))?;
+    segments.push((SegmentId::from(1), 1))?;
+    let segments = LeafSegments::new(segments);
+    Ok(SegmentRuns::from_segments(alloc, &segments)?)
+}
+
+/// The leaf of these segments.
+fn leaf(alloc: Global) -> Result<PlanNode, Fail>
+    ensures dtype { IfOk result (λ p. plan_dtype p ≡ int_type PType.I32 Nullability.NonNullable) }
+    ensures rows { IfOk result (λ p. Within p 3) }
+{
+    let runs = Arc::new(alloc, two_segments(alloc)?)?;
+    let dtype = Arc::new(alloc, int())?;
+    Ok(PlanNode::leaf(dtype, Spelling::One, runs))
+}
+
+/// The plan of `$` over the leaf.
+pub(crate) fn plan_of_leaf(alloc: Global) -> Result<Arc<Plan>, Fail>
+    ensures { IfOk result (λ p. Within (p.value).tree 3) }
+{
+    let bound = over_ints(alloc, &Expression::root())?;
+    let node = leaf(alloc)?;
+    Ok(Arc::new(alloc, Plan::new(bound, node))?)
+}
+
+/// `$ > 1`.
+fn above_one(alloc: Global) -> Result<Expression, Fail>
+    ensures rows { IfOk result (λ e. uses_row_index e ≡ false) }
+    ensures dtype { IfOk result (λ e. is_bool_type (infer (int_type PType.I32 Nullability.NonNullable) e) ≡ true) }
+{
+    let one = Expression::lit(int(), Value::Int(1));
+    Ok(Expression::gt(alloc, Expression::root(), one)?)
+}
+
+/// The plan of `$ > 1` over the leaf.
+pub(crate) fn plan_above_one(alloc: Global) -> Result<Arc<Plan>, Fail>
+    ensures rows { IfOk result (λ p. Within (p.value).tree 3) }
+    ensures dtype { IfOk result (λ p. is_bool_type (plan_dtype (p.value).tree) ≡ true) }
+{
+    let above = above_one(alloc)?;
+    let bound = over_ints(alloc, &above)?;
+    let node = PlanNode::evaluate(alloc, over_ints(alloc, &above)?, leaf(alloc)?)?;
+    Ok(Arc::new(alloc, Plan::new(bound, node))?)
+}
+
+/// The numbers 1, 2 and 3.
+pub(crate) fn numbers(alloc: Global) -> Result<Array, Fail>
+    ensures dtype { IfOk result (λ a. a.dtype ≡ int_type PType.I32 Nullability.NonNullable) }
+    ensures length { IfOk result (λ a. length a.items ≡ 3) }
+{
+    let mut items = Vec::new(alloc);
+    for number in [1, 2, 3] {
+        items.push(Value::Int(number))?;
+    }
+    if items.len() != 3 {
+        return Err(Fail::from("not three"));
+    }
+    Ok(Array::try_new(int(), items)?)
+}
+
+/// The plan of `$` over them.
+pub(crate) fn plan_of_numbers(alloc: Global) -> Result<Arc<Plan>, Fail>
+    ensures { IfOk result (λ p. Within (p.value).tree 3) }
+{
+    let bound = over_ints(alloc, &Expression::root())?;
+    let array = Arc::new(alloc, numbers(alloc)?)?;
+    Ok(Plan::rows(alloc, bound, array)?)
+}
+
+/// The plan of 1 over numbers, of which it reads none.
+pub(crate) fn plan_of_one(alloc: Global) -> Result<Arc<Plan>, Fail>
+    ensures { IfOk result (λ p. Within (p.value).tree 3) }
+{
+    let one = Expression::lit(int(), Value::Int(1));
+    let bound = over_ints(alloc, &one)?;
+    let node = PlanNode::constant(over_ints(alloc, &one)?);
+    Ok(Arc::new(alloc, Plan::new(bound, node))?)
+}
+
+/// A mask that is known.
+pub(crate) fn known(alloc: Global, bits: &[bool]) -> Result<MaskFuture, Fail>
+    ensures { IfOk result (λ m. length m.known ≡ length bits.now) }
+{
+    let bits = Vec::from_slice(alloc, bits)?;
+    Ok(MaskFuture::ready(alloc, Mask::from_bools(bits)))
+}
+
+/// The values of the first three rows of a plan, under a mask.
+pub(crate) fn project(alloc: Global, plan: &Arc<Plan>, bits: [bool; 3]) -> Result<ArrayFuture, Fail>
+    requires { Within (plan.now.value).tree 3 }
+{
+    let mask = known(alloc, &bits)?;
+    Ok(Plan::project(plan, &(0..3), mask)?)
+}
+
+/// All values of the first three rows of a plan.
+pub(crate) fn project_all(alloc: Global, plan: &Arc<Plan>) -> Result<ArrayFuture, Fail>
+    requires { Within (plan.now.value).tree 3 }
+{
+    let mask = MaskFuture::new_true(alloc, 3)?;
+    Ok(Plan::project(plan, &(0..3), mask)?)
+}
+
+/// The first three rows of a plan, under a mask, that are true.
+pub(crate) fn filter(alloc: Global, plan: &Arc<Plan>, bits: [bool; 3]) -> Result<MaskFuture, Fail>
+    requires rows { Within (plan.now.value).tree 3 }
+    requires dtype { is_bool_type (plan_dtype (plan.now.value).tree) ≡ true }
+{
+    let mask = known(alloc, &bits)?;
+    Ok(Plan::filter(plan, &(0..3), mask)?)
+}
+
+/// The first three rows of a plan, under a mask, that pruning keeps.
+pub(crate) fn prune(alloc: Global, plan: &Arc<Plan>, bits: [bool; 3]) -> Result<MaskFuture, Fail>
+    requires rows { Within (plan.now.value).tree 3 }
+    requires dtype { is_bool_type (plan_dtype (plan.now.value).tree) ≡ true }
+{
+    let bits = Vec::from_slice(alloc, &bits)?;
+    Ok(Plan::prune(alloc, plan, &(0..3), Mask::from_bools(bits))?)
+}
+
+/// What came of a segment.
+fn arrive(inbox: &mut Inbox, id: u32, arrival: Arrival) -> Result<(), Fail> {
+    let id = SegmentId::from(id);
+    if inbox.has(id) {
+        return Err(Fail::from("arrived before"));
+    }
+    Ok(inbox.deliver(id, arrival)?)
+}
+
+/// The bytes of a segment.
+pub(crate) fn deliver(alloc: Global, inbox: &mut Inbox, id: u32, bytes: &[u8]) -> Result<(), Fail> {
+    let bytes = ByteBuffer::new(alloc, Vec::from_slice(alloc, bytes)?)?;
+    arrive(inbox, id, Arrival::Bytes(bytes))
+}
+
+/// That a segment is missing.
+pub(crate) fn miss(inbox: &mut Inbox, id: u32) -> Result<(), Fail> {
+    arrive(inbox, id, Arrival::Missing)
+}
+
+fn is_alone(ids: &[SegmentId], id: u32) -> bool {
+    match ids {
+        [only] => *only == SegmentId::from(id),
+        _ => false,
+    }
+}
+
+/// Whether a poll wants one segment and no other.
+pub(crate) fn wants<T: Drop>(poll: &Poll<T>, id: u32) -> bool {
+    match poll {
+        Poll::Pending(ids) => is_alone(ids.as_slice(), id),
+        _ => false,
+    }
+}
+
+/// Whether a poll finds a segment no good.
+pub(crate) fn spoils<T: Drop>(poll: &Poll<T>, id: u32) -> bool {
+    match poll {
+        Poll::Corrupt(found) => *found == SegmentId::from(id),
+        _ => false,
+    }
+}
+
+fn is_number(value: &Value, number: i128) -> bool {
+    match value {
+        Value::Int(found) => *found == number,
+        _ => false,
+    }
+}
+
+fn are_numbers(values: &[Value], numbers: &[i128]) -> bool {
+    if values.len() != numbers.len() {
+        return false;
+    }
+    for (i, value) in values.iter().enumerate() {
+        if !is_number(value, numbers[i]) {
+            return false;
+        }
+    }
+    true
+}
+
+/// Whether a poll gives these numbers.
+pub(crate) fn gives_numbers(poll: &Poll<Array>, numbers: &[i128]) -> bool {
+    match poll {
+        Poll::Ready(array) => are_numbers(array.as_slice(), numbers),
+        _ => false,
+    }
+}
+
+fn is_value(value: &Value, number: Option<i128>) -> bool {
+    match (value, number) {
+        (Value::Int(found), Some(number)) => *found == number,
+        (Value::Null, None) => true,
+        _ => false,
+    }
+}
+
+fn are_values(values: &[Value], wanted: &[Option<i128>]) -> bool {
+    if values.len() != wanted.len() {
+        return false;
+    }
+    for (i, value) in values.iter().enumerate() {
+        if !is_value(value, wanted[i]) {
+            return false;
+        }
+    }
+    true
+}
+
+/// Whether a poll gives these values, some of which are null.
+pub(crate) fn gives_values(poll: &Poll<Array>, wanted: &[Option<i128>]) -> bool {
+    match poll {
+        Poll::Ready(array) => are_values(array.as_slice(), wanted),
+        _ => false,
+    }
+}
+
+/// Whether a poll gives a mask.
+pub(crate) fn gives_mask(poll: &Poll<Mask>, bits: &[bool]) -> bool {
+    match poll {
+        Poll::Ready(mask) => mask.as_slice() == bits,
+        _ => false,
+    }
+}

@@ -1,0 +1,9 @@
+//! Worked examples over public calls: what plans want and give.
+#![tactic(auto)]
+
+#[cfg(test)]
+mod fixtures;
+#[cfg(test)]
+mod masked;
+#[cfg(test)]
+mod plans;
