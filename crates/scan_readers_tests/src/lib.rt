@@ -8,6 +8,8 @@ mod grids;
 #[cfg(test)]
 mod layout_splits;
 #[cfg(test)]
+mod readers;
+#[cfg(test)]
 mod rows;
 #[cfg(test)]
 mod runs;

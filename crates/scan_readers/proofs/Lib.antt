@@ -1,0 +1,4 @@
+pub mod Scopes
+pub mod Keeping
+pub mod Evaluating
+pub mod PlansOf
