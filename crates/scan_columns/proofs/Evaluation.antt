@@ -1,9 +1,8 @@
 -- Evaluation over the values of a column.
-use Rattle.std.proofs.Common.{◌≡◌, ℕ, zero, suc, ◌+◌, ◌≤◌, Bool, true, false, ◌||◌, List, [], ◌∷◌, ◌++◌, Some, None, slice_get, map, drop, length, refl, ap, sym, ◌∙◌, subst}
+use Rattle.std.proofs.Common.{◌≡◌, ℕ, ◌+◌, Bool, true, false, ◌||◌, List, [], ◌∷◌, ◌++◌, Some, None, slice_get, map, drop, refl, ap, sym, ◌∙◌}
 use Rattle.std.specs.List.{list_any}
-use Rattle.std.proofs.Math.ListN.{drop_of_length-le}
 use Rattle.scan_values.specs.DataType.{DataType}
-use Rattle.scan_values.specs.Marked.{Marked, more, chained, is_true}
+use Rattle.scan_values.specs.Marked.{more, chained, is_true}
 use Rattle.scan_values.specs.Val.{Val, vals_of, marked, marked_all, read_marked, read-marked, marked-read, is_clean-marked}
 use Rattle.scan_values.specs.Fits.{fits_all}
 use Rattle.scan_expr.specs.Expr.{Expr}

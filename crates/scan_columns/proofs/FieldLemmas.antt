@@ -1,6 +1,6 @@
 -- A row of columns, read one column after another.
 use Rattle.std.proofs.Common.{◌≡◌, ℕ, zero, suc, ◌+◌, ◌-◌, Some, slice_get, slice_range, ◌<◌, ◌≤◌, List, [], ◌∷◌, ◌++◌, length, map, get_or, take, drop, set, refl, length-append, ap, sym, ◌∙◌, arith, append_assoc}
-use Rattle.std.proofs.lemmas.List.{at_drop_more, drop_more, drop_all, drop-set-lt, take_more_set, append-nil, length-map}
+use Rattle.std.proofs.lemmas.List.{at_drop_more, drop_all, drop-set-lt, take_more_set, append-nil, length-map}
 use Rattle.scan_values.specs.Val.{Val}
 use Rattle.scan_values.specs.Values.{val_of}
 use Rattle.scan_values.specs.declared.value.Value.{Value}

@@ -1,23 +1,23 @@
 -- What operators make of typed cells.
-use Rattle.std.proofs.Common.{◌≡◌, ℕ, zero, suc, ◌+◌, ℤ, pos, Bool, true, false, not, ◌&&◌, ◌||◌, cond, List, [], ◌∷◌, ◌++◌, Some, slice_get, map, drop, length, replicate, refl, ap, sym, ◌∙◌, append_assoc, arith}
+use Rattle.std.proofs.Common.{◌≡◌, ℕ, suc, ◌+◌, ℤ, Bool, true, false, not, ◌&&◌, ◌||◌, cond, List, [], ◌∷◌, ◌++◌, Some, slice_get, map, drop, length, replicate, refl, ap, sym, ◌∙◌}
 use Rattle.std.specs.Ordering.{int_cmp}
 use Rattle.scan_values.specs.DataType.{DataType, bool_type, nullability_of, is_nullable}
 use Rattle.scan_values.specs.declared.ptype.Nullability.{Nullability}
 use Rattle.scan_values.specs.declared.ptype.Nullability.TheVariants.{Nullable}
 use Rattle.scan_values.specs.Damage.{damaged}
 use Rattle.scan_values.specs.Fits.{fits_int}
-use Rattle.scan_values.specs.Marked.{Marked, null, gone, boolean, integer, is_true}
+use Rattle.scan_values.specs.Marked.{null, gone, boolean, integer, is_true}
 use Rattle.scan_values.specs.Masks.{null_where_false}
 use Rattle.scan_values.specs.Val.{Val, null_val, bool_val, int_val, text_val, list_val, struct_val, marked, read_marked, read-marked}
-use Rattle.scan_expr.specs.declared.op.Unary.TheVariants.{Not, IsNull, IsNotNull, ListLength}
+use Rattle.scan_expr.specs.declared.op.Unary.TheVariants.{Not, ListLength}
 use Rattle.scan_expr.specs.declared.op.Binary.{Binary}
 use Rattle.scan_expr.specs.declared.op.Binary.TheVariants.{Mask, And, Or, Equal, NotEqual, Less, LessOrEqual, Greater, GreaterOrEqual, CheckedAdd, CheckedSub}
-use Rattle.scan_expr.specs.Eval.{is_damaged, is_nothing, is_truth, binary_value, logic_value, comparison_value, null_test, combine, holds, order, bool_cmp}
+use Rattle.scan_expr.specs.Eval.{is_damaged, is_nothing, is_truth, logic_value, comparison_value, null_test, combine, holds, order, bool_cmp}
 use Rattle.scan_expr.specs.Overflow.{spills}
 use Rattle.scan_columns.specs.Typed.{typed}
 use Rattle.scan_columns.specs.Evaluated.{unary_val, not_val, binary_val, paired}
 use Rattle.scan_columns.specs.Operands.{pair_val, test_val, test_bit, length_val}
-use Rattle.scan_columns.specs.Literals.{is_comparison, is_logic, is_sum}
+use Rattle.scan_columns.specs.Literals.{is_comparison, is_sum}
 use Rattle.scan_columns.proofs.TypedLemmas.{drop_got, typed_step, pushed_even}
 use Rattle.scan_columns.proofs.Pairing.{compares}
 
@@ -162,6 +162,20 @@ pub compare_truths : (op : Binary) (a b p q : Bool) → is_comparison op ≡ tru
 compare_truths op a b true true h = ap read_marked (sym (compares op (bool_type Nullable) (boolean a) (boolean b) h))
 compare_truths op a b true false h = ap read_marked (sym (compares op (bool_type Nullable) (boolean a) null h))
 compare_truths op a b false q h = ap read_marked (sym (compares op (bool_type Nullable) null (marked (cond q (bool_val b) null_val)) h))
+
+-- two values, of which none is damaged
+by_nulls : (p q b : Bool) → cond (not p && not q) (bool_val b) null_val ≡ read_marked (cond (p || q) null (boolean b))
+by_nulls true q b = refl
+by_nulls false true b = refl
+by_nulls false false b = refl
+
+pub compared_slot : (op : Binary) (v w : Val) → is_comparison op ≡ true
+    → cond (not (is_nothing (marked v)) && not (is_nothing (marked w))) (bool_val (holds op (order (marked v) (marked w)))) null_val ≡ pair_val op v w
+compared_slot op v w h =
+    let b = holds op (order (marked v) (marked w)) in
+    let none = is_nothing (marked v) || is_nothing (marked w) in
+    let clean : comparison_value op Nullable (marked v) (marked w) ≡ cond none null (boolean b) = λ i. cond none null (cond (undamaged v i || undamaged w i) (damaged Nullable) (boolean b)) in
+    by_nulls (is_nothing (marked v)) (is_nothing (marked w)) b ∙ ap read_marked (sym (compares op (bool_type Nullable) (marked v) (marked w) h ∙ clean))
 
 pub sum_cells : (op : Binary) (d : DataType) (a b : ℤ) → is_sum op ≡ true → fits_int d (combine op a b) ≡ true → int_val (combine op a b) ≡ binary_val op d (int_val a) (int_val b)
 sum_cells Mask d a b h f = cc

@@ -3,7 +3,6 @@ use Rattle.std.proofs.Common.{◌≡◌, ℕ, zero, suc, ◌+◌, ◌-◌, ◌<�
 use Rattle.std.proofs.lemmas.List.{length-drop}
 use Rattle.std.specs.List.{items_where_true}
 use Rattle.scan_values.specs.Val.{Val}
-use Rattle.scan_columns.proofs.TypedLemmas.{drop_got}
 
 pub one_taken : (vs : List Val) (i : ℕ) (v : Val) → Some v ≡ slice_get vs i → take 1 (drop i vs) ≡ v ∷ []
 one_taken [] i v h = absurd cc

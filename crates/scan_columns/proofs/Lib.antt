@@ -1,5 +1,6 @@
 pub mod ListLemmas
 pub mod TypedLemmas
+pub mod SideLemmas
 pub mod NestedLemmas
 pub mod FieldLemmas
 pub mod PartLemmas
@@ -12,4 +13,5 @@ pub mod Sizes
 pub mod Pairing
 pub mod Joining
 pub mod KernelLemmas
+pub mod PickLemmas
 pub mod StructLemmas

@@ -1,9 +1,9 @@
 -- Lists and rows, kept as the cells within them.
 use Rattle.std.specs.Prelude.{◌≡◌, ℕ, zero, suc, ◌+◌, ◌-◌, ◌≤◌, ◌<◌, Bool, true, false, not, List, [], ◌∷◌, ◌++◌, length, map, take, drop, replicate, slice_range, refl}
 use Rattle.std.specs.List.{items_where_true}
-use Rattle.std.proofs.Common.{arith, get_or, ◌∙◌, sym, ap, append_assoc}
+use Rattle.std.proofs.Common.{arith, get_or, ◌∙◌, sym, ap}
 use Rattle.std.proofs.lemmas.List.{length-append, length-replicate, length-take, length-drop}
-use Rattle.scan_values.specs.Val.{Val, null_val, marked}
+use Rattle.scan_values.specs.Val.{Val, marked}
 use Rattle.scan_values.specs.Masks.{both_true, null_where_false}
 use Rattle.scan_expr.specs.Eval.{is_nothing}
 use Rattle.scan_columns.specs.Typed.{typed}
@@ -235,7 +235,8 @@ whole_where (true ∷ ms) (n ∷ ns) es h e =
     let within : n ≤ length es = omega (arith, e) in
     let rest : total ns ≡ length (drop n es) = omega (arith, e, length-drop n es) in
     let more = whole_where ms ns (drop n es) (omega (arith, h)) rest in
-    let kept : length (items_where_true (replicate n true ++ spread ms ns) es) ≡ n + length (items_where_true (spread ms ns) (drop n es)) = ap length (where_true n (spread ms ns) es within) ∙ length-append (take n es) (items_where_true (spread ms ns) (drop n es)) ∙ (λ i. take_count n es within i + length (items_where_true (spread ms ns) (drop n es))) in
+    let kept : length (items_where_true (replicate n true ++ spread ms ns) es) ≡ n + length (items_where_true (spread ms ns) (drop n es)) =
+    ap length (where_true n (spread ms ns) es within) ∙ length-append (take n es) (items_where_true (spread ms ns) (drop n es)) ∙ (λ i. take_count n es within i + length (items_where_true (spread ms ns) (drop n es))) in
     omega (arith, more, kept)
 whole_where (false ∷ ms) (n ∷ ns) es h e =
     let within : n ≤ length es = omega (arith, e) in
@@ -249,7 +250,7 @@ spread_length (m ∷ ms) [] h = absurd (omega (arith, h))
 spread_length (m ∷ ms) (n ∷ ns) h = omega (arith, length-append (replicate n m) (spread ms ns), length-replicate n m, spread_length ms ns (omega (arith, h)))
 
 -- ---- rows of columns
-rows_length : (n : ℕ) (cs : List (List Val)) → length (rows_of n cs) ≡ n
+pub rows_length : (n : ℕ) (cs : List (List Val)) → length (rows_of n cs) ≡ n
 rows_length zero cs = refl
 rows_length (suc n) cs = λ i. suc (rows_length n (map (drop 1) cs) i)
 

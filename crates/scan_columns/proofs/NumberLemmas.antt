@@ -1,12 +1,12 @@
 -- Numbers one after another, of which a mask takes some.
-use Rattle.std.proofs.Common.{◌≡◌, ℕ, zero, suc, ◌+◌, ◌<◌, ◌≤◌, ◌^◌, pos, ltb, Bool, true, false, ◌&&◌, List, [], ◌∷◌, ◌++◌, length, drop, get_or, refl, ap, sym, ◌∙◌, arith, append_assoc}
+use Rattle.std.proofs.Common.{◌≡◌, ℕ, zero, suc, ◌+◌, ◌<◌, ◌≤◌, ◌^◌, pos, ltb, Bool, true, false, ◌&&◌, List, [], ◌∷◌, ◌++◌, length, drop, get_or, refl, sym, ◌∙◌, arith, append_assoc}
 use Rattle.std.specs.List.{items_where_true}
 use Rattle.std.proofs.lemmas.Bool.Decides.{nat_tests}
-use Rattle.scan_values.specs.DataType.{DataType, int_type}
+use Rattle.scan_values.specs.DataType.{int_type}
 use Rattle.scan_values.specs.declared.ptype.PType.TheVariants.{U64}
 use Rattle.scan_values.specs.declared.ptype.Nullability.TheVariants.{NonNullable}
-use Rattle.scan_values.specs.Val.{Val, int_val, marked, marked_all, vals_of}
-use Rattle.scan_values.specs.Fits.{fits, fits_all}
+use Rattle.scan_values.specs.Val.{Val, int_val, marked_all, vals_of}
+use Rattle.scan_values.specs.Fits.{fits_all}
 use Rattle.scan_values.proofs.Fitting.{fit-where_true}
 use Rattle.scan_columns.specs.Numbers.{numbers_from}
 use Rattle.scan_columns.proofs.LeafLemmas.{next_bit}

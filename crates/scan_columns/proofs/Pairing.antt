@@ -1,5 +1,5 @@
 -- An operator on two lists of values, side by side.
-use Rattle.std.proofs.Common.{◌≡◌, ℕ, zero, suc, ◌+◌, ℤ, pos, Bool, true, false, ◌||◌, List, [], ◌∷◌, ◌++◌, Some, None, slice_get, map, drop, length, replicate, refl, ap, sym, subst, ◌∙◌, append_assoc, arith}
+use Rattle.std.proofs.Common.{◌≡◌, ℕ, ◌+◌, ℤ, pos, Bool, true, false, ◌||◌, List, [], ◌∷◌, ◌++◌, Some, slice_get, map, drop, length, replicate, refl, ap, sym, ◌∙◌, append_assoc}
 use Rattle.scan_values.specs.DataType.{DataType, nullability_of}
 use Rattle.scan_values.specs.Fits.{fits_int}
 use Rattle.scan_values.specs.Marked.{Marked, integer}

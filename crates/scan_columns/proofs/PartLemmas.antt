@@ -1,11 +1,11 @@
 -- Lists and rows of columns that fit are of their dtype.
-use Rattle.std.proofs.Common.{◌≡◌, ◌<◌, ◌≤◌, ◌+◌, ◌^◌, ℕ, zero, suc, Bool, true, false, ◌&&◌, ◌||◌, List, [], ◌∷◌, ◌++◌, length, take, drop, map, replicate, Option, Some, None, refl, ap, sym, subst, ◌∙◌, arith}
+use Rattle.std.proofs.Common.{◌≡◌, ◌<◌, ◌^◌, ℕ, zero, suc, Bool, true, false, ◌&&◌, ◌||◌, List, [], ◌∷◌, ◌++◌, length, take, drop, map, replicate, Option, Some, None, refl, ap, sym, subst, ◌∙◌, arith}
 use Rattle.std.proofs.lemmas.List.{length-take, length-drop, length-replicate}
 use Rattle.scan_values.specs.DataType.{DataType, Fields, no_fields, field, bool_type, int_type, utf8_type, list_type, struct_type, is_nullable, is_null_kind}
 use Rattle.scan_values.specs.declared.ptype.Nullability.{Nullability}
-use Rattle.scan_values.specs.Kinds.{struct_fields_of, element_of}
+use Rattle.scan_values.specs.Kinds.{element_of}
 use Rattle.scan_values.specs.Arrays.{ArrayData}
-use Rattle.scan_values.specs.Val.{Val, null_val, vals_of, marked, marked_all}
+use Rattle.scan_values.specs.Val.{Val, vals_of, marked, marked_all}
 use Rattle.scan_values.specs.Fits.{fits, fits_all, fits_fields}
 use Rattle.scan_values.proofs.FitsLemmas.{fits-list}
 use Rattle.scan_values.proofs.Fitting.{fit-take, fit-drop}

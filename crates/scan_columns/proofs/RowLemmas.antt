@@ -1,15 +1,15 @@
 -- The values of expressions in rows.
-use Rattle.std.proofs.Common.{◌≡◌, ℕ, zero, suc, ◌+◌, ◌<◌, ◌≤◌, Bool, true, false, ◌||◌, List, [], ◌∷◌, ◌++◌, Some, None, pos, bytes_eq, map, take, drop, length, replicate, get_or, add-one, refl, ap, sym, subst, ◌∙◌, arith}
+use Rattle.std.proofs.Common.{◌≡◌, ℕ, zero, suc, ◌+◌, ◌<◌, ◌≤◌, Bool, true, false, ◌||◌, List, [], ◌∷◌, ◌++◌, pos, bytes_eq, map, take, drop, length, replicate, get_or, add-one, refl, ap, sym, subst, ◌∙◌, arith}
 use Rattle.std.specs.List.{All, AllByRecursion, list_any, range_with_len}
 use Rattle.std.proofs.lemmas.List.Elements.{recursion_from_All}
 use Rattle.std.proofs.lemmas.List.{length-map, drop_more}
 use Rattle.std.proofs.lemmas.List.Quantifiers.{position-Some}
 use Rattle.std.proofs.lemmas.List.FromFn.{length-map-range_with_len, map-range_with_len_more, fill_by_all}
-use Rattle.scan_values.specs.DataType.{DataType, Name, Fields, fields_of}
+use Rattle.scan_values.specs.DataType.{DataType, Name, Fields}
 use Rattle.scan_values.specs.FieldLists.{names_of}
 use Rattle.scan_values.specs.NameFaults.{field_names}
 use Rattle.scan_values.specs.declared.ptype.Nullability.{Nullability}
-use Rattle.scan_values.specs.Val.{Val, Vals, val, null_val, int_val, struct_val, vals_of, marked, marked_all, read_marked, read_all, read-marked, marked-read, is_clean-marked}
+use Rattle.scan_values.specs.Val.{Val, val, null_val, int_val, struct_val, vals_of, marked, marked_all, read_marked, read_all, read-marked, marked-read, is_clean-marked}
 use Rattle.scan_expr.specs.declared.op.Unary.{Unary}
 use Rattle.scan_expr.specs.declared.op.Unary.TheVariants.{GetItem}
 use Rattle.scan_expr.specs.declared.op.Binary.{Binary}

@@ -1,5 +1,5 @@
 -- The sizes of the parts of a pack.
-use Rattle.std.proofs.Common.{◌≡◌, ℕ, zero, suc, ◌+◌, ◌<◌, ◌≤◌, List, [], ◌∷◌, length, get_or, refl, ap, sym, ◌∙◌, arith}
+use Rattle.std.proofs.Common.{◌≡◌, ℕ, zero, suc, ◌+◌, ◌<◌, ◌≤◌, List, [], ◌∷◌, length, get_or, refl, ap, arith}
 use Rattle.scan_values.specs.DataType.{Name}
 use Rattle.scan_expr.specs.Expr.{Expr, expr_size, parts_size, parts_of}
 use Rattle.scan_expr.specs.Bound.{Bound, exprs_of}

@@ -1,18 +1,22 @@
--- The lengths of lists, and the fields of structs.
-use Rattle.std.proofs.Common.{◌≡◌, ℕ, zero, suc, pos, ◌<◌, ◌≤◌, Bool, true, false, cond, List, [], ◌∷◌, map, take, drop, length, get_or, refl, ap, sym, ◌∙◌, arith}
+-- The lengths of lists, the fields of structs, and structs joined to structs.
+use Rattle.std.proofs.Common.{◌≡◌, ℕ, zero, suc, pos, ◌+◌, ◌<◌, ◌≤◌, Bool, true, false, cond, List, [], ◌∷◌, ◌++◌, map, take, drop, length, get_or, refl, ap, sym, ◌∙◌, append_assoc, arith}
 use Rattle.std.specs.List.{list_all}
-use Rattle.std.proofs.lemmas.List.{length-drop}
+use Rattle.std.proofs.lemmas.List.{length-append, length-drop, length-map, append-nil}
 use Rattle.scan_values.specs.DataType.{DataType, Name, Fields}
 use Rattle.scan_values.specs.Masks.{null_where_false}
 use Rattle.scan_values.specs.Val.{Val, null_val, int_val, vals_of, marked_all, read_marked, read-marked}
 use Rattle.scan_expr.specs.Eval.{pick}
 use Rattle.scan_expr.specs.Infer.{fields_or_none}
 use Rattle.scan_expr.proofs.Picks.{length-listed, pick_at}
+use Rattle.scan_columns.specs.declared.cells.Cells.{Cells}
+use Rattle.scan_columns.specs.Cells.{vals_in}
 use Rattle.scan_columns.specs.Nested.{cuts, total, list_of, struct_of, heads, rows_of, AreLong}
 use Rattle.scan_columns.specs.Operands.{length_val, field_val}
 use Rattle.scan_columns.specs.Rows.{IsPlaceOf, IsFieldIn}
 use Rattle.scan_columns.specs.Typed.{typed}
-use Rattle.scan_columns.proofs.NestedLemmas.{take_count, shorter}
+use Rattle.scan_columns.proofs.NestedLemmas.{take_count, shorter, rows_length}
+use Rattle.scan_columns.proofs.ListLemmas.{map_pushed}
+use Rattle.scan_columns.proofs.TypedLemmas.{typed_append}
 
 -- ---- the lengths of lists
 count_one : (n : ℕ) (es : List Val) (b : Bool) → n ≤ length es → cond b (int_val (pos n)) null_val ≡ length_val (cond b (list_of (take n es)) null_val)
@@ -76,3 +80,66 @@ field_long n s k cs vs at h = ap length at.3 ∙ long_get k at.0 cs h at.2
 
 pub field_kept : (n : Name) (s : DataType) (bs : List Bool) (cs : List (List Val)) (vs : List Val) → IsFieldIn n s cs vs → AreLong (length bs) cs → list_all (λ b. b) bs ≡ true → vs ≡ map (field_val n s) (typed struct_of (rows_of (length bs) cs) bs)
 field_kept n s bs cs vs at h all = all_kept bs vs all (field_long n s (length bs) cs vs at h) ∙ field_masked n s bs cs vs at h
+
+-- ---- structs joined to structs
+-- each column, and then another
+abbrev pub extended : List (List Val) → List (List Val) → List (List Val)
+extended [] ds = []
+extended (c ∷ cs) [] = []
+extended (c ∷ cs) (d ∷ ds) = (c ++ d) ∷ extended cs ds
+
+first_extended : (n : ℕ) (cs ds : List (List Val)) → AreLong (suc n) cs → length ds ≡ length cs → heads (extended cs ds) ≡ heads cs
+first_extended n [] ds h e = refl
+first_extended n (c ∷ cs) [] h e = absurd (omega (arith, e))
+first_extended n ([] ∷ cs) (d ∷ ds) h e = absurd (omega (arith, h.0))
+first_extended n ((v ∷ vs) ∷ cs) (d ∷ ds) h e = λ i. v ∷ first_extended n cs ds h.1 (omega (arith, e)) i
+
+rest_extended : (n : ℕ) (cs ds : List (List Val)) → AreLong (suc n) cs → length ds ≡ length cs → map (drop 1) (extended cs ds) ≡ extended (map (drop 1) cs) ds
+rest_extended n [] ds h e = refl
+rest_extended n (c ∷ cs) [] h e = absurd (omega (arith, e))
+rest_extended n ([] ∷ cs) (d ∷ ds) h e = absurd (omega (arith, h.0))
+rest_extended n ((v ∷ vs) ∷ cs) (d ∷ ds) h e = λ i. (vs ++ d) ∷ rest_extended n cs ds h.1 (omega (arith, e)) i
+
+none_extended : (cs ds : List (List Val)) → AreLong 0 cs → length ds ≡ length cs → extended cs ds ≡ ds
+none_extended [] [] h e = refl
+none_extended [] (d ∷ ds) h e = absurd (omega (arith, e))
+none_extended (c ∷ cs) [] h e = absurd (omega (arith, e))
+none_extended ([] ∷ cs) (d ∷ ds) h e = λ i. d ∷ none_extended cs ds h.1 (omega (arith, e)) i
+none_extended ((v ∷ vs) ∷ cs) (d ∷ ds) h e = absurd (omega (arith, h.0))
+
+rows_extended : (n m : ℕ) (cs ds : List (List Val)) → AreLong n cs → length ds ≡ length cs → rows_of (n + m) (extended cs ds) ≡ rows_of n cs ++ rows_of m ds
+rows_extended zero m cs ds h e = let none : 0 + m ≡ m = omega arith in λ i. rows_of (none i) (none_extended cs ds h e i)
+rows_extended (suc n) m cs ds h e =
+    let next : suc n + m ≡ suc (n + m) = omega arith in
+    (λ i. rows_of (next i) (extended cs ds)) ∙ (λ i. first_extended n cs ds h e i ∷ rows_of (n + m) (rest_extended n cs ds h e i))
+    ∙ (λ i. heads cs ∷ rows_extended n m (map (drop 1) cs) ds (shorter n cs h) (omega (arith, e, rest_length cs)) i)
+
+pub structs_append : (bs es : List Bool) (cs ds : List (List Val)) → AreLong (length bs) cs → length ds ≡ length cs
+    → typed struct_of (rows_of (length (bs ++ es)) (extended cs ds)) (bs ++ es) ≡ typed struct_of (rows_of (length bs) cs) bs ++ typed struct_of (rows_of (length es) ds) es
+structs_append bs es cs ds h e =
+    (λ i. typed struct_of (rows_of (length-append bs es i) (extended cs ds)) (bs ++ es))
+    ∙ (λ i. typed struct_of (rows_extended (length bs) (length es) cs ds h e i) (bs ++ es))
+    ∙ typed_append struct_of (rows_of (length bs) cs) (rows_of (length es) ds) bs es (sym (rows_length (length bs) cs))
+
+pub long_extended : (m n : ℕ) (cs ds : List (List Val)) → AreLong m cs → AreLong n ds → AreLong (m + n) (extended cs ds)
+long_extended m n [] ds h k = tt
+long_extended m n (c ∷ cs) [] h k = tt
+long_extended m n (c ∷ cs) (d ∷ ds) h k = (length-append c d ∙ (λ i. h.0 i + k.0 i), long_extended m n cs ds h.1 k.1)
+
+-- a loop over the fields of both
+pub extend_step : (xs ys later rest : List Cells) (x y z : Cells) (made more : List Cells) (whole : List (List Val)) → xs ≡ x ∷ later → ys ≡ y ∷ rest → vals_in z ≡ vals_in x ++ vals_in y → more ≡ made ++ (z ∷ [])
+    → map vals_in made ++ extended (map vals_in xs) (map vals_in ys) ≡ whole → map vals_in more ++ extended (map vals_in later) (map vals_in rest) ≡ whole
+extend_step xs ys later rest x y z made more whole ex ey v m inv =
+    let others = extended (map vals_in later) (map vals_in rest) in
+    (λ i. map vals_in (m i) ++ others) ∙ (λ i. map_pushed vals_in made z i ++ others) ∙ append_assoc (map vals_in made) (vals_in z ∷ []) others
+    ∙ (λ i. map vals_in made ++ (v i ∷ others)) ∙ (λ i. map vals_in made ++ extended (map vals_in (sym ex i)) (map vals_in (sym ey i))) ∙ inv
+
+pub extend_done : (xs ys made : List Cells) (whole : List (List Val)) → xs ≡ [] → map vals_in made ++ extended (map vals_in xs) (map vals_in ys) ≡ whole → map vals_in made ≡ whole
+extend_done xs ys made whole e inv = sym (append-nil (map vals_in made)) ∙ (λ i. map vals_in made ++ extended (map vals_in (sym e i)) (map vals_in ys)) ∙ inv
+
+pub as_many : (xs ys cells others : List Cells) → xs ≡ cells → ys ≡ others → length ys ≡ length xs → length (map vals_in others) ≡ length (map vals_in cells)
+as_many xs ys cells others a b e = length-map others vals_in ∙ ap length (sym b) ∙ e ∙ ap length a ∙ sym (length-map cells vals_in)
+
+pub none_left : (xs : List Cells) (n : ℕ) → n ≡ length xs → n ≡ 0 → xs ≡ []
+none_left [] n h e = refl
+none_left (x ∷ xs) n h e = absurd (omega (arith, h, e))

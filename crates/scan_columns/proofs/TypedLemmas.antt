@@ -4,7 +4,7 @@ use Rattle.std.specs.List.{items_where_true}
 use Rattle.std.specs.Ordering.{int_cmp}
 use Rattle.std.proofs.Common.{arith, get_or, ◌++◌, ◌∙◌, sym, append_assoc}
 use Rattle.scan_values.specs.Val.{Val, null_val, int_val, bool_val, text_val, list_val, struct_val, marked}
-use Rattle.scan_values.specs.Marked.{integer}
+use Rattle.scan_values.specs.Marked.{integer, is_true}
 use Rattle.scan_values.specs.Masks.{true_count, both_true, null_where_false}
 use Rattle.scan_values.proofs.MaskLemmas.{true_count-true, true_count-false}
 use Rattle.scan_values.specs.declared.ptype.Nullability.{Nullability}
@@ -143,6 +143,15 @@ int_nulls xs bs h = typed_nulls int_val xs bs (λ x. refl) h
 
 pub bool_nulls : (xs bs : List Bool) → length bs ≡ length xs → map not bs ≡ map (λ v. is_nothing (marked v)) (typed bool_val xs bs)
 bool_nulls xs bs h = typed_nulls bool_val xs bs (λ x. refl) h
+
+-- a truth value is true where its bit is and it is there
+pub bool_truths : (xs bs : List Bool) → both_true xs bs ≡ map (λ v. is_true (marked v)) (typed bool_val xs bs)
+bool_truths [] bs = refl
+bool_truths (x ∷ xs) [] = refl
+bool_truths (true ∷ xs) (true ∷ bs) = λ i. true ∷ bool_truths xs bs i
+bool_truths (true ∷ xs) (false ∷ bs) = λ i. false ∷ bool_truths xs bs i
+bool_truths (false ∷ xs) (true ∷ bs) = λ i. false ∷ bool_truths xs bs i
+bool_truths (false ∷ xs) (false ∷ bs) = λ i. false ∷ bool_truths xs bs i
 
 pub replicate_map : {A B : Type 0} (f : A → B) (x : A) (n : ℕ) → map f (replicate n x) ≡ replicate n (f x)
 replicate_map f x zero = refl

@@ -1,5 +1,5 @@
 -- Columns of the parts of a struct, and an expression over the struct.
-use Rattle.std.specs.Prelude.{◌≡◌, ℕ, Bool, true, List, [], ◌∷◌, map, zip, length, slice_index_or}
+use Rattle.std.specs.Prelude.{◌≡◌, ℕ, Bool, List, [], ◌∷◌, map, zip, length, slice_index_or}
 use Rattle.std.specs.List.{list_any, range_with_len}
 use Rattle.scan_values.specs.DataType.{DataType, Name, struct_type, fields_of}
 use Rattle.scan_values.specs.declared.ptype.Nullability.TheVariants.{NonNullable}

@@ -1,5 +1,5 @@
 -- Which operators compare or add, and the number that an operand is.
-use Rattle.std.specs.Prelude.{ℤ, Bool, true, false, cond, Option, Some, None}
+use Rattle.std.specs.Prelude.{ℤ, Bool, true, false, Option, Some, None}
 use Rattle.scan_values.specs.Val.{Val, null_val, bool_val, int_val, text_val, list_val, struct_val}
 use Rattle.scan_expr.specs.declared.op.Binary.{Binary}
 use Rattle.scan_expr.specs.declared.op.Binary.TheVariants.{Mask, And, Or, Equal, NotEqual, Less, LessOrEqual, Greater, GreaterOrEqual, CheckedAdd, CheckedSub}

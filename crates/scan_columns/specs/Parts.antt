@@ -1,7 +1,7 @@
 -- What columns are made of: bits that may be left out, and columns for the parts of a dtype.
-use Rattle.std.specs.Prelude.{◌≡◌, ◌||◌, ℕ, Bool, true, List, [], ◌∷◌, map, replicate, length, Option, Some, None}
+use Rattle.std.specs.Prelude.{◌≡◌, ℕ, Bool, true, List, [], ◌∷◌, replicate, length, Option, Some, None}
 use Rattle.scan_values.specs.DataType.{DataType, Fields, no_fields, field, is_nullable}
-use Rattle.scan_values.specs.Kinds.{struct_fields_of, element_of}
+use Rattle.scan_values.specs.Kinds.{struct_fields_of}
 use Rattle.scan_values.specs.Arrays.{ArrayData}
 use Rattle.scan_values.specs.Val.{Val, vals_of, marked_all}
 use Rattle.scan_values.specs.Fits.{fits_all}

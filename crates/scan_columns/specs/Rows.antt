@@ -1,5 +1,5 @@
 -- What expressions are evaluated on: rows, each a value and a number.
-use Rattle.std.specs.Prelude.{◌≡◌, ◌<◌, ℕ, Bool, List, [], ◌∷◌, Some, pos, length, map, get_or, position, bytes_eq, slice_index_or}
+use Rattle.std.specs.Prelude.{◌≡◌, ◌<◌, ◌++◌, ℕ, Bool, List, [], ◌∷◌, Some, pos, length, map, get_or, position, bytes_eq, slice_index_or}
 use Rattle.std.specs.List.{range_with_len}
 use Rattle.scan_values.specs.DataType.{DataType, Name, fields_of}
 use Rattle.scan_values.specs.Kinds.{struct_fields_of}
@@ -13,6 +13,7 @@ use Rattle.scan_expr.specs.Infer.{struct_fields}
 use Rattle.scan_columns.specs.Cells.{vals_in}
 use Rattle.scan_columns.specs.Nested.{AreLong}
 use Rattle.scan_columns.specs.Evaluated.{value_in, overflows_in}
+use Rattle.scan_columns.specs.declared.cells.Cells.{Cells}
 use Rattle.scan_columns.specs.declared.rows.Rows.{Rows}
 use Rattle.scan_columns.specs.declared.rows.Rows.TheVariants.{Whole, Parts}
 use Rattle.scan_columns.specs.declared.rows.Given.{Given}
@@ -60,6 +61,23 @@ IsPlaceOf n s p = (fs : List (Name × DataType)) × (struct_fields_of s ≡ Some
 -- the column of the field of this name, of those of a struct's fields
 abbrev pub IsFieldIn : Name → DataType → List (List Val) → List Val → Type 0
 IsFieldIn n s columns vs = (p : ℕ) × IsPlaceOf n s p × (p < length columns) × (vs ≡ get_or columns p [])
+
+-- the columns at these places
+abbrev pub picked : List (List Val) → List ℕ → List (List Val)
+picked columns ps = map (λ p. get_or columns p []) ps
+
+-- each place is one of so many
+abbrev pub AreBelow : ℕ → List ℕ → Type 0
+AreBelow n [] = Unit {0}
+AreBelow n (p ∷ ps) = (p < n) × AreBelow n ps
+
+-- the values of columns, and then those of others
+abbrev pub beside : List Cells → List Cells → List (List Val)
+beside cs ds = map vals_in cs ++ map vals_in ds
+
+-- values stand at a place of columns that begin with older ones
+abbrev pub IsPlaced : List (List Val) → List (List Val) → ℕ → List Val → Type 0
+IsPlaced old new p vs = (more : List (List Val)) × (new ≡ old ++ more) × (p < length new) × (get_or new p [] ≡ vs)
 
 -- an expression that is the scope's field at a place
 abbrev pub IsFieldAt : DataType → Expr → ℕ → Type 0

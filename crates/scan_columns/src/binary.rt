@@ -7,7 +7,8 @@ ghost use Rattle.scan_columns.specs.Evaluated.{binary_val, paired, spills_in};
 ghost use Rattle.scan_columns.specs.Literals.{is_comparison, is_logic, is_sum};
 ghost use Rattle.scan_columns.specs.Operands.{pair_val};
 
-use crate::by_value::binary_of;
+use crate::bools::Bools;
+use crate::by_value::{binary_of, compared_pair};
 use crate::cells::Cells;
 use crate::integers::{numbers_compared, numbers_of, numbers_summed};
 use crate::truths::{truths_of, truths_paired};
@@ -120,8 +121,44 @@ fn typed_pairs(alloc: Global, op: Binary, x: &Cells, y: &Cells) -> Result<Option
             let truths = truths_paired(alloc, op, first, second, x.len())?;
             Ok(Some(Cells::Bools(truths)))
         }
-        _ => Ok(None),
+        _ => other_comparison(alloc, op, x, y),
     }
+}
+
+/// Of each pair whether a comparison holds, however both are kept.
+fn other_comparison(
+    alloc: Global,
+    op: Binary,
+    x: &Cells,
+    y: &Cells,
+) -> Result<Option<Cells>, NoMemory>
+    requires even { length (vals_in y.now) ≡ length (vals_in x.now) }
+    ensures { IfOk result (λ o. IfSome o (λ c. vals_in c ≡ paired (pair_val op) (vals_in x.now) (vals_in y.now))) }
+{
+    if is_comparison(op) {
+        let truths = values_compared(alloc, op, x, y)?;
+        Ok(Some(Cells::Bools(truths)))
+    } else {
+        Ok(None)
+    }
+}
+
+/// Of each pair of values whether a comparison holds. A text is compared where it stands.
+fn values_compared(alloc: Global, op: Binary, x: &Cells, y: &Cells) -> Result<Bools, NoMemory>
+    requires even { length (vals_in y.now) ≡ length (vals_in x.now) }
+    requires compares { is_comparison op ≡ true }
+    ensures { IfOk result (λ v. v ≡ paired (pair_val op) (vals_in x.now) (vals_in y.now)) }
+{
+    let mut values = Vec::with_capacity(alloc, x.len())?;
+    let mut valid = Vec::with_capacity(alloc, x.len())?;
+    for i in 0..x.len() {
+        let first = x.lent(alloc, i)?;
+        let second = y.lent(alloc, i)?;
+        let (bit, there) = compared_pair(op, first.as_value(), second.as_value());
+        values.push(bit)?;
+        valid.push(there)?;
+    }
+    Ok(Bools::new(values, valid))
 }
 
 /// Of each pair whether a comparison holds, where both are kept as integers.

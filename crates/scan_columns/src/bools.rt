@@ -182,10 +182,11 @@ impl Bools {
     }
 
     /// Where the value is true.
+    #[tactic(auto, using(crate::proofs::TypedLemmas::bool_truths))]
     pub fn truths(&self, alloc: Global) -> Result<Mask, NoMemory>
         ensures { IfOk result (λ m. m ≡ map (λ v. is_true (marked v)) self.now) }
     {
-        let bits = true_bits(alloc, self.values.as_slice(), self.valid.as_slice())?;
+        let bits = both(alloc, self.values.as_slice(), self.valid.as_slice())?;
         Ok(Mask::from_bools(bits))
     }
 }
@@ -219,17 +220,6 @@ fn bool_values(alloc: Global, values: &[bool], valid: &[bool]) -> Result<Vec<Val
     let mut made = Vec::with_capacity(alloc, values.len())?;
     for (i, b) in values.iter().enumerate() {
         made.push(bool_cell(*b, valid[i]))?;
-    }
-    Ok(made)
-}
-
-fn true_bits(alloc: Global, values: &[bool], valid: &[bool]) -> Result<Vec<bool>, NoMemory>
-    requires { length valid.now ≡ length values.now }
-    ensures { IfOk result (λ v. v.items ≡ map (λ v. is_true (marked v)) (typed bool_val values.now valid.now)) }
-{
-    let mut made = Vec::with_capacity(alloc, values.len())?;
-    for (i, b) in values.iter().enumerate() {
-        made.push(*b & valid[i])?;
     }
     Ok(made)
 }

@@ -1,13 +1,15 @@
 // The operators on values, one after another.
 ghost use Rattle.std.specs.Prelude.{◌≡◌, pos, Err, true, false, IfOk, IfSome, IfNone, not};
 ghost use Rattle.scan_values.specs.Values.{val_of};
-ghost use Rattle.scan_values.specs.Val.{marked};
+ghost use Rattle.scan_values.specs.Val.{marked, bool_val};
 ghost use Rattle.scan_values.specs.DataType.{DataType};
 ghost use Rattle.scan_values.specs.Fits.{fits_int};
 ghost use Rattle.scan_values.specs.declared.ptype.Nullability.{Nullability};
 ghost use Rattle.scan_expr.specs.Eval.{binary_value, mask_value, logic_value, comparison_value, arithmetic_value, integer_of, combine, order, is_truth};
 ghost use Rattle.scan_expr.specs.Overflow.{outside, spills};
-ghost use Rattle.scan_columns.specs.Literals.{is_sum};
+ghost use Rattle.scan_columns.specs.Typed.{cell};
+ghost use Rattle.scan_columns.specs.Literals.{is_comparison, is_sum};
+ghost use Rattle.scan_columns.specs.Operands.{pair_val};
 
 use crate::compared::{holds_of, is_null};
 use scan_expr::{ApplyFault, Binary};
@@ -75,6 +77,15 @@ fn comparison_of(op: Binary, x: &Value, y: &Value) -> Value
     } else {
         Value::Bool(holds_of(op, order_of(x, y)))
     }
+}
+
+/// Whether a comparison holds of two values, and whether both are there.
+#[tactic(auto, using(crate::proofs::KernelLemmas::compared_slot))]
+pub(crate) fn compared_pair(op: Binary, x: &Value, y: &Value) -> (bool, bool)
+    requires { is_comparison op ≡ true }
+    ensures { cell bool_val result ≡ pair_val op (val_of x.now) (val_of y.now) }
+{
+    (holds_of(op, order_of(x, y)), !is_null(x) & !is_null(y))
 }
 
 /// The sum or difference of two integers, where it is one of this dtype.

@@ -248,12 +248,8 @@ impl Cells {
             (Cells::Lists(lists), Cells::Lists(others)) => {
                 Ok(Cells::Lists(lists.append(alloc, others)?))
             }
-            (first, second) => {
-                let values = first.into_values(alloc)?;
-                let others = second.into_values(alloc)?;
-                let made = appended(values, others)?;
-                Ok(Cells::Values(Values::new(made)))
-            }
+            (Cells::Structs(structs), Cells::Structs(others)) => structs.append(alloc, others),
+            (first, second) => joined_values(alloc, first, second),
         }
     }
 
@@ -332,4 +328,14 @@ impl Cells {
             }
         }
     }
+}
+
+/// The values of cells, and then those of others.
+pub(crate) fn joined_values(alloc: Global, first: Cells, second: Cells) -> Result<Cells, NoMemory>
+    ensures { IfOk result (λ c. vals_in c ≡ vals_in first ++ vals_in second) }
+{
+    let values = first.into_values(alloc)?;
+    let others = second.into_values(alloc)?;
+    let made = appended(values, others)?;
+    Ok(Cells::Values(Values::new(made)))
 }

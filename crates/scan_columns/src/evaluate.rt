@@ -1,6 +1,6 @@
 // Evaluation of bound expressions over columns.
-ghost use Rattle.std.specs.Prelude.{◌≡◌, IfOk, map, Err, true, false};
-ghost use Rattle.std.specs.List.{range_with_len};
+ghost use Rattle.std.specs.Prelude.{◌≡◌, IfOk, map, length, Err, true, false, All};
+ghost use Rattle.std.specs.List.{list_any, range_with_len};
 ghost use Rattle.scan_values.specs.Val.{marked};
 ghost use Rattle.scan_values.specs.Marked.{is_true};
 ghost use Rattle.scan_expr.specs.Expr.{uses_row_index};
@@ -9,15 +9,16 @@ ghost use Rattle.scan_expr.specs.Eval.{eval};
 ghost use Rattle.scan_expr.specs.Overflow.{overflows_on};
 ghost use Rattle.scan_columns.specs.Cells.{vals_in};
 ghost use Rattle.scan_columns.specs.Evaluated.{value_in, overflows_in};
-ghost use Rattle.scan_columns.specs.Rows.{part_rows, AreColumnsOf};
+ghost use Rattle.scan_columns.specs.Rows.{part_rows, struct_at, bound_in, bound_overflows_in, beside, picked, AreBelow, AreColumnsOf, IsPlaced};
 ghost use Rattle.scan_columns.specs.Joined.{AreAsLong, IsScopeOf, joined_at, root_overflows};
 
 use crate::cells::Cells;
 use crate::column::Column;
 use crate::nodes::{evaluated, field_place};
 use crate::parts::cells_of;
-use crate::rows::Rows;
-use scan_expr::{ApplyFault, BoundExpression};
+use crate::picks::{followed, picked};
+use crate::rows::{Rows, structs_of};
+use scan_expr::{ApplyFault, BoundExpression, BoundNode};
 use scan_values::Mask;
 use std::alloc::Global;
 use std::sync::Arc;
@@ -114,9 +115,105 @@ fn over_columns(
 {
     match field_place(root) {
         Some(place) => Ok(columns.swap_remove(place)),
-        None => {
+        None => over_node(alloc, root, columns, len),
+    }
+}
+
+/// The same, of a root that is no field: the parts of a pack that are columns are moved.
+fn over_node(
+    alloc: Global,
+    root: &BoundExpression,
+    columns: Vec<Cells>,
+    len: usize,
+) -> Result<Cells, ApplyFault>
+    requires over { AreColumnsOf root.now.scope len (map vals_in columns.items) }
+    ensures items { IfOk result (λ c. vals_in c ≡
+        map (value_in root.now.scope root.now.expr) (part_rows (map vals_in columns.items) len)) }
+    ensures within { IfOk result (λ _.
+        overflows_in root.now.scope root.now.expr (part_rows (map vals_in columns.items) len) ≡ false) }
+    ensures overflow { result ≡ Err ApplyFault.Overflow →
+        overflows_in root.now.scope root.now.expr (part_rows (map vals_in columns.items) len) ≡ true }
+{
+    match root.node() {
+        BoundNode::Pack(_, parts, _) => packed(alloc, parts, columns, len),
+        _ => {
             let given = evaluated(alloc, root, Rows::Parts(columns.as_slice(), len))?;
             Ok(given.into_cells(alloc)?)
+        }
+    }
+}
+
+/// The structs of the values of some expressions over columns.
+fn packed(
+    alloc: Global,
+    parts: &[BoundExpression],
+    columns: Vec<Cells>,
+    len: usize,
+) -> Result<Cells, ApplyFault>
+    requires { All (λ b. AreColumnsOf b.scope len (map vals_in columns.items)) parts.now }
+    ensures items { IfOk result (λ c. vals_in c ≡
+        map (struct_at (map (bound_in (part_rows (map vals_in columns.items) len)) parts.now)) (range_with_len 0 len)) }
+    ensures within { IfOk result (λ _.
+        list_any (bound_overflows_in (part_rows (map vals_in columns.items) len)) parts.now ≡ false) }
+    ensures overflow { result ≡ Err ApplyFault.Overflow →
+        list_any (bound_overflows_in (part_rows (map vals_in columns.items) len)) parts.now ≡ true }
+{
+    let (places, made) = each_placed(alloc, parts, columns.as_slice(), len)?;
+    let mut all = followed(columns, made)?;
+    let cells = picked(alloc, &mut all, places.as_slice())?;
+    Ok(structs_of(alloc, cells, len)?)
+}
+
+/// The place of each expression's values among the columns and those that are made here, which stand after them.
+fn each_placed(
+    alloc: Global,
+    parts: &[BoundExpression],
+    columns: &[Cells],
+    len: usize,
+) -> Result<(Vec<usize>, Vec<Cells>), ApplyFault>
+    requires { All (λ b. AreColumnsOf b.scope len (map vals_in columns.now)) parts.now }
+    ensures items { IfOk result (λ r. picked (beside columns.now r.1.items) r.0.items ≡
+        map (bound_in (part_rows (map vals_in columns.now) len)) parts.now) }
+    ensures below { IfOk result (λ r. AreBelow (length (beside columns.now r.1.items)) r.0.items) }
+    ensures within { IfOk result (λ _.
+        list_any (bound_overflows_in (part_rows (map vals_in columns.now) len)) parts.now ≡ false) }
+    ensures overflow { result ≡ Err ApplyFault.Overflow →
+        list_any (bound_overflows_in (part_rows (map vals_in columns.now) len)) parts.now ≡ true }
+{
+    let mut places = Vec::with_capacity(alloc, parts.len())?;
+    let mut made = Vec::new(alloc);
+    for part in parts {
+        let (place, more) = placed(alloc, part, columns, len, made)?;
+        places.push(place)?;
+        made = more;
+    }
+    Ok((places, made))
+}
+
+/// The place of an expression's values among the columns and those that are made, to which its own may be added.
+fn placed(
+    alloc: Global,
+    part: &BoundExpression,
+    columns: &[Cells],
+    len: usize,
+    made: Vec<Cells>,
+) -> Result<(usize, Vec<Cells>), ApplyFault>
+    requires { AreColumnsOf part.now.scope len (map vals_in columns.now) }
+    ensures items { IfOk result (λ r. IsPlaced (beside columns.now made.items) (beside columns.now r.1.items) r.0
+        (bound_in (part_rows (map vals_in columns.now) len) part.now)) }
+    ensures within { IfOk result (λ _. bound_overflows_in (part_rows (map vals_in columns.now) len) part.now ≡ false) }
+    ensures overflow { result ≡ Err ApplyFault.Overflow →
+        bound_overflows_in (part_rows (map vals_in columns.now) len) part.now ≡ true }
+{
+    match field_place(part) {
+        Some(place) => Ok((place, made)),
+        None => {
+            let given = evaluated(alloc, part, Rows::Parts(columns, len))?;
+            let cells = given.into_cells(alloc)?;
+            let place = columns.len() + made.len();
+            let mut made = made;
+            made.push(cells)?;
+            Ok((place, made))
         }
     }
 }

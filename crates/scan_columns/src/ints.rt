@@ -12,7 +12,7 @@ ghost use Rattle.scan_layout.specs.LeafColumns.{int_or_null};
 ghost use Rattle.scan_columns.specs.Typed.{typed, cell};
 
 use crate::bools::Bools;
-use crate::compared::holds_of;
+use crate::compared::Sides;
 use crate::slots::{both, contrary, kept};
 use scan_expr::Binary;
 use scan_values::{Mask, NoMemory, Value};
@@ -220,6 +220,7 @@ fn int_values(alloc: Global, values: &[i128], valid: &[bool]) -> Result<Vec<Valu
     Ok(made)
 }
 
+#[tactic(auto, using(crate::proofs::SideLemmas::sided_all))]
 fn compared(
     alloc: Global,
     op: Binary,
@@ -228,11 +229,8 @@ fn compared(
 ) -> Result<Vec<bool>, NoMemory>
     ensures { IfOk result (λ v. v.items ≡ map (λ z. holds op (int_cmp z literal)) values.now) }
 {
-    let made = values
-        .iter()
-        .map(|z| holds_of(op, z.cmp(&literal)))
-        .collect(alloc)?;
-    Ok(made)
+    let bits = vec![in alloc; false; values.len()]?;
+    Ok(Sides::of(op).write(bits, values, literal))
 }
 
 /// The number of a slot and whether it is there, of an integer or a null.

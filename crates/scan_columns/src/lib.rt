@@ -18,6 +18,7 @@ mod lists;
 mod nodes;
 mod numbers;
 mod parts;
+mod picks;
 mod rest;
 mod rows;
 mod slots;

@@ -41,19 +41,38 @@ pub(crate) fn both(alloc: Global, bits: &[bool], others: &[bool]) -> Result<Vec<
     requires { length others.now ≡ length bits.now }
     ensures { IfOk result (λ v. v.items ≡ both_true bits.now others.now) }
 {
-    let mut made = Vec::with_capacity(alloc, bits.len())?;
-    for (i, bit) in bits.iter().enumerate() {
-        made.push(*bit & others[i])?;
+    let made = Vec::from_slice(alloc, bits)?;
+    Ok(anded(made, others))
+}
+
+/// The bits, false where one of the others is.
+fn anded(bits: Vec<bool>, others: &[bool]) -> Vec<bool>
+    requires { length others.now ≡ length bits.items }
+    ensures { result.items ≡ both_true bits.items others.now }
+{
+    let mut bits = bits;
+    for i in 0..bits.len() {
+        bits[i] = bits[i] & others[i];
     }
-    Ok(made)
+    bits
 }
 
 /// Of each bit the contrary.
 pub(crate) fn contrary(alloc: Global, bits: &[bool]) -> Result<Vec<bool>, NoMemory>
     ensures { IfOk result (λ v. v.items ≡ map not bits.now) }
 {
-    let made = bits.iter().map(|b| !*b).collect(alloc)?;
-    Ok(made)
+    let made = Vec::from_slice(alloc, bits)?;
+    Ok(flipped(made))
+}
+
+fn flipped(bits: Vec<bool>) -> Vec<bool>
+    ensures { result.items ≡ map not bits.items }
+{
+    let mut bits = bits;
+    for i in 0..bits.len() {
+        bits[i] = !bits[i];
+    }
+    bits
 }
 
 /// Whether every bit is true.

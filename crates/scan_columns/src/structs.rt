@@ -11,7 +11,7 @@ ghost use Rattle.scan_columns.specs.Operands.{field_val};
 ghost use Rattle.scan_columns.specs.Rows.{IsFieldIn, IsPlaceOf};
 ghost use Rattle.scan_columns.specs.Typed.{typed};
 
-use crate::cells::{Cells, Structs};
+use crate::cells::{Cells, Structs, joined_values};
 use crate::rest::{Rest, next_row};
 use crate::slots::{all_true, both, contrary, kept, part};
 use scan_values::{DType, FieldName, Mask, NoMemory, Value, Values};
@@ -123,6 +123,27 @@ impl Structs {
             fields.push(field.slice(alloc, start..end)?)?;
         }
         Ok(Structs::new(valid, fields))
+    }
+
+    /// These, and then the others: field by field where both have as many, else as values.
+    #[cycle(append)]
+    pub fn append(self, alloc: Global, other: Structs) -> Result<Cells, NoMemory>
+        ensures { IfOk result (λ c. vals_in c ≡ self.items ++ other.items) }
+    {
+        if self.fields.len() != other.fields.len() {
+            return joined_values(alloc, Cells::Structs(self), Cells::Structs(other));
+        }
+        let Structs { mut valid, fields } = self;
+        valid.extend_from_slice(other.valid.as_slice())?;
+        let mut rest = other.fields.into_iter();
+        let mut made = Vec::with_capacity(alloc, fields.len())?;
+        for field in fields {
+            let Some(second) = rest.next() else {
+                unreachable!()
+            };
+            made.push(field.append(alloc, second)?)?;
+        }
+        Ok(Cells::Structs(Structs::new(valid, made)))
     }
 
     /// A copy that equals this one.

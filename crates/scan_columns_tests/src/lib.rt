@@ -7,3 +7,5 @@ mod columns;
 mod nodes;
 #[cfg(test)]
 mod parts;
+#[cfg(test)]
+mod table;

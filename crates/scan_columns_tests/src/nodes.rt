@@ -1,285 +1,12 @@
 //! Expressions of every kind of node, over typed columns and over values, with nulls at each level.
-ghost use Rattle.std.specs.Prelude.{◌≡◌, IfOk, true, map, List};
-ghost use Rattle.scan_values.specs.Arrays.{ArrayData};
-ghost use Rattle.scan_columns.specs.Joined.{AreAsLong, IsScopeOf};
-
-use scan_columns::Column;
-use scan_expr::{ApplyFault, Expression};
-use scan_values::{Array, DType, FieldName, Nullability, PType, StructFields, Value, Values};
+use crate::table::{
+    Field, ROWS, are_numbers, are_truths, columns, fields, first_numbers, kept_table, label,
+    list_lengths, name, over_columns, over_kept, over_structs, row, rows, table, value_at,
+};
+use scan_expr::Expression;
+use scan_values::{Array, DType, FieldName, Nullability, PType, Value, Values};
 use std::alloc::Global;
-use std::string::String;
 use std::test::Fail;
-
-/// The fields of the table: two of numbers, two of truth values, and one of lists of numbers.
-#[derive(Clone, Copy)]
-enum Field {
-    A,
-    B,
-    P,
-    Q,
-    L,
-}
-
-const ROWS: usize = 9;
-
-fn label(field: Field) -> &'static str {
-    match field {
-        Field::A => "a",
-        Field::B => "b",
-        Field::P => "p",
-        Field::Q => "q",
-        Field::L => "l",
-    }
-}
-
-fn name(alloc: Global, text: &str) -> Result<FieldName, Fail> {
-    Ok(FieldName::new(String::from_str(alloc, text)?))
-}
-
-fn number_type() -> DType {
-    DType::primitive(PType::I8, Nullability::Nullable)
-}
-
-fn dtype_of(alloc: Global, field: Field) -> Result<DType, Fail> {
-    match field {
-        Field::A | Field::B => Ok(number_type()),
-        Field::P | Field::Q => Ok(DType::bool(Nullability::Nullable)),
-        Field::L => Ok(DType::list(alloc, number_type(), Nullability::Nullable)?),
-    }
-}
-
-fn number_at(items: &[Option<i128>], i: usize) -> Value {
-    match items.get(i) {
-        Some(Some(number)) => Value::Int(*number),
-        _ => Value::Null,
-    }
-}
-
-fn truth_at(letters: &str, i: usize) -> Value {
-    match letters.as_bytes().get(i) {
-        Some(b'T') => Value::Bool(true),
-        Some(b'F') => Value::Bool(false),
-        _ => Value::Null,
-    }
-}
-
-/// A list of so many items, a null at its head.
-fn list_of(alloc: Global, len: i128) -> Result<Value, Fail> {
-    let mut items = Vec::new(alloc);
-    for i in 0..len {
-        if i == 0 {
-            items.push(Value::Null)?;
-        } else {
-            items.push(Value::Int(i))?;
-        }
-    }
-    Ok(Value::List(Values::new(items)))
-}
-
-fn list_at(alloc: Global, lengths: &[Option<i128>], i: usize) -> Result<Value, Fail> {
-    match lengths.get(i) {
-        Some(Some(len)) => list_of(alloc, *len),
-        _ => Ok(Value::Null),
-    }
-}
-
-/// The numbers of `a`.
-fn first_numbers() -> [Option<i128>; 9] {
-    [
-        Some(1),
-        Some(2),
-        Some(3),
-        Some(-5),
-        Some(100),
-        None,
-        None,
-        Some(7),
-        Some(0),
-    ]
-}
-
-/// The numbers of `b`.
-fn second_numbers() -> [Option<i128>; 9] {
-    [
-        Some(2),
-        Some(2),
-        None,
-        Some(4),
-        Some(27),
-        None,
-        Some(5),
-        Some(-7),
-        Some(0),
-    ]
-}
-
-/// The lengths of the lists of `l`.
-fn list_lengths() -> [Option<i128>; 9] {
-    [
-        Some(2),
-        None,
-        Some(0),
-        Some(1),
-        None,
-        Some(3),
-        Some(0),
-        Some(1),
-        None,
-    ]
-}
-
-fn value_at(alloc: Global, field: Field, i: usize) -> Result<Value, Fail> {
-    match field {
-        Field::A => Ok(number_at(&first_numbers(), i)),
-        Field::B => Ok(number_at(&second_numbers(), i)),
-        Field::P => Ok(truth_at("TTTFFFNNN", i)),
-        Field::Q => Ok(truth_at("TFNTFNTFN", i)),
-        Field::L => list_at(alloc, &list_lengths(), i),
-    }
-}
-
-fn fields() -> [Field; 5] {
-    [Field::A, Field::B, Field::P, Field::Q, Field::L]
-}
-
-fn column_of(alloc: Global, field: Field) -> Result<Column, Fail> {
-    let mut items = Vec::new(alloc);
-    for i in 0..ROWS {
-        items.push(value_at(alloc, field, i)?)?;
-    }
-    let array = Array::try_new(dtype_of(alloc, field)?, items)?;
-    Ok(Column::from_array(alloc, array)?)
-}
-
-fn columns(alloc: Global) -> Result<Vec<Column>, Fail> {
-    let mut made = Vec::new(alloc);
-    for field in fields() {
-        made.push(column_of(alloc, field)?)?;
-    }
-    Ok(made)
-}
-
-fn labels(alloc: Global) -> Result<Vec<FieldName>, Fail> {
-    let mut made = Vec::new(alloc);
-    for field in fields() {
-        made.push(name(alloc, label(field))?)?;
-    }
-    Ok(made)
-}
-
-fn dtypes_of(alloc: Global, columns: &[Column]) -> Result<Vec<DType>, Fail>
-    ensures { IfOk result (λ v. v.items ≡ map (λ (a : ArrayData). a.dtype) columns.now) }
-{
-    let mut made = Vec::new(alloc);
-    for column in columns {
-        made.push(column.dtype().try_clone(alloc)?)?;
-    }
-    Ok(made)
-}
-
-/// The struct of the columns' dtypes.
-fn scope_of(alloc: Global, columns: &[Column]) -> Result<DType, Fail>
-    ensures { IfOk result (IsScopeOf columns.now) }
-{
-    let names = labels(alloc)?;
-    let dtypes = dtypes_of(alloc, columns)?;
-    if names.len() != dtypes.len() {
-        return Err(Fail::from("another count"));
-    }
-    Ok(DType::struct_(StructFields::new(names, dtypes), Nullability::NonNullable)?)
-}
-
-fn are_long(columns: &[Column], len: usize) -> bool
-    ensures { result ≡ true → AreAsLong len columns.now }
-{
-    for column in columns {
-        if column.len() != len {
-            return false;
-        }
-    }
-    true
-}
-
-/// The values over the columns, typed as they are; `None` where they overflow.
-fn over_columns(alloc: Global, e: &Expression) -> Result<Option<Array>, Fail> {
-    let parts = columns(alloc)?;
-    let scope = scope_of(alloc, &parts)?;
-    let root = e.bind(alloc, &scope)?;
-    if !are_long(&parts, ROWS) {
-        return Err(Fail::from("another length"));
-    }
-    array_of(alloc, Column::evaluate_over(alloc, &root, parts, ROWS))
-}
-
-fn array_of(alloc: Global, found: Result<Column, ApplyFault>) -> Result<Option<Array>, Fail> {
-    match found {
-        Ok(column) => Ok(Some(column.to_array(alloc)?)),
-        Err(ApplyFault::Overflow) => Ok(None),
-        Err(ApplyFault::NoMemory) => Err(Fail::from("no memory")),
-    }
-}
-
-/// The rows as structs.
-fn rows(alloc: Global) -> Result<Vec<Value>, Fail> {
-    let mut made = Vec::new(alloc);
-    for i in 0..ROWS {
-        made.push(row(alloc, i)?)?;
-    }
-    Ok(made)
-}
-
-fn row(alloc: Global, i: usize) -> Result<Value, Fail> {
-    let mut items = Vec::new(alloc);
-    for field in fields() {
-        items.push(value_at(alloc, field, i)?)?;
-    }
-    Ok(Value::Struct(Values::new(items)))
-}
-
-fn table(alloc: Global) -> Result<Column, Fail> {
-    let scope = scope_of(alloc, &columns(alloc)?)?;
-    let array = Array::try_new(scope, rows(alloc)?)?;
-    Ok(Column::from_array(alloc, array)?)
-}
-
-/// The values over one column of structs; `None` where they overflow.
-fn over_structs(alloc: Global, e: &Expression) -> Result<Option<Array>, Fail> {
-    let column = table(alloc)?;
-    let bound = e.bind(alloc, column.dtype())?;
-    if *column.dtype() != *bound.scope() {
-        return Err(Fail::from("another scope"));
-    }
-    if bound.uses_row_idx() {
-        return Err(Fail::from("row numbers"));
-    }
-    array_of(alloc, column.evaluate_owned(alloc, &bound))
-}
-
-fn are_truths(found: &Option<Array>, letters: &str) -> bool {
-    match found {
-        Some(array) => {
-            let mut same = array.len() == letters.len();
-            for (i, value) in array.as_slice().iter().enumerate() {
-                same = same && *value == truth_at(letters, i);
-            }
-            same
-        }
-        None => false,
-    }
-}
-
-fn are_numbers(found: &Option<Array>, wanted: &[Option<i128>]) -> bool {
-    match found {
-        Some(array) => {
-            let mut same = array.len() == wanted.len();
-            for (i, value) in array.as_slice().iter().enumerate() {
-                same = same && *value == number_at(wanted, i);
-            }
-            same
-        }
-        None => false,
-    }
-}
 
 /// Whether the truth values are these, over the columns and over the structs.
 fn gives_truths(alloc: Global, e: &Expression, letters: &str) -> Result<bool, Fail> {
@@ -287,6 +14,23 @@ fn gives_truths(alloc: Global, e: &Expression, letters: &str) -> Result<bool, Fa
         return Ok(false);
     }
     Ok(are_truths(&over_structs(alloc, e)?, letters))
+}
+
+#[test]
+fn fields_and_lengths_over_structs_kept_as_columns(rt: HostRuntime) -> Result<(), Fail> {
+    let alloc = rt.alloc();
+    for amount in [
+        Amount::Number,
+        Amount::Sum,
+        Amount::Masked,
+        Amount::Length,
+        Amount::Selected,
+        Amount::MaskedTable,
+    ] {
+        let e = amount_of(alloc, amount)?;
+        assert!(rt; are_numbers(&over_kept(alloc, &e)?, &wanted(amount)));
+    }
+    Ok(())
 }
 
 /// Whether the numbers are these, over the columns and over the structs.
@@ -465,6 +209,7 @@ enum Amount {
     Selected,
     Left,
     MaskedChoice,
+    MaskedTable,
 }
 
 fn label_list(alloc: Global, chosen: &[Field]) -> Result<Vec<FieldName>, Fail> {
@@ -518,6 +263,12 @@ fn of_structs(alloc: Global, amount: Amount) -> Result<Expression, Fail> {
                 Expression::select_exclude(alloc, names, Expression::root())?,
             )
         }
+        Amount::MaskedTable => {
+            first_of(
+                alloc,
+                Expression::mask(alloc, Expression::root(), told(alloc)?)?,
+            )
+        }
         _ => first_of(alloc, masked_choice(alloc)?),
     }
 }
@@ -539,7 +290,7 @@ fn amount_of(alloc: Global, amount: Amount) -> Result<Expression, Fail> {
         Amount::Literal => Ok(number(5)),
         Amount::Length => Ok(Expression::list_length(alloc, item(alloc, Field::L)?)?),
         Amount::Packed | Amount::Selected => of_structs(alloc, amount),
-        Amount::Left | Amount::MaskedChoice => of_structs(alloc, amount),
+        Amount::Left | Amount::MaskedChoice | Amount::MaskedTable => of_structs(alloc, amount),
         _ => amount_of_two(alloc, amount),
     }
 }
@@ -601,7 +352,7 @@ fn wanted(amount: Amount) -> [Option<i128>; 9] {
                 Some(100),
             ]
         }
-        Amount::Masked | Amount::MaskedChoice => {
+        Amount::Masked | Amount::MaskedChoice | Amount::MaskedTable => {
             [
                 Some(1),
                 Some(2),
@@ -735,4 +486,69 @@ fn are_values(found: &Option<Array>, wanted: &[Value]) -> bool {
         Some(array) => array.as_slice() == wanted,
         None => false,
     }
+}
+
+/// The struct of `a`, of `b`, and of `a` once more.
+fn passed(alloc: Global) -> Result<Expression, Fail> {
+    let mut parts = Vec::new(alloc);
+    parts.push(item(alloc, Field::A)?)?;
+    parts.push(item(alloc, Field::B)?)?;
+    parts.push(item(alloc, Field::A)?)?;
+    let names = label_list(alloc, &[Field::L, Field::P, Field::Q])?;
+    if names.len() != parts.len() {
+        return Err(Fail::from("another count"));
+    }
+    Ok(Expression::pack(names, parts, Nullability::NonNullable))
+}
+
+fn passed_row(alloc: Global, i: usize) -> Result<Value, Fail> {
+    let mut items = Vec::new(alloc);
+    for field in [Field::A, Field::B, Field::A] {
+        items.push(value_at(alloc, field, i)?)?;
+    }
+    Ok(Value::Struct(Values::new(items)))
+}
+
+fn passed_rows(alloc: Global) -> Result<Vec<Value>, Fail> {
+    let mut made = Vec::new(alloc);
+    for i in 0..ROWS {
+        made.push(passed_row(alloc, i)?)?;
+    }
+    Ok(made)
+}
+
+#[test]
+fn a_pack_passes_columns_on_as_often_as_it_names_them(rt: HostRuntime) -> Result<(), Fail> {
+    let alloc = rt.alloc();
+    let found = over_columns(alloc, &passed(alloc)?)?;
+    let wanted = passed_rows(alloc)?;
+    assert!(rt; are_values(&found, wanted.as_slice()));
+    Ok(())
+}
+
+/// The table twice, one after the other.
+fn twice(alloc: Global) -> Result<Array, Fail> {
+    let column = kept_table(alloc)?;
+    let copy = column.try_clone(alloc)?;
+    if *column.dtype() != *copy.dtype() {
+        return Err(Fail::from("another dtype"));
+    }
+    Ok(column.append(alloc, copy)?.to_array(alloc)?)
+}
+
+fn twice_rows(alloc: Global) -> Result<Vec<Value>, Fail> {
+    let mut made = rows(alloc)?;
+    for i in 0..ROWS {
+        made.push(row(alloc, i)?)?;
+    }
+    Ok(made)
+}
+
+#[test]
+fn structs_kept_as_columns_are_appended(rt: HostRuntime) -> Result<(), Fail> {
+    let alloc = rt.alloc();
+    let found = twice(alloc)?;
+    let wanted = twice_rows(alloc)?;
+    assert!(rt; found.as_slice() == wanted.as_slice());
+    Ok(())
 }

@@ -1,5 +1,5 @@
 use borrow.Author.Rules.{rules}
-use Rattle.std.proofs.Common.{◌≡◌, List, Bool, map, ap, ◌∙◌}
+use Rattle.std.proofs.Common.{◌≡◌, map, ap, ◌∙◌}
 use Rattle.scan_values.specs.Marked.{is_true}
 use Rattle.scan_values.specs.Masks.{null_where_false}
 use Rattle.scan_values.specs.Val.{marked}

@@ -1,4 +1,4 @@
-use Rattle.std.proofs.Common.{Bool, false}
+use Rattle.std.proofs.Common.{false}
 use Rattle.scan_values.specs.Val.{bool_val}
 use Rattle.scan_columns.proofs.TypedLemmas.{typed_get}
 use Rattle.scan_columns.proofs.bools.bool_slot_at.Goals as goal

@@ -1,7 +1,6 @@
 use borrow.Author.Rules.{rules}
-use Rattle.std.proofs.Common.{◌≡◌, ◌≤◌, ◌<◌, ◌-◌, ◌++◌, Bool, List, ℕ, length, take, map, ap, sym, subst, refl, ◌∙◌, arith, slice_range}
+use Rattle.std.proofs.Common.{◌≡◌, ◌≤◌, ◌<◌, List, length, map, ap, sym, subst, refl, ◌∙◌, arith}
 use Rattle.std.specs.List.{items_where_true}
-use Rattle.scan_values.specs.Val.{Val}
 use Rattle.scan_columns.specs.Cells.{vals_in, depth_in, deepest}
 use Rattle.scan_columns.specs.declared.cells.Cells.{Cells}
 use Rattle.scan_columns.specs.declared.cells.Lists.TheDeep.{deep-Cells}
@@ -123,7 +122,8 @@ Structs::filter-new-requires t c =
     let same : items ≡ cells = c.deref-field-items.ensures.value in
     let done : length items ≤ c.loop-field.field-index = search (rules, c.loop-field-test.false) in
     let fields : map vals_in c.loop-field.fields.items ≡ map (items_where_true c.args.m.now) cs =
-    columns_done (λ (z : List Cells). map (items_where_true c.args.m.now) (map vals_in z)) items c.loop-field.field-index (map vals_in c.loop-field.fields.items) (map (items_where_true c.args.m.now) (map vals_in items)) refl done c.loop-field.invariant ∙ (λ i. map (items_where_true c.args.m.now) (map vals_in (same i))) in
+    columns_done (λ (z : List Cells). map (items_where_true c.args.m.now) (map vals_in z)) items c.loop-field.field-index (map vals_in c.loop-field.fields.items)
+    (map (items_where_true c.args.m.now) (map vals_in items)) refl done c.loop-field.invariant ∙ (λ i. map (items_where_true c.args.m.now) (map vals_in (same i))) in
     rw (valid, fields) (long_where c.args.m.now bs cs c.self.invariant)
 
 pub Structs::filter-returns : goal.Structs::filter-returns
@@ -137,6 +137,7 @@ Structs::filter-returns t c =
     let same : items ≡ cells = c.deref-field-items.ensures.value in
     let done : length items ≤ c.loop-field.field-index = search (rules, c.loop-field-test.false) in
     let fields : map vals_in c.loop-field.fields.items ≡ map (items_where_true c.args.m.now) cs =
-    columns_done (λ (z : List Cells). map (items_where_true c.args.m.now) (map vals_in z)) items c.loop-field.field-index (map vals_in c.loop-field.fields.items) (map (items_where_true c.args.m.now) (map vals_in items)) refl done c.loop-field.invariant ∙ (λ i. map (items_where_true c.args.m.now) (map vals_in (same i))) in
+    columns_done (λ (z : List Cells). map (items_where_true c.args.m.now) (map vals_in z)) items c.loop-field.field-index (map vals_in c.loop-field.fields.items)
+    (map (items_where_true c.args.m.now) (map vals_in items)) refl done c.loop-field.invariant ∙ (λ i. map (items_where_true c.args.m.now) (map vals_in (same i))) in
     c.new.ensures ∙ (λ i. typed struct_of (rows_of (length (valid i)) (fields i)) (valid i))
     ∙ structs_where c.args.m.now bs cs c.self.invariant ∙ (λ i. items_where_true c.args.m.now (c.self.view_is i).items)

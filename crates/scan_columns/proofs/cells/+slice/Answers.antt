@@ -1,13 +1,12 @@
 use borrow.Author.Rules.{rules}
-use Rattle.std.proofs.Common.{◌≡◌, ◌≤◌, ◌<◌, ◌-◌, ◌++◌, Bool, List, ℕ, length, take, map, ap, sym, subst, refl, ◌∙◌, arith, slice_range}
-use Rattle.std.specs.List.{items_where_true}
+use Rattle.std.proofs.Common.{◌≡◌, ◌≤◌, ◌<◌, List, length, take, map, ap, sym, subst, refl, ◌∙◌, arith, slice_range}
 use Rattle.scan_values.specs.Val.{Val}
 use Rattle.scan_columns.specs.Cells.{vals_in, depth_in, deepest}
 use Rattle.scan_columns.specs.declared.cells.Cells.{Cells}
 use Rattle.scan_columns.specs.declared.cells.Lists.TheDeep.{deep-Cells}
 use Rattle.scan_columns.specs.Typed.{typed}
-use Rattle.scan_columns.specs.Nested.{Deep, AreLong, total, cuts, spread, list_of, struct_of, rows_of}
-use Rattle.scan_columns.proofs.NestedLemmas.{lists_count, structs_count, total_ordered, total_take, slice_length, whole_slice, lists_slice, long_slice, structs_slice}
+use Rattle.scan_columns.specs.Nested.{Deep, AreLong, total, cuts, list_of, struct_of, rows_of}
+use Rattle.scan_columns.proofs.NestedLemmas.{lists_count, structs_count, total_ordered, total_take, whole_slice, lists_slice, long_slice, structs_slice}
 use Rattle.scan_columns.proofs.FieldLemmas.{child_falls, long_at, columns_done}
 use Rattle.scan_columns.proofs.cells.+slice.Goals as goal
 
@@ -125,7 +124,8 @@ Structs::slice-new-requires t c =
     let same : items ≡ cells = c.deref-field-items.ensures.value in
     let done : length items ≤ c.loop-field.field-index = search (rules, c.loop-field-test.false) in
     let fields : map vals_in c.loop-field.fields.items ≡ map (λ (z : List Val). slice_range z c.args.r.start c.args.r.end) cs =
-    columns_done (λ (z : List Cells). map (λ (z : List Val). slice_range z c.args.r.start c.args.r.end) (map vals_in z)) items c.loop-field.field-index (map vals_in c.loop-field.fields.items) (map (λ (z : List Val). slice_range z c.args.r.start c.args.r.end) (map vals_in items)) refl done c.loop-field.invariant ∙ (λ i. map (λ (z : List Val). slice_range z c.args.r.start c.args.r.end) (map vals_in (same i))) in
+    columns_done (λ (z : List Cells). map (λ (z : List Val). slice_range z c.args.r.start c.args.r.end) (map vals_in z)) items c.loop-field.field-index (map vals_in c.loop-field.fields.items)
+    (map (λ (z : List Val). slice_range z c.args.r.start c.args.r.end) (map vals_in items)) refl done c.loop-field.invariant ∙ (λ i. map (λ (z : List Val). slice_range z c.args.r.start c.args.r.end) (map vals_in (same i))) in
     let inside : c.args.r.end ≤ length bs = omega (arith, count, c.requires.within) in
     rw (valid, fields) (long_slice c.args.r.start c.args.r.end bs cs c.requires.ordered inside c.self.invariant)
 
@@ -140,7 +140,8 @@ Structs::slice-returns t c =
     let same : items ≡ cells = c.deref-field-items.ensures.value in
     let done : length items ≤ c.loop-field.field-index = search (rules, c.loop-field-test.false) in
     let fields : map vals_in c.loop-field.fields.items ≡ map (λ (z : List Val). slice_range z c.args.r.start c.args.r.end) cs =
-    columns_done (λ (z : List Cells). map (λ (z : List Val). slice_range z c.args.r.start c.args.r.end) (map vals_in z)) items c.loop-field.field-index (map vals_in c.loop-field.fields.items) (map (λ (z : List Val). slice_range z c.args.r.start c.args.r.end) (map vals_in items)) refl done c.loop-field.invariant ∙ (λ i. map (λ (z : List Val). slice_range z c.args.r.start c.args.r.end) (map vals_in (same i))) in
+    columns_done (λ (z : List Cells). map (λ (z : List Val). slice_range z c.args.r.start c.args.r.end) (map vals_in z)) items c.loop-field.field-index (map vals_in c.loop-field.fields.items)
+    (map (λ (z : List Val). slice_range z c.args.r.start c.args.r.end) (map vals_in items)) refl done c.loop-field.invariant ∙ (λ i. map (λ (z : List Val). slice_range z c.args.r.start c.args.r.end) (map vals_in (same i))) in
     let inside : c.args.r.end ≤ length bs = omega (arith, count, c.requires.within) in
     c.new.ensures ∙ (λ i. typed struct_of (rows_of (length (valid i)) (fields i)) (valid i))
     ∙ structs_slice c.args.r.start c.args.r.end bs cs c.requires.ordered inside ∙ (λ i. slice_range (c.self.view_is i).items c.args.r.start c.args.r.end)

@@ -1,5 +1,5 @@
 use borrow.Author.Rules.{rules}
-use Rattle.std.proofs.Common.{◌≡◌, ◌++◌, ◌+◌, ◌∙◌, ℕ, List, length, take, arith, ap, sym, subst}
+use Rattle.std.proofs.Common.{◌≡◌, ◌++◌, ◌∙◌, length, take, ap, sym, subst}
 use Rattle.scan_columns.specs.Nested.{sizes, sums, Rises, total}
 use Rattle.scan_columns.proofs.NestedLemmas.{sizes_onto, rises_onto, sizes_sum}
 use Rattle.scan_columns.proofs.ends.joined.Goals as goal

@@ -1,4 +1,4 @@
-use Rattle.std.proofs.Common.{◌≡◌, ◌≤◌, ℕ, List, length, arith, slice_range, subst, IfOk}
+use Rattle.std.proofs.Common.{◌≡◌, ℕ, List, arith, subst, IfOk}
 use Rattle.scan_columns.specs.Nested.{sums}
 use Rattle.scan_columns.proofs.NestedLemmas.{rises_slice, sizes_slice}
 use Rattle.scan_columns.proofs.ends.part_of.Goals as goal

@@ -1,4 +1,4 @@
-use Rattle.std.proofs.Common.{◌≡◌, ◌+◌, ◌-◌, ◌<◌, suc, take, arith, get_or, ◌∙◌, ap, slice_index_or}
+use Rattle.std.proofs.Common.{◌≡◌, ◌-◌, suc, take, arith, ◌∙◌, ap, slice_index_or}
 use Rattle.scan_columns.specs.Nested.{sizes, total}
 use Rattle.scan_columns.proofs.NestedLemmas.{start_at}
 use Rattle.scan_columns.proofs.ends.start_of.Goals as goal

@@ -20,5 +20,6 @@ loop-value-preserved c =
     let next : drop k values ≡ c.value-item.result ∷ drop (k + 1) values = rw (drop-cons values k c.value-item.result, ← c.value-item.is, add-one) refl in
     record {
       even = rw (nums, there) (pushed_even xs bs c.in-Some.number c.in-Some.there c.loop-value.invariant.even);
-      same = rw (nums, there) (typed_step int_val xs bs c.in-Some.number c.in-Some.there (val_of c.value-item.result) (map val_of (drop (k + 1) values)) (map val_of values) c.loop-value.invariant.even cell (ap (λ ws. typed int_val xs bs ++ map val_of ws) (sym next) ∙ c.loop-value.invariant.same));
+      same = rw (nums, there) (typed_step int_val xs bs c.in-Some.number c.in-Some.there (val_of c.value-item.result) (map val_of (drop (k + 1) values)) (map val_of values)
+          c.loop-value.invariant.even cell (ap (λ ws. typed int_val xs bs ++ map val_of ws) (sym next) ∙ c.loop-value.invariant.same));
     }

@@ -1,7 +1,7 @@
 use Rattle.std.proofs.Common.{◌≡◌, ℕ, List, [], ◌∷◌, false, map, refl, sym, ◌∙◌}
 use Rattle.std.specs.List.{range_with_len}
 use Rattle.scan_values.specs.Arrays.{ArrayData}
-use Rattle.scan_values.specs.Val.{Val, marked}
+use Rattle.scan_values.specs.Val.{marked}
 use Rattle.scan_expr.specs.Bound.{Bound}
 use Rattle.scan_expr.specs.Expr.{uses_row_index}
 use Rattle.scan_expr.specs.Eval.{eval}

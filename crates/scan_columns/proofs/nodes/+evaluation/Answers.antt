@@ -1,14 +1,12 @@
 use borrow.Author.Rules.{rules}
-use Rattle.std.proofs.Common.{◌≡◌, ℕ, ◌+◌, ◌*◌, ◌<◌, ◌≤◌, true, false, List, map, length, get_or, replicate, ap, sym, subst, ◌∙◌, arith}
-use Rattle.std.specs.List.{All, list_any, range_with_len}
+use Rattle.std.proofs.Common.{◌≡◌, ℕ, ◌+◌, true, false, List, map, length, replicate, ap, sym, subst, ◌∙◌, arith}
+use Rattle.std.specs.List.{list_any, range_with_len}
 use Rattle.std.proofs.lemmas.List.Elements.{All-get_or, All-weaker}
-use Rattle.std.proofs.Math.Seq.{drop-cons}
 use Rattle.scan_values.specs.DataType.{DataType}
 use Rattle.scan_values.specs.Values.{val_of}
 use Rattle.scan_values.specs.Val.{Val}
 use Rattle.scan_expr.specs.Bound.{Bound, exprs_of}
-use Rattle.scan_expr.specs.Expr.{Expr, expr_size, unary, binary, pack, parts_of}
-use Rattle.scan_expr.specs.Infer.{infer, binary_type}
+use Rattle.scan_expr.specs.Expr.{Expr, expr_size}
 use Rattle.scan_columns.specs.Cells.{vals_in}
 use Rattle.scan_columns.specs.Nested.{AreLong}
 use Rattle.scan_columns.specs.Evaluated.{value_in, overflows_in, unary_val, binary_val, paired, spills_in}

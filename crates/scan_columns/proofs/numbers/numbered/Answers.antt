@@ -1,5 +1,5 @@
 use borrow.Author.Rules.{rules}
-use Rattle.std.proofs.Common.{◌≡◌, ◌+◌, ◌++◌, ◌∷◌, [], ℕ, false, pos, get_or, length, arith, ap}
+use Rattle.std.proofs.Common.{◌≡◌, ◌+◌, ◌++◌, ◌∷◌, [], false, pos, get_or, length, arith}
 use Rattle.std.specs.List.{items_where_true}
 use Rattle.scan_values.specs.Val.{int_val}
 use Rattle.scan_columns.specs.Numbers.{numbers_from}

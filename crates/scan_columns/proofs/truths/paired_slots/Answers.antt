@@ -1,4 +1,4 @@
-use Rattle.std.proofs.Common.{◌≡◌, ap, sym, ◌∙◌}
+use Rattle.std.proofs.Common.{ap, sym, ◌∙◌}
 use Rattle.scan_values.specs.declared.ptype.Nullability.TheVariants.{Nullable}
 use Rattle.scan_values.specs.Val.{bool_val, read_marked, read-marked}
 use Rattle.scan_columns.specs.Typed.{cell}

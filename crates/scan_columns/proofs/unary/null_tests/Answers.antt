@@ -1,5 +1,5 @@
 use borrow.Author.Rules.{rules}
-use Rattle.std.proofs.Common.{◌≡◌, List, Bool, map, ap, sym, ◌∙◌}
+use Rattle.std.proofs.Common.{◌≡◌, map, ap, sym, ◌∙◌}
 use Rattle.scan_values.specs.Val.{bool_val, marked}
 use Rattle.scan_expr.specs.Eval.{is_nothing}
 use Rattle.scan_columns.specs.Cells.{vals_in}

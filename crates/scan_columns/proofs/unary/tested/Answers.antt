@@ -1,5 +1,5 @@
 use borrow.Author.Rules.{rules}
-use Rattle.std.proofs.Common.{◌≡◌, map, ◌∙◌}
+use Rattle.std.proofs.Common.{◌≡◌, ◌∙◌}
 use Rattle.scan_columns.proofs.KernelLemmas.{test_same}
 use Rattle.scan_columns.proofs.unary.tested.Goals as goal
 

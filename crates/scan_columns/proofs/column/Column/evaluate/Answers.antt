@@ -1,17 +1,15 @@
 use borrow.Author.Rules.{rules}
-use Rattle.std.proofs.Common.{◌≡◌, true, false, List, Bool, map, subst, ap, sym, ◌∙◌}
+use Rattle.std.proofs.Common.{◌≡◌, true, false, map, subst, ap, sym, ◌∙◌}
 use Rattle.scan_values.specs.Arrays.{ArrayData}
 use Rattle.scan_values.specs.DataType.{DataType}
-use Rattle.scan_values.specs.Marked.{is_true}
-use Rattle.scan_values.specs.Val.{Val, vals_of, marked, marked_all}
+use Rattle.scan_values.specs.Val.{vals_of, marked, marked_all}
 use Rattle.scan_values.specs.Fits.{fits_all}
 use Rattle.scan_expr.specs.Infer.{infer}
 use Rattle.scan_expr.specs.Eval.{eval}
-use Rattle.scan_expr.specs.Overflow.{overflows_on}
 use Rattle.scan_columns.specs.Cells.{vals_in}
-use Rattle.scan_columns.specs.Evaluated.{value_on, value_in, overflows_in}
+use Rattle.scan_columns.specs.Evaluated.{value_in, overflows_in}
 use Rattle.scan_columns.specs.Rows.{given_vals, unnumbered}
-use Rattle.scan_columns.proofs.Evaluation.{fit_on, marked_on, true_on}
+use Rattle.scan_columns.proofs.Evaluation.{fit_on, marked_on}
 use Rattle.scan_columns.proofs.RowLemmas.{whole_values, whole_overflows}
 use Rattle.scan_columns.proofs.column.Column.evaluate.Goals as goal
 

@@ -1,6 +1,6 @@
-use Rattle.std.proofs.Common.{◌≡◌, true, refl, map, ap, sym, subst, ◌∙◌}
-use Rattle.scan_values.specs.Val.{Val, marked}
-use Rattle.scan_expr.specs.Expr.{Expr, is_root}
+use Rattle.std.proofs.Common.{◌≡◌, refl, map, ap, sym, subst, ◌∙◌}
+use Rattle.scan_values.specs.Val.{marked}
+use Rattle.scan_expr.specs.Expr.{Expr}
 use Rattle.scan_expr.specs.Infer.{infer}
 use Rattle.scan_expr.specs.Eval.{eval}
 use Rattle.scan_columns.proofs.RowLemmas.{is_root_is, whole_none}

@@ -1,4 +1,4 @@
-use Rattle.std.proofs.Common.{◌≡◌, ◌++◌, ◌-◌, drop, take, map}
+use Rattle.std.proofs.Common.{◌≡◌, drop, take, map}
 use Rattle.scan_values.specs.Values.{val_of}
 use Rattle.scan_columns.proofs.rest.Rest.next_values.Given as goal
 

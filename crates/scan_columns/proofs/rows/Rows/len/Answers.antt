@@ -1,4 +1,4 @@
-use Rattle.std.proofs.Common.{◌≡◌, sym, ◌∙◌, map}
+use Rattle.std.proofs.Common.{sym, ◌∙◌, map}
 use Rattle.scan_columns.specs.Cells.{vals_in}
 use Rattle.scan_columns.proofs.RowLemmas.{whole_length, parts_length}
 use Rattle.scan_columns.proofs.rows.Rows.len.Goals as goal
