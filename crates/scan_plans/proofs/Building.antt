@@ -23,6 +23,7 @@ use Rattle.scan_plans.specs.declared.fault.ReadFault.{ReadFault}
 use Rattle.scan_plans.specs.declared.fault.ReadFault.TheVariants.{Corrupt, Overflow, NoMemory}
 use Rattle.scan_plans.proofs.RowLemmas.{rows_part}
 use Rattle.scan_plans.proofs.Segments.{moved_rows}
+use Rattle.scan_plans.proofs.Giving.{fails_spoils}
 use Rattle.scan_plans.proofs.LeafWalk.{Segment, to_want, to_give, want_part, give_next}
 
 pub fails_append : (ps qs : List Place) (store : Store) (id : ℕ) → fails (ps ++ qs) store id ≡ (fails ps store id || fails qs store id)
@@ -103,8 +104,8 @@ pub built_fault : (d : DataType) (sp : Spelling) (here : Came) (gs : List Segmen
     → Built d a (to_give d sp (arrived here) gs first bits k) (map (leaf_value d (arrived here) (places_of d sp gs)) (true_rows first bits)) (to_want d sp gs first bits k) (leaf_wanted 0 (places_of d sp gs) (true_rows first bits)) (arrived here)
     → AddsSegment (arrived here) (place_of d sp (get_or gs k o)) (first - from) part a (Err f)
     → Reads (leaf d sp gs) here (true_rows first bits) (Err f)
-built_fault d sp here gs first bits k o part from to a (Corrupt id) h x y e l r =
-    l.failing id (ap (λ ps. fails ps (arrived here) id) (want_part d sp gs first bits k o part from to h x y e) ∙ fails_append (if list_any (λ b. b) part then place_of d sp (get_or gs k o) ∷ [] else []) (to_want d sp gs first bits (k + 1)) (arrived here) id ∙ rw r refl)
+built_fault d sp here gs first bits k o part from to a (Corrupt id) h x y e l r = λ w. fails_spoils (leaf_wanted 0 (places_of d sp gs) (true_rows first bits)) here id (w id)
+    (l.failing id (ap (λ ps. fails ps (arrived here) id) (want_part d sp gs first bits k o part from to h x y e) ∙ fails_append (if list_any (λ b. b) part then place_of d sp (get_or gs k o) ∷ [] else []) (to_want d sp gs first bits (k + 1)) (arrived here) id ∙ rw r refl))
 built_fault d sp here gs first bits k o part from to a Overflow h x y e l r = absurd r
 built_fault d sp here gs first bits k o part from to a NoMemory h x y e l r = tt
 

@@ -6,11 +6,11 @@ use Rattle.scan_plans.specs.Came.{Came, arrived}
 use Rattle.scan_values.specs.Masks.{true_count}
 use Rattle.scan_values.proofs.MaskLemmas.{true_count-cons}
 use Rattle.scan_plans.specs.Meaning.{Within, AllWithin, overflow_on, true_rows}
-use Rattle.scan_plans.specs.Wants.{wanted, all_wanted}
-use Rattle.scan_plans.specs.Reads.{AreValues, AreColumns, Reads, ReadsAll, any_overflow_on, fails}
+use Rattle.scan_plans.specs.Wants.{wanted, all_wanted, Complete, spoiled, any_spoiled}
+use Rattle.scan_plans.specs.Reads.{AreValues, AreColumns, Reads, ReadsAll, any_overflow_on}
 use Rattle.scan_plans.specs.declared.fault.ReadFault.{ReadFault}
 use Rattle.scan_plans.specs.declared.fault.ReadFault.TheVariants.{Corrupt, Overflow, NoMemory}
-use Rattle.scan_plans.proofs.Building.{fails_append}
+use Rattle.scan_plans.proofs.Transfer.{complete_left, complete_right}
 
 or_true : (b : Bool) → (b || true) ≡ true
 or_true true = refl
@@ -42,21 +42,25 @@ one_more (q ∷ ps) p here is (d ∷ cs) c h v = (h.0, one_more ps p here is cs 
 
 pub record Filled (k : ℕ) (ps : List PlanTree) (here : Came) (is : List ℕ) (cs : List ArrayData) : Type 0 where
   pub columns : AreColumns (plans (take k ps)) here is cs
-  pub failing : (id : ℕ) → fails (all_wanted (plans (drop k ps)) here is) (arrived here) id ≡ true → fails (all_wanted (plans ps) here is) (arrived here) id ≡ true
+  pub complete : Complete (all_wanted (plans ps) here is) here → Complete (all_wanted (plans (drop k ps)) here is) here
+  pub failing : (id : ℕ) → any_spoiled (plans (drop k ps)) here is id ≡ true → any_spoiled (plans ps) here is id ≡ true
   pub spilling : any_overflow_on (plans (drop k ps)) (arrived here) is ≡ true → any_overflow_on (plans ps) (arrived here) is ≡ true
 
 pub filled_start : (ps : List PlanTree) (here : Came) (is : List ℕ) → Filled 0 ps here is []
-filled_start ps here is = record { columns = tt; failing = λ id h. h; spilling = λ h. h }
+filled_start ps here is = record { columns = tt; complete = λ c. c; failing = λ id h. h; spilling = λ h. h }
 
 pub filled_next : (k : ℕ) (ps : List PlanTree) (here : Came) (is : List ℕ) (cs : List ArrayData) (p : PlanTree) (c : ArrayData) → k < length ps → p ≡ get_or ps k p → Filled k ps here is cs → AreValues p here is c → Filled (k + 1) ps here is (cs ++ c ∷ [])
 filled_next k ps here is cs p c h e f v = record {
   columns = subst (λ (xs : List PlanTree). AreColumns (plans xs) here is (cs ++ c ∷ [])) (sym (taken_next k ps p h e)) (one_more (take k ps) p here is cs c f.columns v);
-  failing = λ id x. f.failing id (ap (λ xs. fails (all_wanted (plans xs) here is) (arrived here) id) (plans_next k ps p h e) ∙ fails_append (wanted p here is) (all_wanted (plans (drop (k + 1) ps)) here is) (arrived here) id ∙ rw x (or_true (fails (wanted p here is) (arrived here) id)));
+  complete = λ w. complete_right (wanted p here is) (all_wanted (plans (drop (k + 1) ps)) here is) here (subst (λ (xs : List PlanTree). Complete (all_wanted (plans xs) here is) here) (plans_next k ps p h e) (f.complete w));
+  failing = λ id x. f.failing id (ap (λ (xs : List PlanTree). any_spoiled (plans xs) here is id) (plans_next k ps p h e) ∙ rw x (or_true (spoiled p here is id)));
   spilling = λ x. f.spilling (ap (λ xs. any_overflow_on (plans xs) (arrived here) is) (plans_next k ps p h e) ∙ rw x (or_true (overflow_on p (arrived here) is)));
 }
 
 pub filled_fault : {A : Type 0} (items : A → List ArrayData) (k : ℕ) (ps : List PlanTree) (here : Came) (is : List ℕ) (cs : List ArrayData) (p : PlanTree) (f : ReadFault) → k < length ps → p ≡ get_or ps k p → Filled k ps here is cs → Reads p here is (Err f) → ReadsAll items (plans ps) here is (Err f)
-filled_fault items k ps here is cs p (Corrupt id) h e l r = l.failing id (ap (λ xs. fails (all_wanted (plans xs) here is) (arrived here) id) (plans_next k ps p h e) ∙ fails_append (wanted p here is) (all_wanted (plans (drop (k + 1) ps)) here is) (arrived here) id ∙ rw r refl)
+filled_fault items k ps here is cs p (Corrupt id) h e l r = λ w.
+    let own = complete_left (wanted p here is) (all_wanted (plans (drop (k + 1) ps)) here is) here (subst (λ (xs : List PlanTree). Complete (all_wanted (plans xs) here is) here) (plans_next k ps p h e) (l.complete w)) in
+    l.failing id (ap (λ (xs : List PlanTree). any_spoiled (plans xs) here is id) (plans_next k ps p h e) ∙ rw (r own) refl)
 filled_fault items k ps here is cs p Overflow h e l r = l.spilling (ap (λ xs. any_overflow_on (plans xs) (arrived here) is) (plans_next k ps p h e) ∙ rw r refl)
 filled_fault items k ps here is cs p NoMemory h e l r = tt
 

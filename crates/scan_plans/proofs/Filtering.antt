@@ -12,15 +12,15 @@ use Rattle.scan_segments.specs.Source.{Store}
 use Rattle.scan_layout.specs.Places.{Place}
 use Rattle.scan_plans.specs.PlanTree.{PlanTree}
 use Rattle.scan_plans.specs.Came.{Came, arrived, Holds}
-use Rattle.scan_plans.specs.Given.{Complete, AreLacking}
-use Rattle.scan_plans.specs.Masks.{Filter, kept, filtered, spilled, are_here, filters_wanted, filters_may, AreFilters}
+use Rattle.scan_plans.specs.Given.{AreLacking}
+use Rattle.scan_plans.specs.Masks.{Filter, kept, filtered, spilled, filters_wanted, filters_spoiled, filters_may, AreFilters}
 use Rattle.scan_plans.specs.Meaning.{value_at, overflow_on, true_rows}
-use Rattle.scan_plans.specs.Wants.{wanted, may, names_id, lacks, spoils}
+use Rattle.scan_plans.specs.Wants.{wanted, may, are_here, names_id, lacks, Complete, spoiled}
 use Rattle.scan_plans.specs.Knowing.{RunsWell, Reaches, Spills}
 use Rattle.scan_plans.specs.Reads.{AreValues}
 use Rattle.scan_plans.proofs.Columns.{count_rows}
-use Rattle.scan_plans.proofs.Collecting.{lacks_append, spoils_append}
-use Rattle.scan_plans.proofs.Transfer.{items_same, overflow_on_same}
+use Rattle.scan_plans.proofs.Collecting.{lacks_append}
+use Rattle.scan_plans.proofs.Transfer.{complete_here, items_same, overflow_on_same}
 
 or_false : (b : Bool) → (b || false) ≡ b
 or_false true = refl
@@ -49,26 +49,6 @@ kept_read p store k bits items e = ap (by_rank bits) (map_map is_true marked ite
 
 kept_same : (f : Filter) (here : Came) (store : Store) (bits : List Bool) → Holds store here → Complete (wanted f.0 here (true_rows f.1 bits)) here → kept f.0 store f.1 bits ≡ kept f.0 (arrived here) f.1 bits
 kept_same f here store bits h c = kept_by f.0 store f.1 bits ∙ ap (λ (vs : List Marked). by_rank bits (map is_true vs)) (items_same f.0 here store (true_rows f.1 bits) h c) ∙ sym (kept_by f.0 (arrived here) f.1 bits)
-
--- ---- what has arrived
-is_here : (o : Option (Option (List ℕ))) → is_none o ≡ false → is_some o ≡ true
-is_here None h = cc
-is_here (Some x) h = refl
-
-left_false : (a b c : Bool) → ((a || b) && c) ≡ false → a ≡ true → c ≡ false
-left_false true b c h e = h
-left_false false b c h e = absurd cc
-
-rest_false : (a b c : Bool) → ((a || b) && c) ≡ false → (b && c) ≡ false
-rest_false true true c h = h
-rest_false true false c h = refl
-rest_false false b c h = h
-
-pub complete_here : (ps : List Place) (here : Came) → Complete ps here → are_here ps here ≡ true
-complete_here [] here c = refl
-complete_here (p ∷ ps) here c =
-    let n = left_false (p.id == p.id) (names_id p.id ps) (is_none (here p.id)) (c p.id) (eq-eqb p.id p.id refl) in
-    rw (is_here (here p.id) n) (complete_here ps here (λ id. rest_false (p.id == id) (names_id id ps) (is_none (here id)) (c id)))
 
 -- ---- steps
 pub reach_start : (here : Came) (bits : List Bool) (fs : List Filter) → Reaches here bits fs 0 bits
@@ -109,14 +89,13 @@ reach_lacks here bits (f ∷ fs) (suc n) new id r =
     lacks_append ws (if are_here ws here then filters_wanted here (kept f.0 (arrived here) f.1 bits) fs else []) here id
     ∙ rw ((r.0).0 id, complete_here ws here (r.0).0) (reach_lacks here (kept f.0 (arrived here) f.1 bits) fs n new id r.1)
 
-pub reach_spoils : (here : Came) (bits : List Bool) (fs : List Filter) (n : ℕ) (new : List Bool) (id : ℕ) → Reaches here bits fs n new → spoils (filters_wanted here new (drop n fs)) here id ≡ true → spoils (filters_wanted here bits fs) here id ≡ true
-reach_spoils here bits fs zero new id r h = ap (λ (m : List Bool). spoils (filters_wanted here m fs) here id) (sym r) ∙ h
+pub reach_spoils : (here : Came) (bits : List Bool) (fs : List Filter) (n : ℕ) (new : List Bool) (id : ℕ) → Reaches here bits fs n new → filters_spoiled here new (drop n fs) id ≡ true → filters_spoiled here bits fs id ≡ true
+reach_spoils here bits fs zero new id r h = ap (λ (m : List Bool). filters_spoiled here m fs id) (sym r) ∙ h
 reach_spoils here bits [] (suc n) new id r h = absurd r
 reach_spoils here bits (f ∷ fs) (suc n) new id r h =
     let ws = wanted f.0 here (true_rows f.1 bits) in
     let rest = reach_spoils here (kept f.0 (arrived here) f.1 bits) fs n new id r.1 h in
-    spoils_append ws (if are_here ws here then filters_wanted here (kept f.0 (arrived here) f.1 bits) fs else []) here id
-    ∙ rw (complete_here ws here (r.0).0, rest) (or_true (spoils ws here id))
+    rw (complete_here ws here (r.0).0, rest) (or_true (spoiled f.0 here (true_rows f.1 bits) id))
 
 pub reach_may : (here : Came) (bits : List Bool) (fs : List Filter) (n : ℕ) (new : List Bool) (id : ℕ) → Reaches here bits fs n new → is_among (filters_may (drop n fs)) id ≡ true → is_among (filters_may fs) id ≡ true
 reach_may here bits fs zero new id r h = h
@@ -170,10 +149,8 @@ first_lacks here bits f fs ids a = by (are_here (wanted f.0 here (true_rows f.1 
     by true e = absurd (not_here (wanted f.0 here (true_rows f.1 bits)) here ids a e)
     by false e = record { some = a.some; exact = λ id. a.exact id ∙ sym (lacks_append (wanted f.0 here (true_rows f.1 bits)) [] here id ∙ or_false (lacks (wanted f.0 here (true_rows f.1 bits)) here id)) }
 
-pub first_spoils : (here : Came) (bits : List Bool) (f : Filter) (fs : List Filter) (id : ℕ) → spoils (wanted f.0 here (true_rows f.1 bits)) here id ≡ true → spoils (filters_wanted here bits (f ∷ fs)) here id ≡ true
-first_spoils here bits f fs id h =
-    let ws = wanted f.0 here (true_rows f.1 bits) in
-    spoils_append ws (if are_here ws here then filters_wanted here (kept f.0 (arrived here) f.1 bits) fs else []) here id ∙ rw h refl
+pub first_spoils : (here : Came) (bits : List Bool) (f : Filter) (fs : List Filter) (id : ℕ) → spoiled f.0 here (true_rows f.1 bits) id ≡ true → filters_spoiled here bits (f ∷ fs) id ≡ true
+first_spoils here bits f fs id h = rw h refl
 
 pub first_spills : (here : Came) (bits : List Bool) (f : Filter) (fs : List Filter) → Complete (wanted f.0 here (true_rows f.1 bits)) here → overflow_on f.0 (arrived here) (true_rows f.1 bits) ≡ true → Spills here bits (f ∷ fs)
 first_spills here bits f fs c o store h = ap (λ b. b || spilled store (kept f.0 store f.1 bits) fs) (overflow_on_same f.0 here store (true_rows f.1 bits) h c ∙ o)

@@ -7,9 +7,9 @@ use Rattle.scan_layout.specs.Spelling.{decode}
 use Rattle.scan_layout.specs.Places.{Place, decoded}
 use Rattle.scan_plans.specs.PlanTree.{PlanTree}
 use Rattle.scan_plans.specs.Came.{Came, arrived}
-use Rattle.scan_plans.specs.Wants.{wanted, names_id, lacks, spoils, is_bad}
-use Rattle.scan_plans.specs.Reads.{Collects, Reads, fails}
-use Rattle.scan_plans.specs.Given.{Complete, Lacks, Gives}
+use Rattle.scan_plans.specs.Wants.{wanted, names_id, lacks, Complete, spoils, is_bad}
+use Rattle.scan_plans.specs.Reads.{CollectsPlan, Reads, fails}
+use Rattle.scan_plans.specs.Given.{Lacks, Gives}
 use Rattle.scan_plans.specs.declared.fault.ReadFault.{ReadFault}
 use Rattle.scan_plans.specs.declared.fault.ReadFault.TheVariants.{Corrupt, Overflow, NoMemory}
 
@@ -51,17 +51,17 @@ fails_spoils (p ∷ ps) here id c h = first (p.id == id) (is_none (decoded (arri
 pub lacks_none : (places : List Place) (here : Came) (ids : List ℕ) → ((id : ℕ) → is_among ids id ≡ (is_among [] id || lacks places here id)) → ids ≡ [] → Complete places here
 lacks_none places here ids h e id = sym (h id) ∙ ap (λ (js : List ℕ). is_among js id) e
 
-pub lacks_fault : (A : Type 0) (old new : List ℕ) (places : List Place) (here : Came) (f : ReadFault) → Collects {A = A} old new places here (Err f) → Lacks places here (Err f)
-lacks_fault A old new places here (Corrupt id) h = h
-lacks_fault A old new places here Overflow h = h
-lacks_fault A old new places here NoMemory h = tt
+pub lacks_fault : (A : Type 0) (old new : List ℕ) (p : PlanTree) (here : Came) (is : List ℕ) (f : ReadFault) → CollectsPlan {A = A} old new p here is (Err f) → Lacks p here is (Err f)
+lacks_fault A old new p here is (Corrupt id) h = h
+lacks_fault A old new p here is Overflow h = h
+lacks_fault A old new p here is NoMemory h = tt
 
-pub gives_lack : (p : PlanTree) (here : Came) (is : List ℕ) (f : ReadFault) → Lacks (wanted p here is) here (Err f) → Gives p here is (Err f)
+pub gives_lack : (p : PlanTree) (here : Came) (is : List ℕ) (f : ReadFault) → Lacks p here is (Err f) → Gives p here is (Err f)
 gives_lack p here is (Corrupt id) h = h
 gives_lack p here is Overflow h = absurd h
 gives_lack p here is NoMemory h = tt
 
 pub gives_fault : (p : PlanTree) (here : Came) (is : List ℕ) (f : ReadFault) → Complete (wanted p here is) here → Reads p here is (Err f) → Gives p here is (Err f)
-gives_fault p here is (Corrupt id) c h = fails_spoils (wanted p here is) here id (c id) h
+gives_fault p here is (Corrupt id) c h = h c
 gives_fault p here is Overflow c h = (c, h)
 gives_fault p here is NoMemory c h = tt

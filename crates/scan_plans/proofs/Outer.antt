@@ -11,19 +11,20 @@ use Rattle.scan_values.specs.Val.{Val, marked}
 use Rattle.scan_segments.specs.Source.{Store}
 use Rattle.scan_layout.specs.Places.{Place}
 use Rattle.scan_plans.specs.Came.{Came, Holds}
-use Rattle.scan_plans.specs.Given.{Complete, AreLacking}
+use Rattle.scan_plans.specs.Given.{AreLacking}
 use Rattle.scan_plans.specs.Knowing.{Knows}
-use Rattle.scan_plans.specs.MaskLists.{nulled, under, dtype_under, masks_overflow, masks_wanted, SameMasks}
-use Rattle.scan_plans.specs.Masks.{MaskData, mask_of, mask_overflow, mask_wanted, are_here, SameMask}
+use Rattle.scan_plans.specs.MaskLists.{nulled, under, dtype_under, masks_overflow, masks_wanted, masks_spoiled, SameMasks}
+use Rattle.scan_plans.specs.Masks.{MaskData, mask_of, mask_overflow, mask_wanted, mask_spoiled, SameMask}
 use Rattle.scan_plans.specs.Projecting.{AreKnown, AreComplete, KnowsAll, IsUnder, under_known, padded}
-use Rattle.scan_plans.specs.Wants.{lacks, spoils}
+use Rattle.scan_plans.specs.Wants.{are_here, lacks, Complete}
 use Rattle.scan_plans.specs.declared.fault.ReadFault.{ReadFault}
 use Rattle.scan_plans.specs.declared.fault.ReadFault.TheVariants.{Corrupt, Overflow, NoMemory}
-use Rattle.scan_plans.proofs.Collecting.{lacks_append, spoils_append}
-use Rattle.scan_plans.proofs.Filtering.{complete_here, not_here}
+use Rattle.scan_plans.proofs.Collecting.{lacks_append}
+use Rattle.scan_plans.proofs.Filtering.{not_here}
 use Rattle.scan_plans.proofs.Futures.{known_mask, known_within}
 use Rattle.scan_plans.proofs.Progressing.{stays_same}
 use Rattle.scan_plans.proofs.RowLemmas.{drop_twice}
+use Rattle.scan_plans.proofs.Transfer.{complete_here}
 
 or_false : (b : Bool) → (b || false) ≡ b
 or_false true = refl
@@ -42,8 +43,8 @@ waits_then ps qs here ids a = by (are_here ps here) refl
     by true e = absurd (not_here ps here ids a e)
     by false e = record { some = a.some; exact = λ id. a.exact id ∙ sym (lacks_append ps [] here id ∙ or_false (lacks ps here id)) }
 
-pub spoils_then : (ps qs : List Place) (here : Came) (id : ℕ) → spoils ps here id ≡ true → spoils (ps ++ (if are_here ps here then qs else [])) here id ≡ true
-spoils_then ps qs here id h = spoils_append ps (if are_here ps here then qs else []) here id ∙ rw h refl
+spoils_then : (m : MaskData) (ms : List MaskData) (here : Came) (id : ℕ) (rest : Bool) → mask_spoiled m here id ≡ true → masks_spoiled (m ∷ ms) here id rest ≡ true
+spoils_then m ms here id rest h = rw h refl
 
 pub past_lacks : (ps qs : List Place) (here : Came) (id : ℕ) → Complete ps here → lacks (ps ++ (if are_here ps here then qs else [])) here id ≡ lacks qs here id
 past_lacks ps qs here id c = lacks_append ps (if are_here ps here then qs else []) here id ∙ rw (c id, complete_here ps here c) refl
@@ -51,8 +52,8 @@ past_lacks ps qs here id c = lacks_append ps (if are_here ps here then qs else [
 pub past_waits : (ps qs : List Place) (here : Came) (ids : List ℕ) → Complete ps here → AreLacking qs here ids → AreLacking (ps ++ (if are_here ps here then qs else [])) here ids
 past_waits ps qs here ids c a = record { some = a.some; exact = λ id. a.exact id ∙ sym (past_lacks ps qs here id c) }
 
-pub past_spoils : (ps qs : List Place) (here : Came) (id : ℕ) → Complete ps here → spoils qs here id ≡ true → spoils (ps ++ (if are_here ps here then qs else [])) here id ≡ true
-past_spoils ps qs here id c h = spoils_append ps (if are_here ps here then qs else []) here id ∙ rw (complete_here ps here c, h) (or_true (spoils ps here id))
+past_spoils : (m : MaskData) (ms : List MaskData) (here : Came) (id : ℕ) (rest : Bool) → Complete (mask_wanted m here) here → masks_spoiled ms here id rest ≡ true → masks_spoiled (m ∷ ms) here id rest ≡ true
+past_spoils m ms here id rest c h = rw (complete_here (mask_wanted m here) here c, h) (or_true (mask_spoiled m here id))
 
 -- ---- a walk over masks
 -- so many are known and lack nothing, and the others are as they were
@@ -109,13 +110,13 @@ walk_waits (suc k) here [] old m ids rest w h e a = let z : ⊥ = omega (arith, 
 walk_waits (suc k) here (n ∷ ns) [] m ids rest w h e a = absurd w
 walk_waits (suc k) here (n ∷ ns) (x ∷ ms) m ids rest w h e a = past_waits (mask_wanted x here) (masks_wanted ms here rest) here ids (w.0).2 (walk_waits k here ns ms m ids rest w.1 (omega (arith, h)) e a)
 
-walk_spoils : (k : ℕ) (here : Came) (now old : List MaskData) (m : MaskData) (id : ℕ) (rest : List Place) → Walked k here now old → k < length now → m ≡ get_or now k m → spoils (mask_wanted m here) here id ≡ true → spoils (masks_wanted old here rest) here id ≡ true
+walk_spoils : (k : ℕ) (here : Came) (now old : List MaskData) (m : MaskData) (id : ℕ) (rest : Bool) → Walked k here now old → k < length now → m ≡ get_or now k m → mask_spoiled m here id ≡ true → masks_spoiled old here id rest ≡ true
 walk_spoils zero here [] old m id rest w h e a = let z : ⊥ = omega (arith, h) in absurd z
 walk_spoils zero here (n ∷ ns) old m id rest w h e a =
-    subst (λ (ms : List MaskData). spoils (masks_wanted ms here rest) here id ≡ true) w (spoils_then (mask_wanted n here) (masks_wanted ns here rest) here id (subst (λ (x : MaskData). spoils (mask_wanted x here) here id ≡ true) e a))
+    subst (λ (ms : List MaskData). masks_spoiled ms here id rest ≡ true) w (spoils_then n ns here id rest (subst (λ (x : MaskData). mask_spoiled x here id ≡ true) e a))
 walk_spoils (suc k) here [] old m id rest w h e a = let z : ⊥ = omega (arith, h) in absurd z
 walk_spoils (suc k) here (n ∷ ns) [] m id rest w h e a = absurd w
-walk_spoils (suc k) here (n ∷ ns) (x ∷ ms) m id rest w h e a = past_spoils (mask_wanted x here) (masks_wanted ms here rest) here id (w.0).2 (walk_spoils k here ns ms m id rest w.1 (omega (arith, h)) e a)
+walk_spoils (suc k) here (n ∷ ns) (x ∷ ms) m id rest w h e a = past_spoils x ms here id rest (w.0).2 (walk_spoils k here ns ms m id rest w.1 (omega (arith, h)) e a)
 
 walk_spills : (k : ℕ) (here : Came) (now old : List MaskData) (m : MaskData) (store : Store) → Walked k here now old → k < length now → m ≡ get_or now k m → mask_overflow m store ≡ true → masks_overflow old store ≡ true
 walk_spills zero here [] old m store w h e a = let z : ⊥ = omega (arith, h) in absurd z
@@ -131,7 +132,7 @@ walk_fault k here now old after m new NoMemory w h e a = tt
 
 -- ---- one mask, and then others
 pub first_fault : (here : Came) (m new : MaskData) (ms after : List MaskData) (x : ReadFault) → Knows here m new (Err x) → KnowsAll here (m ∷ ms) after (Err x)
-first_fault here m new ms after (Corrupt id) k = λ rest. spoils_then (mask_wanted m here) (masks_wanted ms here rest) here id k
+first_fault here m new ms after (Corrupt id) k = λ rest. spoils_then m ms here id rest k
 first_fault here m new ms after Overflow k = λ store held. ap (λ b. b || masks_overflow ms store) (k store held)
 first_fault here m new ms after NoMemory k = tt
 
@@ -141,7 +142,7 @@ first_waits here m new ms after ids k = λ rest. waits_then (mask_wanted m here)
 pub then_others : (here : Came) (m new : MaskData) (ms news : List MaskData) (r : Result (Option (List ℕ)) ReadFault) → Knows here m new (Ok None) → KnowsAll here ms news r → KnowsAll here (m ∷ ms) (new ∷ news) r
 then_others here m new ms news (Ok None) k a = ((k.0, a.0), (k.1, a.1))
 then_others here m new ms news (Ok (Some ids)) k a = λ rest. past_waits (mask_wanted m here) (masks_wanted ms here rest) here ids k.1 (a rest)
-then_others here m new ms news (Err (Corrupt id)) k a = λ rest. past_spoils (mask_wanted m here) (masks_wanted ms here rest) here id k.1 (a rest)
+then_others here m new ms news (Err (Corrupt id)) k a = λ rest. past_spoils m ms here id rest k.1 (a rest)
 then_others here m new ms news (Err Overflow) k a = λ store held. ap (λ b. mask_overflow m store || b) (a store held) ∙ or_true (mask_overflow m store)
 then_others here m new ms news (Err NoMemory) k a = tt
 
@@ -150,9 +151,9 @@ pub all_lacks : (ms : List MaskData) (here : Came) (rest : List Place) (id : ℕ
 all_lacks [] here rest id c = refl
 all_lacks (m ∷ ms) here rest id c = past_lacks (mask_wanted m here) (masks_wanted ms here rest) here id c.0 ∙ all_lacks ms here rest id c.1
 
-pub all_spoils : (ms : List MaskData) (here : Came) (rest : List Place) (id : ℕ) → AreComplete ms here → spoils rest here id ≡ true → spoils (masks_wanted ms here rest) here id ≡ true
+pub all_spoils : (ms : List MaskData) (here : Came) (rest : Bool) (id : ℕ) → AreComplete ms here → rest ≡ true → masks_spoiled ms here id rest ≡ true
 all_spoils [] here rest id c h = h
-all_spoils (m ∷ ms) here rest id c h = past_spoils (mask_wanted m here) (masks_wanted ms here rest) here id c.0 (all_spoils ms here rest id c.1 h)
+all_spoils (m ∷ ms) here rest id c h = past_spoils m ms here id rest c.0 (all_spoils ms here rest id c.1 h)
 
 pub all_within : (ns ms : List MaskData) (here : Came) (store : Store) → SameMasks here ns ms → AreKnown ns → Holds store here → masks_overflow ms store ≡ false
 all_within [] [] here store s k h = refl

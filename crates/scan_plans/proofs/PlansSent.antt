@@ -9,6 +9,7 @@ use Rattle.scan_values.proofs.ArraysSent.{Array-send, Array-sync}
 use Rattle.scan_values.proofs.DTypeSent.{DType-send, DType-sync}
 use Rattle.scan_values.proofs.Loose.{Loose, rows_send, rows_sync, tied_loose}
 use Rattle.scan_splits.specs.contracts.segment_runs.SegmentRuns as SegmentRuns
+use Rattle.scan_plans.specs.contracts.offsets.Offsets as Offsets
 use Rattle.scan_plans.specs.contracts.node.PlanNode as PlanNode
 use Rattle.scan_plans.specs.contracts.node.PlanNode.TheKnot as knot
 use Rattle.scan_plans.specs.declared.node.PlanNode.TheDeep.{the_members, member-PlanNode, member-PlanNodes}
@@ -25,6 +26,12 @@ runs_send = search (sendable, cross.crosses) depth 30
 runs_sync : IsSync SegmentRuns.the_row
 runs_sync = search (sendable, cross.crosses) depth 30
 
+offsets_send : IsSend Offsets.the_row
+offsets_send = let a = cross.Arc-send DType.the_row DType-send DType-sync in let b = cross.Arc-send SegmentRuns.the_row runs_send runs_sync in search sendable depth 40
+
+offsets_sync : IsSync Offsets.the_row
+offsets_sync = let a = cross.Arc-sync DType.the_row DType-send DType-sync in let b = cross.Arc-sync SegmentRuns.the_row runs_send runs_sync in search sendable depth 40
+
 mask_send : IsSend Mask.the_row
 mask_send = search (sendable, cross.crosses) depth 30
 
@@ -34,12 +41,12 @@ mask_sync = search (sendable, cross.crosses) depth 30
 module _ (p : Parts knot.frame) (h : (j : the_members) (y : (knot.frame).D j) → Loose (p j y)) where
   kind_send : IsSend (knot.at-Kind p)
   kind_send =
-      let a = cross.Arc-send DType.the_row DType-send DType-sync in let b = cross.Arc-send SegmentRuns.the_row runs_send runs_sync in let c = cross.Arc-send Array.the_row Array-send Array-sync in let d = Bound-send in
+      let a = cross.Arc-send DType.the_row DType-send DType-sync in let b = cross.Arc-send SegmentRuns.the_row runs_send runs_sync in let c = cross.Arc-send Array.the_row Array-send Array-sync in let d = Bound-send in let o = offsets_send in
       let e = rows_send knot.frame p h member-PlanNodes in let f = cross.Box-send (rows knot.frame p member-PlanNode) (rows_send knot.frame p h member-PlanNode) in search sendable depth 60
 
   kind_sync : IsSync (knot.at-Kind p)
   kind_sync =
-      let a = cross.Arc-sync DType.the_row DType-send DType-sync in let b = cross.Arc-sync SegmentRuns.the_row runs_send runs_sync in let c = cross.Arc-sync Array.the_row Array-send Array-sync in let d = Bound-sync in
+      let a = cross.Arc-sync DType.the_row DType-send DType-sync in let b = cross.Arc-sync SegmentRuns.the_row runs_send runs_sync in let c = cross.Arc-sync Array.the_row Array-send Array-sync in let d = Bound-sync in let o = offsets_sync in
       let e = rows_sync knot.frame p h member-PlanNodes in let f = cross.Box-sync (rows knot.frame p member-PlanNode) (rows_sync knot.frame p h member-PlanNode) in search sendable depth 60
 
   node_send : IsSend (knot.view-PlanNode p)

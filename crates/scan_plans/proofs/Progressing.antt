@@ -4,11 +4,11 @@ use Rattle.scan_values.specs.Fits.{is_bool_type}
 use Rattle.scan_plans.specs.Came.{Came, arrived}
 use Rattle.scan_plans.specs.Given.{AreLacking}
 use Rattle.scan_values.specs.Selections.{is_among}
-use Rattle.scan_plans.specs.Masks.{Filter as Seen, MaskData, mask_data, AreFilters, IsMask, SameMask, filters_wanted, filters_may, filtered, spilled, kept}
+use Rattle.scan_plans.specs.Masks.{Filter as Seen, MaskData, mask_data, AreFilters, IsMask, SameMask, filters_wanted, filters_spoiled, filters_may, filtered, spilled, kept}
 use Rattle.scan_plans.specs.Meaning.{Within, plan_dtype}
 use Rattle.scan_plans.specs.MaskView.{filter_of, filters_of}
 use Rattle.scan_plans.specs.Knowing.{Reaches, Runs, RunsAll, Lacking, Knows}
-use Rattle.scan_plans.specs.Wants.{lacks, spoils}
+use Rattle.scan_plans.specs.Wants.{lacks}
 use Rattle.scan_plans.specs.declared.fault.ReadFault.{ReadFault}
 use Rattle.scan_plans.specs.declared.fault.ReadFault.TheVariants.{Corrupt, Overflow, NoMemory}
 use Rattle.scan_plans.specs.declared.mask.Filter.{Filter}
@@ -43,7 +43,7 @@ filter_good here bits mid fs k f a r h e =
 pub runs_fault : (here : Came) (bits mid : List Bool) (fs : List Filter) (k : ℕ) (f : Filter) (x : ReadFault) → Reaches here bits (filters_of fs) k mid → k < length fs → f ≡ get_or fs k f → Runs here mid (filter_of f) (Err x) → RunsAll here bits (filters_of fs) (Err x)
 runs_fault here bits mid fs k f (Corrupt id) r h e w =
     let next = seen_drop k (filters_of fs) (filter_of f) (seen_long k fs h) (seen_at k fs f h e) in
-    reach_spoils here bits (filters_of fs) k mid id r (ap (λ (gs : List Seen). spoils (filters_wanted here mid gs) here id) next ∙ first_spoils here mid (filter_of f) (drop (suc k) (filters_of fs)) id w)
+    reach_spoils here bits (filters_of fs) k mid id r (ap (λ (gs : List Seen). filters_spoiled here mid gs id) next ∙ first_spoils here mid (filter_of f) (drop (suc k) (filters_of fs)) id w)
 runs_fault here bits mid fs k f Overflow r h e w = λ store holds.
     let next = seen_drop k (filters_of fs) (filter_of f) (seen_long k fs h) (seen_at k fs f h e) in
     sym (reach_spilled here bits (filters_of fs) k mid store r holds) ∙ ap (λ (gs : List Seen). spilled store mid gs) next ∙ first_spills here mid (filter_of f) (drop (suc k) (filters_of fs)) w.0 w.1 store holds

@@ -1,28 +1,21 @@
 -- The array of a future: its masks first, then its values.
-use Rattle.std.proofs.Common.{◌≡◌, ◌+◌, ◌≤◌, ℕ, zero, suc, Bool, true, false, ◌||◌, List, [], ◌∷◌, ◌++◌, map, drop, length, replicate, get_or, Some, None, Result, Ok, Err, refl, ap, subst, ◌∙◌, sym, arith}
+use Rattle.std.proofs.Common.{◌≡◌, ◌+◌, ℕ, Bool, true, false, ◌||◌, List, [], ◌∷◌, map, drop, length, replicate, get_or, Some, None, Ok, Err, refl, ap, ◌∙◌, sym, arith}
 use Rattle.std.proofs.lemmas.List.{length-replicate}
-use Rattle.std.specs.List.{list_any}
 use Rattle.scan_values.specs.Arrays.{ArrayData}
 use Rattle.scan_values.specs.DataType.{DataType}
-use Rattle.scan_values.specs.Marked.{Marked}
 use Rattle.scan_values.specs.Val.{Val, null_val, marked}
 use Rattle.scan_segments.specs.Source.{Store}
-use Rattle.scan_layout.specs.Places.{Place}
 use Rattle.scan_plans.specs.Came.{Came, arrived, Holds}
-use Rattle.scan_plans.specs.Futures.{FutureData, IsFuture, array_data, masks_in, rows_of, items_of, future_dtype, future_wanted, future_overflow, SameFuture}
-use Rattle.scan_plans.specs.Given.{AreLacking, Complete, Gives}
-use Rattle.scan_plans.specs.MaskLists.{under, dtype_under, masks_overflow, masks_wanted}
-use Rattle.scan_plans.specs.Masks.{mask_of}
+use Rattle.scan_plans.specs.Futures.{FutureData, masks_in, rows_of, SameFuture}
+use Rattle.scan_plans.specs.Given.{Gives}
+use Rattle.scan_plans.specs.MaskLists.{under, dtype_under, masks_overflow}
 use Rattle.scan_plans.specs.Meaning.{value_at, overflow_on, plan_dtype, true_rows, Within}
-use Rattle.scan_plans.specs.PlanTree.{PlanTree, rows}
-use Rattle.scan_plans.specs.Projecting.{KnowsAll, IsUnder, under_known, as_given, Projects}
-use Rattle.scan_plans.specs.Reads.{AreValues}
-use Rattle.scan_plans.specs.Wants.{wanted, lacks, spoils}
+use Rattle.scan_plans.specs.PlanTree.{rows}
+use Rattle.scan_plans.specs.Projecting.{KnowsAll, IsUnder, under_known, Projects}
+use Rattle.scan_plans.specs.Wants.{wanted, lacks, Complete, spoiled}
 use Rattle.scan_plans.specs.declared.fault.ReadFault.{ReadFault}
 use Rattle.scan_plans.specs.declared.fault.ReadFault.TheVariants.{Corrupt, Overflow, NoMemory}
-use Rattle.scan_plans.specs.declared.given.Given.{Given}
 use Rattle.scan_plans.specs.declared.given.Given.TheVariants as given
-use Rattle.scan_plans.specs.declared.future.Items.{Items}
 use Rattle.scan_plans.specs.declared.future.Items.TheVariants.{Ready, Pending}
 use Rattle.scan_plans.proofs.Futures.{holds_itself, known_mask}
 use Rattle.scan_plans.proofs.Outer.{all_lacks, all_spoils, all_within, all_under, all_dtype}
@@ -89,7 +82,7 @@ module _ (here : Came) (new old : FutureData) (s : SameFuture here new old) (k :
   }
 
   pub values_fault : (x : ReadFault) → Gives new.tree here rows_now (Err x) → Projects here old (Err x)
-  values_fault (Corrupt id) g = all_spoils (masks_in old) here (wanted old.tree here (rows_of old (arrived here))) id k.1 (ap (λ ps. spoils ps here id) (sym wants_same) ∙ g)
+  values_fault (Corrupt id) g = all_spoils (masks_in old) here (spoiled old.tree here (rows_of old (arrived here)) id) id k.1 ((λ i. spoiled (sym s.tree i) here (sym (rows_same (arrived here) (holds_itself here)) i) id) ∙ g)
   values_fault Overflow g = λ store h. ap (λ b. masks_overflow (masks_in old) store || b) (spilled_same store h g.0 ∙ g.1) ∙ or_true (masks_overflow (masks_in old) store)
   values_fault NoMemory g = tt
 
@@ -98,6 +91,6 @@ pub masks_wait : (here : Came) (old : FutureData) (after : FutureData) (ids : Li
 masks_wait here old after ids k = k (wanted old.tree here (rows_of old (arrived here)))
 
 pub masks_stop : (here : Came) (old after : FutureData) (x : ReadFault) → KnowsAll here (masks_in old) (masks_in after) (Err x) → Projects here old (Err x)
-masks_stop here old after (Corrupt id) k = k (wanted old.tree here (rows_of old (arrived here)))
+masks_stop here old after (Corrupt id) k = k (spoiled old.tree here (rows_of old (arrived here)) id)
 masks_stop here old after Overflow k = λ store h. ap (λ b. b || overflow_on old.tree store (rows_of old store)) (k store h)
 masks_stop here old after NoMemory k = tt

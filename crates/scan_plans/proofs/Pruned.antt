@@ -1,16 +1,17 @@
 -- What a pruning that drops nothing keeps, and what fewer rows want.
-use Rattle.std.proofs.Common.{◌≡◌, ℕ, zero, suc, ◌+◌, ◌==◌, Bool, true, false, not, ◌||◌, ◌&&◌, List, [], ◌∷◌, ◌++◌, get_or, refl, ap, ◌∙◌, sym, arith}
-use Rattle.std.specs.Prelude.{if◌then◌else◌, nat_le, nat_lt}
+use Rattle.std.proofs.Common.{◌≡◌, ℕ, zero, suc, ◌+◌, Bool, true, false, not, ◌||◌, ◌&&◌, List, [], ◌∷◌, get_or, Result, Ok, Err, refl, ap, subst, ◌∙◌, sym}
+use Rattle.std.specs.Prelude.{if◌then◌else◌, nat_le, nat_lt, IfOk}
 use Rattle.std.specs.List.{list_any, list_all}
 use Rattle.scan_values.specs.Marked.{is_true}
 use Rattle.scan_values.specs.Masks.{both_true}
 use Rattle.scan_segments.specs.Source.{Store}
 use Rattle.scan_layout.specs.Places.{Place}
-use Rattle.scan_plans.specs.Masks.{kept}
+use Rattle.scan_plans.specs.Came.{Came}
+use Rattle.scan_plans.specs.Masks.{MaskData, mask_data, kept, filtered, filters_wanted, mask_of, mask_wanted}
 use Rattle.scan_plans.specs.Meaning.{value_at, true_rows}
-use Rattle.scan_plans.specs.PlanTree.{PlanTree}
-use Rattle.scan_plans.specs.Pruning.{IsWithin, FiltersAlike}
-use Rattle.scan_plans.specs.Wants.{holds_any, leaf_wanted, names_id}
+use Rattle.scan_plans.specs.PlanTree.{PlanTree, evaluate, numbers}
+use Rattle.scan_plans.specs.Pruning.{are_numbers, is_numbered, pruned, IsWithin, DropsNone, FiltersAlike}
+use Rattle.scan_plans.specs.Wants.{holds_any, leaf_wanted, wanted, names_id}
 use Rattle.scan_plans.proofs.LeafWalk.{no_rows_wanted}
 use Rattle.scan_plans.proofs.Wanting.{either, names_append}
 
@@ -30,6 +31,55 @@ both_itself (false ∷ bits) = ap (λ bs. false ∷ bs) (both_itself bits)
 
 pub filters_alike : (p : PlanTree) (store : Store) (k : ℕ) (bits : List Bool) → FiltersAlike p store k bits bits
 filters_alike p store k bits = ap (kept p store k) (both_itself bits)
+
+-- ---- over the numbers of rows
+numbers_want : (p : PlanTree) → are_numbers p ≡ true → (here : Came) (is : List ℕ) → ◌≡◌ {A = List Place} (wanted p here is) []
+numbers_want (numbers k) h here is = refl
+numbers_want _ h here is = absurd cc
+
+pub numbered_wants : (p : PlanTree) → is_numbered p ≡ true → (here : Came) (is : List ℕ) → ◌≡◌ {A = List Place} (wanted p here is) []
+numbered_wants (evaluate d e p) h here is = numbers_want p h here is
+numbered_wants _ h here is = absurd cc
+
+and_again : (b t : Bool) → ((b && (b && t)) && t) ≡ (b && t)
+and_again true true = refl
+and_again true false = refl
+and_again false t = refl
+
+pub kept_again : (p : PlanTree) (store : Store) (k : ℕ) (bits : List Bool) → FiltersAlike p store k bits (kept p store k bits)
+kept_again p store k [] = refl
+kept_again p store k (b ∷ bits) = rw (and_again b (is_true (value_at p store k))) (ap (λ bs. (b && is_true (value_at p store k)) ∷ bs) (kept_again p store (k + 1) bits))
+
+-- what pruning leaves
+module _ (p : PlanTree) (first : ℕ) (mask : List Bool) where
+  pub pruned_wants : (here : Came) → ◌≡◌ {A = List Place} (mask_wanted (pruned p first mask) here) []
+  pruned_wants here = by (is_numbered p) refl
+    where
+      by : (b : Bool) → is_numbered p ≡ b → ◌≡◌ {A = List Place} (filters_wanted here mask (if b then (p, first) ∷ [] else [])) []
+      by true h = rw (numbered_wants p h here (true_rows first mask)) refl
+      by false h = refl
+
+  pub pruned_keeps : (store : Store) → DropsNone p store first mask (mask_of (pruned p first mask) store)
+  pruned_keeps store = by (is_numbered p)
+    where
+      by : (b : Bool) → IsWithin (kept p store first mask) (filtered store mask (if b then (p, first) ∷ [] else []))
+      by true = λ i h. h
+      by false = kept_within p store first mask
+
+  pub pruned_alike : (store : Store) → FiltersAlike p store first mask (mask_of (pruned p first mask) store)
+  pruned_alike store = by (is_numbered p)
+    where
+      by : (b : Bool) → FiltersAlike p store first mask (filtered store mask (if b then (p, first) ∷ [] else []))
+      by true = kept_again p store first mask
+      by false = filters_alike p store first mask
+
+  pub pruned_by : {E : Type 0} (b : Bool) (r : Result MaskData E) → is_numbered p ≡ b → IfOk r (λ m. m ≡ mask_data mask (if b then (p, first) ∷ [] else [])) → IfOk r (λ m. m ≡ pruned p first mask)
+  pruned_by b (Ok m) n h = h ∙ ap (λ (t : Bool). mask_data mask (if t then (p, first) ∷ [] else [])) (sym n)
+  pruned_by b (Err e) n h = tt
+
+pub of_pruned : {E : Type 0} (P : MaskData → Type 0) (m : MaskData) (r : Result MaskData E) → P m → IfOk r (λ x. x ≡ m) → IfOk r P
+of_pruned P m (Ok x) p h = subst P (sym h) p
+of_pruned P m (Err e) p h = tt
 
 -- ---- fewer rows
 or_true : (b : Bool) → (b || true) ≡ true

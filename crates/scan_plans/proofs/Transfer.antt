@@ -1,6 +1,6 @@
 -- Where nothing lacks, what is read by what has arrived is what every store gives that holds it.
 use Rattle.std.proofs.Common.{◌≡◌, ℕ, ◌+◌, ◌-◌, ◌<◌, ◌≤◌, ◌==◌, Bool, true, false, ◌||◌, ◌&&◌, List, [], ◌∷◌, ◌++◌, map, Option, Some, None, is_none, refl, ap, ◌∙◌, sym, arith}
-use Rattle.std.specs.Prelude.{nat_lt, nat_le, if◌then◌else◌, option_and_then}
+use Rattle.std.specs.Prelude.{is_some, nat_lt, nat_le, if◌then◌else◌, option_and_then}
 use Rattle.std.specs.List.{list_any}
 use Rattle.std.proofs.lemmas.List.Folds.{list_any-append}
 use Rattle.std.proofs.lemmas.Bool.Decides.{nat_tests}
@@ -11,12 +11,34 @@ use Rattle.scan_segments.specs.Source.{Store}
 use Rattle.scan_expr.specs.Eval.{eval}
 use Rattle.scan_layout.specs.Spelling.{decode}
 use Rattle.scan_layout.specs.Places.{Place, places_of}
-use Rattle.scan_layout.specs.RowValue.{leaf_value, segment_value, item_of}
-use Rattle.scan_plans.specs.PlanTree.{PlanTree, leaf, rows, evaluate, over, constant, PlanTrees, no_plans, plan}
+use Rattle.scan_layout.specs.RowValue.{leaf_value, segment_value, item_of, offset_of}
+use Rattle.scan_plans.specs.PlanTree.{PlanTree, leaf, rows, evaluate, over, constant, lists, lengths, valid, numbers, by_lengths, PlanTrees, no_plans, plan}
+use Rattle.scan_plans.specs.OffsetsData.{OffsetsData, offset_at, offset_places}
+use Rattle.scan_plans.specs.Lists.{offset_rows, element_rows}
 use Rattle.scan_plans.specs.Came.{Came, arrived, Holds}
-use Rattle.scan_plans.specs.Given.{Complete}
-use Rattle.scan_plans.specs.Meaning.{value_at, values_at, overflow_at, overflow_in}
-use Rattle.scan_plans.specs.Wants.{holds_any, leaf_wanted, wanted, all_wanted, names_id}
+use Rattle.scan_plans.specs.Meaning.{value_at, values_at, list_at, overflow_at, overflow_in}
+use Rattle.scan_plans.specs.Wants.{holds_any, leaf_wanted, offsets_wanted, are_here, wanted, all_wanted, names_id, Complete}
+use Rattle.scan_plans.proofs.Spans.{among, own_offset, next_offset, own_element, elements_alike}
+
+-- ---- what has arrived
+is_here : (o : Option (Option (List ℕ))) → is_none o ≡ false → is_some o ≡ true
+is_here None h = cc
+is_here (Some x) h = refl
+
+left_false : (a b c : Bool) → ((a || b) && c) ≡ false → a ≡ true → c ≡ false
+left_false true b c h e = h
+left_false false b c h e = absurd cc
+
+rest_false : (a b c : Bool) → ((a || b) && c) ≡ false → (b && c) ≡ false
+rest_false true true c h = h
+rest_false true false c h = refl
+rest_false false b c h = h
+
+pub complete_here : (ps : List Place) (here : Came) → Complete ps here → are_here ps here ≡ true
+complete_here [] here c = refl
+complete_here (p ∷ ps) here c =
+    let n = left_false (p.id == p.id) (names_id p.id ps) (is_none (here p.id)) (c p.id) (eq-eqb p.id p.id refl) in
+    rw (is_here (here p.id) n) (complete_here ps here (λ id. rest_false (p.id == id) (names_id id ps) (is_none (here id)) (c id)))
 
 or_left : (a b : Bool) → (a || b) ≡ false → a ≡ false
 or_left true b h = h
@@ -50,10 +72,6 @@ place_same p here store holds h = by (here p.id) refl (h p.id)
     by (Some bytes) e k = holds p.id bytes e ∙ sym (ap (option_and_then (λ b. b)) e)
 
 -- ---- a leaf
--- row i is one of the rows
-abbrev among : ℕ → List ℕ → Bool
-among i is = list_any (λ j. j == i) is
-
 among_holds : (base n i : ℕ) (is : List ℕ) → among i is ≡ true → base ≤ i → i < base + n → holds_any base n is ≡ true
 among_holds base n i [] h low high = absurd cc
 among_holds base n i (j ∷ is) h low high = first (j == i) refl h (λ m. among_holds base n i is m low high)
@@ -87,6 +105,10 @@ leaf_same d here store (p ∷ ps) base i is holds h low c = by (nat_lt (i - base
         let same : (i - base) - p.rows ≡ i - (base + p.rows) = omega arith in
         rw same (later (omega (arith, far, low)))
 
+-- ---- the offsets of lists
+pub offset_same : (o : OffsetsData) (here : Came) (store : Store) (i : ℕ) (is : List ℕ) → Holds store here → among i (offset_rows is) ≡ true → Complete (offsets_wanted o is) here → offset_at o store i ≡ offset_at o (arrived here) i
+offset_same o here store i is holds h c = let z : i - 0 ≡ i = omega arith in let e = leaf_same o.dtype here store (offset_places o) 0 i (offset_rows is) holds h (omega arith) c in rw (← z) (ap offset_of e)
+
 -- ---- a plan
 mutual
   pub value_same : (p : PlanTree) (here : Came) (store : Store) (i : ℕ) (is : List ℕ) → Holds store here → among i is ≡ true → Complete (wanted p here is) here → value_at p store i ≡ value_at p (arrived here) i
@@ -95,6 +117,34 @@ mutual
   value_same (evaluate d e p) here store i is holds h c = ap (λ v. eval d e v 0) (value_same p here store i is holds h c)
   value_same (over d e ps) here store i is holds h c = ap (λ vs. eval d e (struct vs) 0) (values_same ps here store i is holds h c)
   value_same (constant d e) here store i is holds h c = refl
+  value_same (lists d p o) here store i is holds h c =
+      let first = complete_left (offsets_wanted o is) (if are_here (offsets_wanted o is) here then wanted p here (element_rows o (arrived here) is) else []) here c in
+      let rest : Complete (wanted p here (element_rows o (arrived here) is)) here = second (are_here (offsets_wanted o is) here) (complete_here (offsets_wanted o is) here first) (complete_right (offsets_wanted o is) (if are_here (offsets_wanted o is) here then wanted p here (element_rows o (arrived here) is) else []) here c) in
+      rw (offset_same o here store i is holds (own_offset i is h) first, offset_same o here store (i + 1) is holds (next_offset i is h) first)
+      (elements_alike o.elements (offset_at o (arrived here) i) (offset_at o (arrived here) (i + 1)) (λ j. value_at p store j) (λ j. value_at p (arrived here) j)
+      (λ a b j x y m low high. value_same p here store j (element_rows o (arrived here) is) holds (own_element o (arrived here) i is a b j h x y m low high) rest))
+    where
+      second : (b : Bool) → b ≡ true → Complete (if b then wanted p here (element_rows o (arrived here) is) else []) here → Complete (wanted p here (element_rows o (arrived here) is)) here
+      second true e w = w
+      second false e w = absurd cc
+  value_same (lengths o) here store i is holds h c = rw (offset_same o here store i is holds (own_offset i is h) c, offset_same o here store (i + 1) is holds (next_offset i is h) c) refl
+  value_same (valid p v) here store i is holds h c =
+      rw (value_same v here store i is holds h (complete_left (wanted v here is) (wanted p here is) here c), value_same p here store i is holds h (complete_right (wanted v here is) (wanted p here is) here c)) refl
+  value_same (numbers k) here store i is holds h c = refl
+  value_same (by_lengths d e t f p) here store i is holds h c = ap (λ v. eval d e v 0) (list_same p here store i is holds h c)
+
+  list_same : (p : PlanTree) (here : Came) (store : Store) (i : ℕ) (is : List ℕ) → Holds store here → among i is ≡ true → Complete (wanted p here is) here → list_at p store i ≡ list_at p (arrived here) i
+  list_same (leaf d s gs) here store i is holds h c = refl
+  list_same (rows d vs) here store i is holds h c = refl
+  list_same (evaluate d e p) here store i is holds h c = refl
+  list_same (over d e ps) here store i is holds h c = refl
+  list_same (constant d e) here store i is holds h c = refl
+  list_same (lists d p o) here store i is holds h c = refl
+  list_same (lengths o) here store i is holds h c = rw (offset_same o here store i is holds (own_offset i is h) c, offset_same o here store (i + 1) is holds (next_offset i is h) c) refl
+  list_same (valid p v) here store i is holds h c =
+      rw (value_same v here store i is holds h (complete_left (wanted v here is) (wanted p here is) here c), list_same p here store i is holds h (complete_right (wanted v here is) (wanted p here is) here c)) refl
+  list_same (numbers k) here store i is holds h c = refl
+  list_same (by_lengths d e t f p) here store i is holds h c = refl
 
   pub values_same : (ps : PlanTrees) (here : Came) (store : Store) (i : ℕ) (is : List ℕ) → Holds store here → among i is ≡ true → Complete (all_wanted ps here is) here → values_at ps store i ≡ values_at ps (arrived here) i
   values_same no_plans here store i is holds h c = refl
@@ -108,6 +158,12 @@ mutual
   overflow_same (evaluate d e p) here store i is holds h c = rw (overflow_same p here store i is holds h c, value_same p here store i is holds h c) refl
   overflow_same (over d e ps) here store i is holds h c = rw (overflows_same ps here store i is holds h c, values_same ps here store i is holds h c) refl
   overflow_same (constant d e) here store i is holds h c = refl
+  overflow_same (lists d p o) here store i is holds h c = refl
+  overflow_same (lengths o) here store i is holds h c = refl
+  overflow_same (valid p v) here store i is holds h c =
+      rw (overflow_same v here store i is holds h (complete_left (wanted v here is) (wanted p here is) here c), overflow_same p here store i is holds h (complete_right (wanted v here is) (wanted p here is) here c)) refl
+  overflow_same (numbers k) here store i is holds h c = refl
+  overflow_same (by_lengths d e t f p) here store i is holds h c = rw (overflow_same p here store i is holds h c, list_same p here store i is holds h c) refl
 
   pub overflows_same : (ps : PlanTrees) (here : Came) (store : Store) (i : ℕ) (is : List ℕ) → Holds store here → among i is ≡ true → Complete (all_wanted ps here is) here → overflow_in ps store i ≡ overflow_in ps (arrived here) i
   overflows_same no_plans here store i is holds h c = refl

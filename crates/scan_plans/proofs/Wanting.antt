@@ -8,10 +8,11 @@ use Rattle.scan_values.specs.Selections.{is_among}
 use Rattle.scan_layout.specs.declared.spelling.Spelling.{Spelling}
 use Rattle.scan_layout.specs.Places.{Place, place_of, places_of}
 use Rattle.scan_layout.specs.Touched.{leaf_touched}
-use Rattle.scan_plans.specs.PlanTree.{PlanTree, leaf, rows, evaluate, over, constant, PlanTrees, no_plans, plan}
-use Rattle.scan_plans.specs.Came.{Came}
+use Rattle.scan_plans.specs.PlanTree.{PlanTree, leaf, rows, evaluate, over, constant, lists, lengths, valid, numbers, by_lengths, PlanTrees, no_plans, plan}
+use Rattle.scan_plans.specs.Lists.{offset_rows, element_rows}
+use Rattle.scan_plans.specs.Came.{Came, arrived}
 use Rattle.scan_plans.specs.Meaning.{true_rows}
-use Rattle.scan_plans.specs.Wants.{holds_any, leaf_wanted, wanted, all_wanted, may, all_may, names_id}
+use Rattle.scan_plans.specs.Wants.{holds_any, leaf_wanted, are_here, offsets_wanted, wanted, all_wanted, may, all_may, names_id}
 use Rattle.scan_plans.proofs.RowLemmas.{none_of_rows}
 
 or_true : (b : Bool) → (b || true) ≡ true
@@ -51,6 +52,21 @@ mutual
   wants_may (evaluate d e p) here is id h = wants_may p here is id h
   wants_may (over d e ps) here is id h = all_may_want ps here is id h
   wants_may (constant d e) here is id h = h
+  wants_may (lists d p o) here is id h =
+      among_append id (map (λ (g : ℕ × ℕ). g.0) o.segments) (may p)
+      ∙ either (names_id id (offsets_wanted o is)) (names_id id (if are_here (offsets_wanted o is) here then wanted p here (element_rows o (arrived here) is) else []))
+      (is_among (map (λ (g : ℕ × ℕ). g.0) o.segments) id) (is_among (may p) id)
+      (sym (names_append id (offsets_wanted o is) (if are_here (offsets_wanted o is) here then wanted p here (element_rows o (arrived here) is) else [])) ∙ h)
+      (leaf_may o.dtype o.spelling o.segments 0 (offset_rows is) id) (second (are_here (offsets_wanted o is) here) (wants_may p here (element_rows o (arrived here) is) id))
+    where
+      second : (b : Bool) → (names_id id (wanted p here (element_rows o (arrived here) is)) ≡ true → is_among (may p) id ≡ true) → names_id id (if b then wanted p here (element_rows o (arrived here) is) else []) ≡ true → is_among (may p) id ≡ true
+      second true f w = f w
+      second false f w = absurd cc
+  wants_may (lengths o) here is id h = leaf_may o.dtype o.spelling o.segments 0 (offset_rows is) id h
+  wants_may (valid p v) here is id h =
+      among_append id (may v) (may p) ∙ either (names_id id (wanted v here is)) (names_id id (wanted p here is)) (is_among (may v) id) (is_among (may p) id) (sym (names_append id (wanted v here is) (wanted p here is)) ∙ h) (wants_may v here is id) (wants_may p here is id)
+  wants_may (numbers k) here is id h = h
+  wants_may (by_lengths d e t f p) here is id h = wants_may p here is id h
 
   pub all_may_want : (ps : PlanTrees) (here : Came) (is : List ℕ) (id : ℕ) → names_id id (all_wanted ps here is) ≡ true → is_among (all_may ps) id ≡ true
   all_may_want no_plans here is id h = h

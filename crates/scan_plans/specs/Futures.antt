@@ -9,12 +9,12 @@ use Rattle.scan_segments.specs.Source.{Store}
 use Rattle.scan_layout.specs.Places.{Place}
 use Rattle.scan_plans.specs.Came.{Came, arrived, Holds}
 use Rattle.scan_plans.specs.Masks.{MaskData, mask_data, mask_code, mask_of}
-use Rattle.scan_plans.specs.MaskLists.{under, dtype_under, masks_overflow, masks_wanted, masks_may, SameMasks}
+use Rattle.scan_plans.specs.MaskLists.{under, dtype_under, masks_overflow, masks_wanted, masks_spoiled, masks_may, SameMasks}
 use Rattle.scan_plans.specs.Meaning.{value_at, overflow_on, plan_dtype, true_rows, Within}
 use Rattle.scan_plans.specs.PlanCode.{plan_code}
 use Rattle.scan_plans.specs.PlanData.{PlanData}
 use Rattle.scan_plans.specs.PlanTree.{PlanTree, rows}
-use Rattle.scan_plans.specs.Wants.{wanted, may}
+use Rattle.scan_plans.specs.Wants.{wanted, may, spoiled}
 
 -- a plan, its row at which its mask begins, that mask, and the masks outside which its values are null
 pub record FutureData : Type 0 where
@@ -69,6 +69,10 @@ future_overflow f store = masks_overflow (masks_in f) store || overflow_on f.tre
 -- what is wanted next, with what was wanted before: its masks first
 abbrev pub future_wanted : FutureData → Came → List Place
 future_wanted f here = masks_wanted (masks_in f) here (wanted f.tree here (rows_of f (arrived here)))
+
+-- what arrived of the segment of this id is no good for its masks or its rows
+abbrev pub future_spoiled : FutureData → Came → ℕ → Bool
+future_spoiled f here id = masks_spoiled (masks_in f) here id (spoiled f.tree here (rows_of f (arrived here)) id)
 
 -- the ids of all that it may ever want
 abbrev pub future_may : FutureData → List ℕ

@@ -1,21 +1,17 @@
 -- What rows of a plan give or lack.
-use Rattle.std.specs.Prelude.{◌≡◌, ℕ, true, false, List, Option, Some, None, Result, Ok, Err}
+use Rattle.std.specs.Prelude.{◌≡◌, ℕ, true, List, Option, Some, None, Result, Ok, Err}
 use Rattle.scan_values.specs.Selections.{is_among}
 use Rattle.scan_layout.specs.Places.{Place}
 use Rattle.scan_splits.specs.Wanted.{is_any}
 use Rattle.scan_plans.specs.PlanTree.{PlanTree}
 use Rattle.scan_plans.specs.Came.{Came, arrived}
 use Rattle.scan_plans.specs.Meaning.{overflow_on}
-use Rattle.scan_plans.specs.Wants.{wanted, lacks, spoils}
+use Rattle.scan_plans.specs.Wants.{wanted, lacks, Complete, spoiled}
 use Rattle.scan_plans.specs.Reads.{AreValues}
 use Rattle.scan_plans.specs.declared.fault.ReadFault.{ReadFault}
 use Rattle.scan_plans.specs.declared.fault.ReadFault.TheVariants.{Corrupt, Overflow, NoMemory}
 use Rattle.scan_plans.specs.declared.given.Given.{Given}
 use Rattle.scan_plans.specs.declared.given.Given.TheVariants.{Ready, Pending}
-
--- nothing of these segments lacks
-abbrev pub Complete : List Place → Came → Type 0
-Complete places here = (id : ℕ) → lacks places here id ≡ false
 
 -- these ids, at least one, and no others lack
 pub record AreLacking (places : List Place) (here : Came) (ids : List ℕ) : Type 0 where
@@ -23,17 +19,17 @@ pub record AreLacking (places : List Place) (here : Came) (ids : List ℕ) : Typ
   pub exact : (id : ℕ) → is_among ids id ≡ lacks places here id
 
 -- the ids that lack, if any, or one that is no good
-abbrev pub Lacks : List Place → Came → Result (Option (List ℕ)) ReadFault → Type 0
-Lacks places here (Ok None) = Complete places here
-Lacks places here (Ok (Some ids)) = AreLacking places here ids
-Lacks places here (Err (Corrupt id)) = spoils places here id ≡ true
-Lacks places here (Err Overflow) = ⊥
-Lacks places here (Err NoMemory) = Unit {0}
+abbrev pub Lacks : PlanTree → Came → List ℕ → Result (Option (List ℕ)) ReadFault → Type 0
+Lacks p here is (Ok None) = Complete (wanted p here is) here
+Lacks p here is (Ok (Some ids)) = AreLacking (wanted p here is) here ids
+Lacks p here is (Err (Corrupt id)) = spoiled p here is id ≡ true
+Lacks p here is (Err Overflow) = ⊥
+Lacks p here is (Err NoMemory) = Unit {0}
 
 -- the values where nothing lacks, the ids that lack, one that is no good, or an overflow where nothing lacks
 abbrev pub Gives : PlanTree → Came → List ℕ → Result Given ReadFault → Type 0
 Gives p here is (Ok (Ready c)) = Complete (wanted p here is) here × AreValues p here is c
 Gives p here is (Ok (Pending ids)) = AreLacking (wanted p here is) here ids
-Gives p here is (Err (Corrupt id)) = spoils (wanted p here is) here id ≡ true
+Gives p here is (Err (Corrupt id)) = spoiled p here is id ≡ true
 Gives p here is (Err Overflow) = Complete (wanted p here is) here × (overflow_on p (arrived here) is ≡ true)
 Gives p here is (Err NoMemory) = Unit {0}

@@ -5,10 +5,10 @@ use Rattle.scan_values.specs.Masks.{by_rank}
 use Rattle.scan_values.specs.Val.{Val, marked}
 use Rattle.scan_segments.specs.Source.{Store}
 use Rattle.scan_plans.specs.Came.{Came, arrived, Holds}
-use Rattle.scan_plans.specs.Given.{Complete, AreLacking}
-use Rattle.scan_plans.specs.Masks.{MaskData, Filter, kept, filters_wanted, mask_wanted, mask_overflow, spilled}
+use Rattle.scan_plans.specs.Given.{AreLacking}
+use Rattle.scan_plans.specs.Masks.{MaskData, Filter, kept, filters_wanted, filters_spoiled, mask_wanted, mask_spoiled, mask_overflow, spilled}
 use Rattle.scan_plans.specs.Meaning.{overflow_on, true_rows}
-use Rattle.scan_plans.specs.Wants.{wanted, spoils}
+use Rattle.scan_plans.specs.Wants.{wanted, Complete, spoiled}
 use Rattle.scan_plans.specs.declared.fault.ReadFault.{ReadFault}
 use Rattle.scan_plans.specs.declared.fault.ReadFault.TheVariants.{Corrupt, Overflow, NoMemory}
 use Rattle.scan_plans.specs.declared.mask.Ran.{Ran}
@@ -27,7 +27,7 @@ RunsWell here bits f = Complete (wanted f.0 here (true_rows f.1 bits)) here × (
 abbrev pub Runs : Came → List Bool → Filter → Result Ran ReadFault → Type 0
 Runs here bits f (Ok (Known new)) = RunsWell here bits f × (new ≡ kept f.0 (arrived here) f.1 bits)
 Runs here bits f (Ok (Pending ids)) = AreLacking (wanted f.0 here (true_rows f.1 bits)) here ids
-Runs here bits f (Err (Corrupt id)) = spoils (wanted f.0 here (true_rows f.1 bits)) here id ≡ true
+Runs here bits f (Err (Corrupt id)) = spoiled f.0 here (true_rows f.1 bits) id ≡ true
 Runs here bits f (Err Overflow) = Complete (wanted f.0 here (true_rows f.1 bits)) here × (overflow_on f.0 (arrived here) (true_rows f.1 bits) ≡ true)
 Runs here bits f (Err NoMemory) = Unit {0}
 
@@ -48,7 +48,7 @@ Lacking here bits fs (Some ids) = AreLacking (filters_wanted here bits fs) here 
 -- filters over a mask: how far they get and what lacks there, a segment that is no good, or an overflow
 abbrev pub RunsAll : Came → List Bool → List Filter → Result Progress ReadFault → Type 0
 RunsAll here bits fs (Ok p) = Reaches here bits fs p.ran p.known × Lacking here p.known (drop p.ran fs) p.lacking
-RunsAll here bits fs (Err (Corrupt id)) = spoils (filters_wanted here bits fs) here id ≡ true
+RunsAll here bits fs (Err (Corrupt id)) = filters_spoiled here bits fs id ≡ true
 RunsAll here bits fs (Err Overflow) = Spills here bits fs
 RunsAll here bits fs (Err NoMemory) = Unit {0}
 
@@ -56,6 +56,6 @@ RunsAll here bits fs (Err NoMemory) = Unit {0}
 abbrev pub Knows : Came → MaskData → MaskData → Result (Option (List ℕ)) ReadFault → Type 0
 Knows here old new (Ok None) = (new.filters ≡ []) × Complete (mask_wanted old here) here
 Knows here old new (Ok (Some ids)) = AreLacking (mask_wanted old here) here ids
-Knows here old new (Err (Corrupt id)) = spoils (mask_wanted old here) here id ≡ true
+Knows here old new (Err (Corrupt id)) = mask_spoiled old here id ≡ true
 Knows here old new (Err Overflow) = (store : Store) → Holds store here → mask_overflow old store ≡ true
 Knows here old new (Err NoMemory) = Unit {0}

@@ -6,7 +6,8 @@ use Rattle.scan_values.specs.Marked.{Marked, null}
 use Rattle.scan_segments.specs.Source.{Store}
 use Rattle.scan_layout.specs.Places.{Place}
 use Rattle.scan_plans.specs.Came.{Came}
-use Rattle.scan_plans.specs.Masks.{MaskData, mask_of, mask_overflow, mask_wanted, mask_may, are_here, SameMask}
+use Rattle.scan_plans.specs.Masks.{MaskData, mask_of, mask_overflow, mask_wanted, mask_spoiled, mask_may, SameMask}
+use Rattle.scan_plans.specs.Wants.{are_here}
 
 -- values, null outside a mask: a value past its end is outside it
 abbrev pub nulled : List Bool → List Marked → List Marked
@@ -34,6 +35,11 @@ masks_overflow (m ∷ ms) store = mask_overflow m store || masks_overflow ms sto
 abbrev pub masks_wanted : List MaskData → Came → List Place → List Place
 masks_wanted [] here rest = rest
 masks_wanted (m ∷ ms) here rest = mask_wanted m here ++ (if are_here (mask_wanted m here) here then masks_wanted ms here rest else [])
+
+-- what arrived of the segment of this id is no good for them, or, where nothing lacks for them, for what comes after
+abbrev pub masks_spoiled : List MaskData → Came → ℕ → Bool → Bool
+masks_spoiled [] here id rest = rest
+masks_spoiled (m ∷ ms) here id rest = mask_spoiled m here id || (if are_here (mask_wanted m here) here then masks_spoiled ms here id rest else false)
 
 -- the ids of all that they may ever want
 abbrev pub masks_may : List MaskData → List ℕ

@@ -1,7 +1,6 @@
 -- Masks that are known, or that filters still have to make.
-use Rattle.std.specs.Prelude.{◌≡◌, ◌+◌, ◌||◌, ◌&&◌, ℕ, Bool, true, false, List, [], ◌∷◌, ◌++◌, length, is_some, if◌then◌else◌, refl}
+use Rattle.std.specs.Prelude.{◌≡◌, ◌+◌, ◌||◌, ◌&&◌, ℕ, Bool, true, false, List, [], ◌∷◌, ◌++◌, length, if◌then◌else◌, refl}
 use Rattle.std.specs.Coded.{Coded, code_by, coded×, coded_list, coded_ℕ, coded_bool}
-use Rattle.std.specs.List.{list_all}
 use Rattle.scan_values.specs.Fits.{is_bool_type}
 use Rattle.scan_values.specs.Marked.{is_true}
 use Rattle.scan_values.specs.Selections.{is_among}
@@ -11,7 +10,7 @@ use Rattle.scan_plans.specs.PlanTree.{PlanTree}
 use Rattle.scan_plans.specs.PlanCode.{plan_code}
 use Rattle.scan_plans.specs.Came.{Came, arrived, Holds}
 use Rattle.scan_plans.specs.Meaning.{value_at, overflow_on, plan_dtype, true_rows, Within}
-use Rattle.scan_plans.specs.Wants.{wanted, may}
+use Rattle.scan_plans.specs.Wants.{wanted, may, are_here, spoiled}
 
 -- a plan that is to be true, and its row at which the mask begins
 abbrev pub Filter : Type 0
@@ -49,10 +48,6 @@ spilled store bits (f ∷ fs) = overflow_on f.0 store (true_rows f.1 bits) || sp
 abbrev pub mask_overflow : MaskData → Store → Bool
 mask_overflow m store = spilled store m.known m.filters
 
--- something has arrived of each
-abbrev pub are_here : List Place → Came → Bool
-are_here places here = list_all (λ (p : Place). is_some (here p.id)) places
-
 -- what is wanted next, with what was wanted before: a filter runs when all that it wants has arrived
 abbrev pub filters_wanted : Came → List Bool → List Filter → List Place
 filters_wanted here bits [] = []
@@ -61,6 +56,15 @@ filters_wanted here bits (f ∷ fs) =
 
 abbrev pub mask_wanted : MaskData → Came → List Place
 mask_wanted m here = filters_wanted here m.known m.filters
+
+-- what arrived of the segment of this id is no good for a filter that runs
+abbrev pub filters_spoiled : Came → List Bool → List Filter → ℕ → Bool
+filters_spoiled here bits [] id = false
+filters_spoiled here bits (f ∷ fs) id =
+    spoiled f.0 here (true_rows f.1 bits) id || (if are_here (wanted f.0 here (true_rows f.1 bits)) here then filters_spoiled here (kept f.0 (arrived here) f.1 bits) fs id else false)
+
+abbrev pub mask_spoiled : MaskData → Came → ℕ → Bool
+mask_spoiled m here id = filters_spoiled here m.known m.filters id
 
 -- the ids of all that it may ever want
 abbrev pub filters_may : List Filter → List ℕ

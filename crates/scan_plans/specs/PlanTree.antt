@@ -4,6 +4,7 @@ use Rattle.scan_values.specs.DataType.{DataType}
 use Rattle.scan_values.specs.Val.{Val}
 use Rattle.scan_expr.specs.Expr.{Expr}
 use Rattle.scan_layout.specs.declared.spelling.Spelling.{Spelling}
+use Rattle.scan_plans.specs.OffsetsData.{OffsetsData}
 
 mutual
   pub data PlanTree : Type 0 where
@@ -17,6 +18,17 @@ mutual
     over : DataType → Expr → PlanTrees → PlanTree
     -- an expression that reads nothing of its scope
     constant : DataType → Expr → PlanTree
+    -- lists of this dtype, none of which is null: the plan of their elements, and their offsets
+    lists : DataType → PlanTree → OffsetsData → PlanTree
+    -- how many elements lists have, by their offsets
+    lengths : OffsetsData → PlanTree
+    -- the values of a plan, null where another is not true
+    valid : PlanTree → PlanTree → PlanTree
+    -- the numbers of rows, from a first one on
+    numbers : ℕ → PlanTree
+    -- an expression over lists of a dtype, of which it reads only whether they are null and how many elements they have:
+    -- the same over how many they have, of this dtype, which another plan gives
+    by_lengths : DataType → Expr → DataType → Expr → PlanTree → PlanTree
 
   pub data PlanTrees : Type 0 where
     no_plans : PlanTrees
@@ -34,6 +46,11 @@ abbrev mutual
   tree_size (evaluate d e p) = tree_size p + 1
   tree_size (over d e ps) = trees_size ps + 1
   tree_size (constant d e) = 1
+  tree_size (lists d p o) = tree_size p + 1
+  tree_size (lengths o) = 1
+  tree_size (valid p v) = tree_size p + tree_size v + 1
+  tree_size (numbers k) = 1
+  tree_size (by_lengths d e t f p) = tree_size p + 1
 
   pub trees_size : PlanTrees → ℕ
   trees_size no_plans = 0

@@ -5,17 +5,16 @@ use Rattle.scan_segments.specs.Source.{Store}
 use Rattle.scan_splits.specs.declared.poll.Poll.{Poll}
 use Rattle.scan_splits.specs.declared.poll.Poll.TheVariants.{Ready, Pending, Corrupt, Overflow, NoMemory}
 use Rattle.scan_plans.specs.Came.{Came, Holds}
-use Rattle.scan_plans.specs.Futures.{FutureData, GivesItems, future_wanted, future_overflow}
+use Rattle.scan_plans.specs.Futures.{FutureData, GivesItems, future_wanted, future_spoiled, future_overflow}
 use Rattle.scan_plans.specs.Given.{AreLacking}
-use Rattle.scan_plans.specs.Masks.{MaskData, mask_of, mask_overflow, mask_wanted}
-use Rattle.scan_plans.specs.Wants.{spoils}
+use Rattle.scan_plans.specs.Masks.{MaskData, mask_of, mask_overflow, mask_wanted, mask_spoiled}
 
 -- Of an array: the values whatever holds what has arrived; exactly the ids that lack of what is wanted next; a wanted
 -- segment that arrived as missing or is not spelled as its leaf has it; or an overflow.
 abbrev pub Polls : Came → FutureData → Poll ArrayData → Type 0
 Polls here f (Ready a) = GivesItems here f a
 Polls here f (Pending ids) = AreLacking (future_wanted f here) here ids
-Polls here f (Corrupt id) = spoils (future_wanted f here) here id ≡ true
+Polls here f (Corrupt id) = future_spoiled f here id ≡ true
 Polls here f Overflow = (store : Store) → Holds store here → future_overflow f store ≡ true
 Polls here f NoMemory = Unit {0}
 
@@ -23,6 +22,6 @@ Polls here f NoMemory = Unit {0}
 abbrev pub PollsMask : Came → MaskData → Poll (List Bool) → Type 0
 PollsMask here m (Ready bits) = (store : Store) → Holds store here → (bits ≡ mask_of m store) × (mask_overflow m store ≡ false)
 PollsMask here m (Pending ids) = AreLacking (mask_wanted m here) here ids
-PollsMask here m (Corrupt id) = spoils (mask_wanted m here) here id ≡ true
+PollsMask here m (Corrupt id) = mask_spoiled m here id ≡ true
 PollsMask here m Overflow = (store : Store) → Holds store here → mask_overflow m store ≡ true
 PollsMask here m NoMemory = Unit {0}

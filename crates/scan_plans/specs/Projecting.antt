@@ -1,16 +1,16 @@
 -- How the array of a future is made.
-use Rattle.std.specs.Prelude.{◌≡◌, ℕ, zero, suc, Bool, true, false, List, [], ◌∷◌, length, map, Option, Some, None, Result, Ok, Err}
+use Rattle.std.specs.Prelude.{◌≡◌, ℕ, zero, suc, Bool, true, false, List, [], ◌∷◌, map, Option, Some, None, Result, Ok, Err}
 use Rattle.scan_values.specs.Arrays.{ArrayData}
 use Rattle.scan_values.specs.Marked.{Marked}
 use Rattle.scan_values.specs.Val.{marked}
 use Rattle.scan_segments.specs.Source.{Store}
 use Rattle.scan_layout.specs.Places.{Place}
 use Rattle.scan_plans.specs.Came.{Came, Holds}
-use Rattle.scan_plans.specs.Futures.{FutureData, GivesItems, future_wanted, future_overflow}
-use Rattle.scan_plans.specs.Given.{AreLacking, Complete}
-use Rattle.scan_plans.specs.MaskLists.{nulled, dtype_under, masks_overflow, masks_wanted}
+use Rattle.scan_plans.specs.Futures.{FutureData, GivesItems, future_wanted, future_spoiled, future_overflow}
+use Rattle.scan_plans.specs.Given.{AreLacking}
+use Rattle.scan_plans.specs.MaskLists.{nulled, dtype_under, masks_overflow, masks_wanted, masks_spoiled}
 use Rattle.scan_plans.specs.Masks.{MaskData, mask_wanted}
-use Rattle.scan_plans.specs.Wants.{spoils}
+use Rattle.scan_plans.specs.Wants.{Complete}
 use Rattle.scan_plans.specs.declared.fault.ReadFault.{ReadFault}
 use Rattle.scan_plans.specs.declared.fault.ReadFault.TheVariants.{Corrupt, Overflow, NoMemory}
 use Rattle.scan_plans.specs.declared.given.Given.{Given}
@@ -32,7 +32,7 @@ AreComplete (m ∷ ms) here = Complete (mask_wanted m here) here × AreComplete 
 abbrev pub KnowsAll : Came → List MaskData → List MaskData → Result (Option (List ℕ)) ReadFault → Type 0
 KnowsAll here old new (Ok None) = AreKnown new × AreComplete old here
 KnowsAll here old new (Ok (Some ids)) = (rest : List Place) → AreLacking (masks_wanted old here rest) here ids
-KnowsAll here old new (Err (Corrupt id)) = (rest : List Place) → spoils (masks_wanted old here rest) here id ≡ true
+KnowsAll here old new (Err (Corrupt id)) = (rest : Bool) → masks_spoiled old here id rest ≡ true
 KnowsAll here old new (Err Overflow) = (store : Store) → Holds store here → masks_overflow old store ≡ true
 KnowsAll here old new (Err NoMemory) = Unit {0}
 
@@ -60,6 +60,6 @@ as_given (Err f) = Err f
 abbrev pub Projects : Came → FutureData → Result Items ReadFault → Type 0
 Projects here f (Ok (Ready a)) = GivesItems here f a
 Projects here f (Ok (Pending ids)) = AreLacking (future_wanted f here) here ids
-Projects here f (Err (Corrupt id)) = spoils (future_wanted f here) here id ≡ true
+Projects here f (Err (Corrupt id)) = future_spoiled f here id ≡ true
 Projects here f (Err Overflow) = (store : Store) → Holds store here → future_overflow f store ≡ true
 Projects here f (Err NoMemory) = Unit {0}

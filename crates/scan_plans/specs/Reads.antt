@@ -10,7 +10,7 @@ use Rattle.scan_layout.specs.RowValue.{segment_value}
 use Rattle.scan_plans.specs.PlanTree.{PlanTree, PlanTrees, no_plans, plan}
 use Rattle.scan_plans.specs.Came.{Came, arrived}
 use Rattle.scan_plans.specs.Meaning.{value_at, overflow_on, plan_dtype, true_rows}
-use Rattle.scan_plans.specs.Wants.{wanted, all_wanted, lacks, spoils}
+use Rattle.scan_plans.specs.Wants.{wanted, all_wanted, lacks, Complete, spoils, spoiled, any_spoiled}
 use Rattle.scan_plans.specs.declared.fault.ReadFault.{ReadFault}
 use Rattle.scan_plans.specs.declared.fault.ReadFault.TheVariants.{Corrupt, Overflow, NoMemory}
 
@@ -19,11 +19,21 @@ abbrev pub fails : List Place → Store → ℕ → Bool
 fails places store id = list_any (λ (p : Place). (p.id == id) && is_none (decoded store p)) places
 
 -- ids are added: exactly those that lack, each named by a segment; or one is no good
+abbrev pub CollectsBy : {A : Type 0} → List ℕ → List ℕ → List Place → (ℕ → Bool) → Came → Result A ReadFault → Type 0
+CollectsBy old new places bad here (Ok x) = (id : ℕ) → is_among new id ≡ (is_among old id || lacks places here id)
+CollectsBy old new places bad here (Err (Corrupt id)) = bad id ≡ true
+CollectsBy old new places bad here (Err Overflow) = ⊥
+CollectsBy old new places bad here (Err NoMemory) = Unit {0}
+
 abbrev pub Collects : {A : Type 0} → List ℕ → List ℕ → List Place → Came → Result A ReadFault → Type 0
-Collects old new places here (Ok x) = (id : ℕ) → is_among new id ≡ (is_among old id || lacks places here id)
-Collects old new places here (Err (Corrupt id)) = spoils places here id ≡ true
-Collects old new places here (Err Overflow) = ⊥
-Collects old new places here (Err NoMemory) = Unit {0}
+Collects old new places here r = CollectsBy old new places (spoils places here) here r
+
+-- those of what rows of a plan want, or of several
+abbrev pub CollectsPlan : {A : Type 0} → List ℕ → List ℕ → PlanTree → Came → List ℕ → Result A ReadFault → Type 0
+CollectsPlan old new p here is r = CollectsBy old new (wanted p here is) (spoiled p here is) here r
+
+abbrev pub CollectsAll : {A : Type 0} → List ℕ → List ℕ → PlanTrees → Came → List ℕ → Result A ReadFault → Type 0
+CollectsAll old new ps here is r = CollectsBy old new (all_wanted ps here is) (any_spoiled ps here is) here r
 
 -- these are the values of rows, by what has arrived, and none of them overflows
 pub record AreValues (p : PlanTree) (here : Came) (is : List ℕ) (a : ArrayData) : Type 0 where
@@ -31,10 +41,10 @@ pub record AreValues (p : PlanTree) (here : Came) (is : List ℕ) (a : ArrayData
   pub items : map marked a.items ≡ map (value_at p (arrived here)) is
   pub within : overflow_on p (arrived here) is ≡ false
 
--- the values of rows, a segment that is no good, or an overflow at one of the rows
+-- the values of rows, an overflow at one of the rows, or, where nothing lacks, a segment that is no good
 abbrev pub Reads : PlanTree → Came → List ℕ → Result ArrayData ReadFault → Type 0
 Reads p here is (Ok a) = AreValues p here is a
-Reads p here is (Err (Corrupt id)) = fails (wanted p here is) (arrived here) id ≡ true
+Reads p here is (Err (Corrupt id)) = Complete (wanted p here is) here → spoiled p here is id ≡ true
 Reads p here is (Err Overflow) = overflow_on p (arrived here) is ≡ true
 Reads p here is (Err NoMemory) = Unit {0}
 
@@ -67,6 +77,6 @@ AddsSegment store p skip bits before (Err NoMemory) = Unit {0}
 -- the same of several plans: a column each, a segment that is no good, or an overflow at one of the rows
 abbrev pub ReadsAll : {A : Type 0} → (A → List ArrayData) → PlanTrees → Came → List ℕ → Result A ReadFault → Type 0
 ReadsAll items ps here is (Ok cs) = AreColumns ps here is (items cs)
-ReadsAll items ps here is (Err (Corrupt id)) = fails (all_wanted ps here is) (arrived here) id ≡ true
+ReadsAll items ps here is (Err (Corrupt id)) = Complete (all_wanted ps here is) here → any_spoiled ps here is id ≡ true
 ReadsAll items ps here is (Err Overflow) = any_overflow_on ps (arrived here) is ≡ true
 ReadsAll items ps here is (Err NoMemory) = Unit {0}

@@ -1,10 +1,13 @@
 -- Which segments rows of a plan want, and what of these has arrived.
-use Rattle.std.specs.Prelude.{ℕ, ◌+◌, ◌-◌, ◌==◌, take, drop, nat_le, nat_lt, Bool, true, false, ◌&&◌, ◌++◌, List, [], ◌∷◌, map, if◌then◌else◌, Option, Some, None, is_none}
-use Rattle.std.specs.List.{list_any}
+use Rattle.std.specs.Prelude.{◌≡◌, ℕ, ◌+◌, ◌-◌, ◌==◌, take, drop, nat_le, nat_lt, Bool, true, false, ◌&&◌, ◌||◌, ◌++◌, List, [], ◌∷◌, map, if◌then◌else◌, Option, Some, None, is_none, is_some}
+use Rattle.std.specs.List.{list_any, list_all}
+use Rattle.scan_segments.specs.Source.{Store}
 use Rattle.scan_layout.specs.Spelling.{decode}
 use Rattle.scan_layout.specs.Places.{Place, places_of}
-use Rattle.scan_plans.specs.Came.{Came}
-use Rattle.scan_plans.specs.PlanTree.{PlanTree, leaf, rows, evaluate, over, constant, PlanTrees, no_plans, plan}
+use Rattle.scan_plans.specs.Came.{Came, arrived}
+use Rattle.scan_plans.specs.PlanTree.{PlanTree, leaf, rows, evaluate, over, constant, lists, lengths, valid, numbers, by_lengths, PlanTrees, no_plans, plan}
+use Rattle.scan_plans.specs.OffsetsData.{OffsetsData, offset_places, offset_at}
+use Rattle.scan_plans.specs.Lists.{offset_rows, element_rows, is_bad_offset, before_next}
 
 -- one of the rows is among the n rows from the row base on
 abbrev pub holds_any : ℕ → ℕ → List ℕ → Bool
@@ -15,7 +18,15 @@ abbrev pub leaf_wanted : ℕ → List Place → List ℕ → List Place
 leaf_wanted base [] is = []
 leaf_wanted base (p ∷ places) is = (if holds_any base p.rows is then p ∷ [] else []) ++ leaf_wanted (base + p.rows) places is
 
--- what rows of a plan want next, where so much has arrived
+-- something has arrived of each
+abbrev pub are_here : List Place → Came → Bool
+are_here places here = list_all (λ (p : Place). is_some (here p.id)) places
+
+-- the segments that hold the offsets of lists at these rows
+abbrev pub offsets_wanted : OffsetsData → List ℕ → List Place
+offsets_wanted o is = leaf_wanted 0 (offset_places o) (offset_rows is)
+
+-- what rows of a plan want next, where so much has arrived, with what they wanted before: of lists the offsets first
 abbrev mutual
   pub wanted : PlanTree → Came → List ℕ → List Place
   wanted (leaf d s gs) came is = leaf_wanted 0 (places_of d s gs) is
@@ -23,6 +34,11 @@ abbrev mutual
   wanted (evaluate d e p) came is = wanted p came is
   wanted (over d e ps) came is = all_wanted ps came is
   wanted (constant d e) came is = []
+  wanted (lists d p o) came is = offsets_wanted o is ++ (if are_here (offsets_wanted o is) came then wanted p came (element_rows o (arrived came) is) else [])
+  wanted (lengths o) came is = offsets_wanted o is
+  wanted (valid p v) came is = wanted v came is ++ wanted p came is
+  wanted (numbers k) came is = []
+  wanted (by_lengths d e t f p) came is = wanted p came is
 
   pub all_wanted : PlanTrees → Came → List ℕ → List Place
   all_wanted no_plans came is = []
@@ -36,6 +52,11 @@ abbrev mutual
   may (evaluate d e p) = may p
   may (over d e ps) = all_may ps
   may (constant d e) = []
+  may (lists d p o) = map (λ (g : ℕ × ℕ). g.0) o.segments ++ may p
+  may (lengths o) = map (λ (g : ℕ × ℕ). g.0) o.segments
+  may (valid p v) = may v ++ may p
+  may (numbers k) = []
+  may (by_lengths d e t f p) = may p
 
   pub all_may : PlanTrees → List ℕ
   all_may no_plans = []
@@ -49,6 +70,10 @@ names_id id places = list_any (λ (p : Place). p.id == id) places
 abbrev pub lacks : List Place → Came → ℕ → Bool
 lacks places came id = names_id id places && is_none (came id)
 
+-- nothing of these segments lacks
+abbrev pub Complete : List Place → Came → Type 0
+Complete places came = (id : ℕ) → lacks places came id ≡ false
+
 -- what arrived is missing, or is not spelled as the place has it
 abbrev pub is_bad : Place → Option (Option (List ℕ)) → Bool
 is_bad p None = false
@@ -58,6 +83,34 @@ is_bad p (Some (Some bytes)) = is_none (decode p.spelling p.dtype p.rows bytes)
 -- one of the segments has this id, and what arrived of it is no good there
 abbrev pub spoils : List Place → Came → ℕ → Bool
 spoils places came id = list_any (λ (p : Place). (p.id == id) && is_bad p (came id)) places
+
+-- one of these rows has an offset that is no good, which stands in the segment of this id
+abbrev pub any_bad : OffsetsData → Store → ℕ → List ℕ → ℕ → Bool
+any_bad o store before [] id = false
+any_bad o store before (i ∷ is) id =
+    (is_bad_offset o.elements before (offset_at o store i) && names_id id (leaf_wanted 0 (offset_places o) (i ∷ []))) || any_bad o store (before_next (offset_at o store i)) is id
+
+-- the segment of this id holds offsets of lists at these rows, and what arrived of it is no good
+abbrev pub offsets_spoiled : OffsetsData → Came → List ℕ → ℕ → Bool
+offsets_spoiled o came is id = spoils (offsets_wanted o is) came id || any_bad o (arrived came) 0 (offset_rows is) id
+
+-- what arrived of the segment of this id is no good for rows of a plan
+abbrev mutual
+  pub spoiled : PlanTree → Came → List ℕ → ℕ → Bool
+  spoiled (leaf d s gs) came is id = spoils (leaf_wanted 0 (places_of d s gs) is) came id
+  spoiled (rows d vs) came is id = false
+  spoiled (evaluate d e p) came is id = spoiled p came is id
+  spoiled (over d e ps) came is id = any_spoiled ps came is id
+  spoiled (constant d e) came is id = false
+  spoiled (lists d p o) came is id = offsets_spoiled o came is id || (if are_here (offsets_wanted o is) came then spoiled p came (element_rows o (arrived came) is) id else false)
+  spoiled (lengths o) came is id = offsets_spoiled o came is id
+  spoiled (valid p v) came is id = spoiled v came is id || spoiled p came is id
+  spoiled (numbers k) came is id = false
+  spoiled (by_lengths d e t f p) came is id = spoiled p came is id
+
+  pub any_spoiled : PlanTrees → Came → List ℕ → ℕ → Bool
+  any_spoiled no_plans came is id = false
+  any_spoiled (plan p ps) came is id = spoiled p came is id || any_spoiled ps came is id
 
 -- of the bits of the rows from a first one on, those of the rows from a start up to an end
 abbrev pub part_of : ℕ → ℕ → ℕ → List Bool → List Bool

@@ -3,7 +3,6 @@ ghost use Rattle.std.specs.Prelude.{◌≡◌, ◌≤◌, ◌+◌, length};
 ghost use Rattle.scan_plans.specs.Came.{came};
 ghost use Rattle.scan_plans.specs.Given.{Lacks, Gives};
 ghost use Rattle.scan_plans.specs.Meaning.{Within, true_rows};
-ghost use Rattle.scan_plans.specs.Wants.{wanted};
 
 use crate::fault::ReadFault;
 use crate::node::PlanNode;
@@ -27,10 +26,11 @@ fn lacking(
     mask: &Mask,
     inbox: &Inbox,
 ) -> Result<Option<WantedIds>, ReadFault>
-    ensures { Lacks (wanted node.now (came inbox.now) (true_rows first mask.now)) (came inbox.now) result }
+    requires { Within node.now (first + length mask.now) }
+    ensures { Lacks node.now (came inbox.now) (true_rows first mask.now) result }
 {
     let mut wants = Wants::new(alloc);
-    node.collect(first, mask.as_slice(), inbox, &mut wants)?;
+    node.collect(alloc, first, mask, inbox, &mut wants)?;
     match wants.into_wanted() {
         Some(ids) => {
             let _some = ids.as_slice();

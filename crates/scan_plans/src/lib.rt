@@ -1,13 +1,16 @@
 //! Plans: what a reader makes of an expression, what rows of it want of the segments, and what they give.
 #![tactic(auto)]
 
+mod copying;
 mod fault;
 mod future;
 mod given;
 mod laws;
 mod leaf;
+mod lists;
 mod mask;
 mod node;
+mod offsets;
 mod plan;
 mod reading;
 mod threads;
@@ -19,5 +22,6 @@ pub use laws::{
 };
 pub use mask::MaskFuture;
 pub use node::{PlanNode, PlanNodes};
+pub use offsets::Offsets;
 pub use plan::Plan;
 pub use threads::plans_cross_threads;

@@ -6,8 +6,8 @@ ghost use Rattle.scan_splits.specs.declared.poll.Poll.TheVariants.{Ready};
 ghost use Rattle.scan_plans.specs.Came.{Came, came};
 ghost use Rattle.scan_plans.specs.Polled.{PollsMask};
 ghost use Rattle.scan_plans.specs.Meaning.{Within, plan_dtype, true_rows};
-ghost use Rattle.scan_plans.specs.Masks.{MaskData, mask_data, mask_of, IsMask, AreFilters, SameMask};
-ghost use Rattle.scan_plans.specs.Pruning.{DropsNone, FiltersAlike};
+ghost use Rattle.scan_plans.specs.Masks.{MaskData, mask_data, mask_of, mask_wanted, IsMask, AreFilters, SameMask};
+ghost use Rattle.scan_plans.specs.Pruning.{pruned, DropsNone, FiltersAlike};
 ghost use Rattle.scan_segments.specs.Source.{Store};
 ghost use Rattle.scan_plans.specs.Knowing.{KeepsRows, Runs, RunsAll, Knows};
 ghost use Rattle.scan_plans.specs.MaskView.{filter_of, filters_of};
@@ -232,8 +232,8 @@ impl Plan {
 }
 
 impl Plan {
-    /// The rows of a mask of a range at which the plan may be true, by what is known before anything is read. Of
-    /// leaves, of rows and of what stands over them all are kept, and nothing is wanted.
+    /// The rows of a mask of a range at which the plan may be true, by what is known before anything is read: those at
+    /// which an expression over the numbers of rows is true, and of any other plan all. Nothing is wanted.
     pub fn prune(
         alloc: Global,
         plan: &Arc<Plan>,
@@ -243,13 +243,18 @@ impl Plan {
         requires dtype { is_bool_type (plan_dtype (plan.now.value).tree) ≡ true }
         requires rows { Within (plan.now.value).tree range.now.end }
         requires length { range.now.start + length mask ≡ range.now.end }
-        ensures answer { IfOk result (λ m. m ≡ mask_data mask []) }
+        ensures answer { IfOk result (λ m. m ≡ pruned (plan.now.value).tree range.now.start mask) }
+        ensures wants { (here : Came) → IfOk result (λ m. mask_wanted m here ≡ []) }
         ensures keeps { (store : Store) → IfOk result
             (λ m. DropsNone (plan.now.value).tree store range.now.start mask (mask_of m store)) }
         ensures alike { (store : Store) → IfOk result
             (λ m. FiltersAlike (plan.now.value).tree store range.now.start mask (mask_of m store)) }
     {
-        Ok(MaskFuture::ready(alloc, mask))
+        let all = MaskFuture::ready(alloc, mask);
+        if plan.node().is_numbered() {
+            return Plan::filter(plan, range, all);
+        }
+        Ok(all)
     }
 }
 

@@ -1,12 +1,16 @@
 //! The nodes of a plan.
 ghost use Rattle.std.specs.Prelude.{◌≡◌, IfOk, true, false};
-ghost use Rattle.scan_plans.specs.PlanTree.{leaf, rows, evaluate, over, constant, plans};
+ghost use Rattle.scan_plans.specs.PlanTree.{leaf, rows, evaluate, over, constant, lists, lengths, valid, numbers, by_lengths, plans};
 ghost use Rattle.scan_values.specs.Fits.{is_struct_type};
 ghost use Rattle.scan_values.specs.Kinds.{is_scalar_type};
 ghost use Rattle.scan_expr.specs.Expr.{uses_row_index};
-ghost use Rattle.scan_plans.specs.Formed.{IsNode, reads};
+ghost use Rattle.scan_plans.specs.Formed.{IsNode, NeverOverflows, AreLengths, IsByLengths, reads};
 ghost use Rattle.scan_plans.specs.Meaning.{plan_dtype};
+ghost use Rattle.scan_values.specs.DataType.{bool_type, list_type};
+ghost use Rattle.scan_values.specs.declared.ptype.Nullability.TheVariants.{NonNullable};
+ghost use Rattle.scan_plans.specs.Pruning.{are_numbers, is_numbered};
 
+use crate::offsets::Offsets;
 use scan_expr::BoundExpression;
 use scan_layout::Spelling;
 use scan_splits::SegmentRuns;
@@ -15,8 +19,8 @@ use std::alloc::Global;
 use std::marker::Model;
 use std::sync::Arc;
 
-/// A node of a plan: a leaf's segments, values in memory, or an expression over other nodes. Contracts see it as a
-/// tree of these.
+/// A node of a plan: a leaf's segments, values in memory, row numbers, or an expression over other nodes. Contracts see
+/// it as a tree of these.
 #[cycle(node)]
 #[derive(Drop)]
 pub struct PlanNode {
@@ -32,6 +36,11 @@ pub(crate) enum Kind {
     Evaluate(BoundExpression, Box<PlanNode>),
     Over(BoundExpression, PlanNodes),
     Constant(BoundExpression),
+    Lists(Arc<DType>, Box<PlanNode>, Offsets),
+    Lengths(Offsets),
+    Valid(Box<PlanNode>, Box<PlanNode>),
+    Numbers(u64),
+    ByLengths(BoundExpression, BoundExpression, Box<PlanNode>),
 }
 
 /// Nodes in order.
@@ -137,6 +146,92 @@ impl PlanNode {
     {
         PlanNode {
             kind: Kind::Constant(expr),
+        }
+    }
+
+    /// The numbers of rows as u64, from a first one on.
+    pub fn numbers(first: u64) -> PlanNode
+        ensures { result ≡ numbers first }
+    {
+        PlanNode {
+            kind: Kind::Numbers(first),
+        }
+    }
+
+    /// Lists, none of which is null, by the plan of their elements, which evaluates nothing that may overflow.
+    pub fn lists(
+        alloc: Global,
+        dtype: Arc<DType>,
+        elements: PlanNode,
+        offsets: Offsets,
+    ) -> Result<PlanNode, NoMemory>
+        requires dtype { dtype.value ≡ list_type (plan_dtype elements) NonNullable }
+        requires overflow { NeverOverflows elements offsets.elements }
+        ensures { IfOk result (λ p. p ≡ lists dtype.value elements offsets) }
+    {
+        let elements = Box::new(alloc, elements)?;
+        Ok(PlanNode {
+            kind: Kind::Lists(dtype, elements, offsets),
+        })
+    }
+
+    /// How many elements lists have, none of which is null.
+    pub fn lengths(offsets: Offsets) -> PlanNode
+        ensures { result ≡ lengths offsets }
+    {
+        PlanNode {
+            kind: Kind::Lengths(offsets),
+        }
+    }
+
+    /// An expression over lists that reads only whether they are null and how many elements they have, by the same over
+    /// a node of how many they have.
+    pub fn by_lengths(
+        alloc: Global,
+        expr: BoundExpression,
+        over_lengths: BoundExpression,
+        node: PlanNode,
+    ) -> Result<PlanNode, NoMemory>
+        requires scope { plan_dtype node ≡ over_lengths.scope }
+        requires lengths { AreLengths node }
+        requires means { IsByLengths expr.scope expr.expr over_lengths.scope over_lengths.expr }
+        ensures { IfOk result (λ p. p ≡ by_lengths expr.scope expr.expr over_lengths.scope over_lengths.expr node) }
+    {
+        let node = Box::new(alloc, node)?;
+        Ok(PlanNode {
+            kind: Kind::ByLengths(expr, over_lengths, node),
+        })
+    }
+
+    /// The values of a node, null where another is false. The dtype becomes nullable.
+    pub fn valid(alloc: Global, values: PlanNode, validity: PlanNode) -> Result<PlanNode, NoMemory>
+        requires { plan_dtype validity ≡ bool_type NonNullable }
+        ensures { IfOk result (λ p. p ≡ valid values validity) }
+    {
+        let values = Box::new(alloc, values)?;
+        let validity = Box::new(alloc, validity)?;
+        Ok(PlanNode {
+            kind: Kind::Valid(values, validity),
+        })
+    }
+
+    /// Whether it gives the numbers of rows.
+    fn are_numbers(&self) -> bool
+        ensures { result ≡ are_numbers self.now }
+    {
+        match &self.kind {
+            Kind::Numbers(_) => true,
+            _ => false,
+        }
+    }
+
+    /// Whether it is an expression over the numbers of rows.
+    pub(crate) fn is_numbered(&self) -> bool
+        ensures { result ≡ is_numbered self.now }
+    {
+        match &self.kind {
+            Kind::Evaluate(_, node) => node.are_numbers(),
+            _ => false,
         }
     }
 }

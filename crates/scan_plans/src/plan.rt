@@ -66,6 +66,14 @@ impl Plan {
         &self.expr
     }
 
+    /// A copy of its node, which another plan may hold.
+    pub fn copy_node(&self, alloc: Global) -> Result<PlanNode, NoMemory>
+        ensures node { IfOk result (λ n. n ≡ self.now.tree) }
+        ensures dtype { IsPlan self.now }
+    {
+        self.node.try_clone(alloc)
+    }
+
     /// The node.
     pub(crate) fn node(&self) -> &PlanNode
         ensures { result.now ≡ self.now.tree }

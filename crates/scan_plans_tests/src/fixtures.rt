@@ -8,6 +8,7 @@ ghost use Rattle.scan_expr.specs.Bound.{bound_of};
 ghost use Rattle.scan_expr.specs.Expr.{uses_row_index};
 ghost use Rattle.scan_expr.specs.Infer.{infer};
 ghost use Rattle.scan_layout.specs.Check.{total_rows};
+ghost use Rattle.scan_plans.specs.Formed.{NeverOverflows};
 ghost use Rattle.scan_plans.specs.Meaning.{Within, plan_dtype};
 
 use scan_expr::{BoundExpression, Expression};
@@ -47,9 +48,10 @@ fn two_segments(alloc: Global) -> Result<SegmentRuns, Fail>
 }
 
 /// The leaf of these segments.
-fn leaf(alloc: Global) -> Result<PlanNode, Fail>
+pub(crate) fn leaf(alloc: Global) -> Result<PlanNode, Fail>
     ensures dtype { IfOk result (λ p. plan_dtype p ≡ int_type PType.I32 Nullability.NonNullable) }
     ensures rows { IfOk result (λ p. Within p 3) }
+    ensures overflow { IfOk result (λ p. NeverOverflows p 3) }
 {
     let runs = Arc::new(alloc, two_segments(alloc)?)?;
     let dtype = Arc::new(alloc, int())?;
@@ -211,7 +213,8 @@ fn is_number(value: &Value, number: i128) -> bool {
     }
 }
 
-fn are_numbers(values: &[Value], numbers: &[i128]) -> bool {
+/// Whether values are these numbers.
+pub(crate) fn are_numbers(values: &[Value], numbers: &[i128]) -> bool {
     if values.len() != numbers.len() {
         return false;
     }

@@ -4,6 +4,8 @@
 #[cfg(test)]
 mod fixtures;
 #[cfg(test)]
+mod lists;
+#[cfg(test)]
 mod masked;
 #[cfg(test)]
 mod plans;

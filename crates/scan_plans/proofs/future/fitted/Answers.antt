@@ -1,6 +1,6 @@
 use borrow.Author.Rules.{rules}
-use Rattle.std.proofs.Common.{◌≡◌, ◌<◌, ◌≤◌, false, get_or, arith}
-use Rattle.scan_plans.proofs.Outer.{padded_more, padded_done}
+use Rattle.std.proofs.Common.{◌≡◌, false, get_or}
+use Rattle.scan_plans.proofs.Outer.{padded_more}
 use Rattle.scan_plans.proofs.future.fitted.Goals as goal
 
 pub loop-i-preserved : goal.loop-i-preserved

@@ -1,6 +1,4 @@
-use borrow.Author.Rules.{rules}
 use Rattle.std.proofs.Common.{◌≡◌, ◌∙◌, ◌<◌, ◌≤◌, length, ap, arith}
-use Rattle.scan_plans.specs.Masks.{MaskData}
 use Rattle.scan_plans.specs.Projecting.{padded}
 use Rattle.scan_plans.proofs.Outer.{next_dtype, next_items, under_done, padded_length}
 use Rattle.scan_plans.proofs.future.under.Goals as goal

@@ -1,16 +1,25 @@
 use borrow.Author.Rules.{rules}
-use Rattle.std.proofs.Common.{◌≡◌, ◌+◌, ◌≤◌, ◌++◌, Vec, Global, ◌∷◌, [], length, List, Err, sym, ◌∙◌, ap, subst}
+use Rattle.std.proofs.Common.{arith, Bool, Some, ◌≡◌, ◌+◌, ◌≤◌, ◌++◌, Vec, Global, ◌∷◌, [], length, ℕ, List, Option, Ok, Err, sym, ◌∙◌, ap, subst}
 use Rattle.std.proofs.lemmas.Result.{err_from_is_err_and}
-use Rattle.scan_plans.specs.Came.{came}
+use Rattle.scan_plans.specs.Came.{came, arrived}
 use Rattle.scan_plans.specs.Formed.{IsNode}
+use Rattle.scan_plans.specs.Lists.{element_rows}
+use Rattle.scan_plans.specs.OffsetReads.{CutsWhole}
+use Rattle.scan_plans.specs.declared.lists.Whole.{Whole}
+use Rattle.scan_plans.proofs.ListCells.{lists_fault, lists_given, none_given, elements_fault, whole_rows, climbs_rises, cut_count, cut_size}
+use Rattle.scan_plans.proofs.ListRows.{validity_fault, values_fault}
+use Rattle.scan_plans.proofs.ListWants.{within_fewer}
+use Rattle.scan_plans.proofs.Filtering.{values_long}
+use Rattle.scan_values.specs.Kinds.{element_of}
 use Rattle.scan_plans.specs.Meaning.{true_rows, Within, AllWithin}
 use Rattle.scan_columns.specs.declared.column.Column.{Column}
-use Rattle.scan_plans.specs.PlanTree.{PlanTree, tree_size, trees_size, rows, evaluate, over, constant, plans}
+use Rattle.scan_plans.specs.PlanTree.{PlanTree, tree_size, trees_size, rows, evaluate, over, constant, lists, lengths, valid, numbers, by_lengths, plans}
 use Rattle.scan_plans.specs.PlanView.{plan_of}
-use Rattle.scan_plans.specs.Reads.{Reads, ReadsAll}
+use Rattle.scan_plans.specs.Reads.{AreValues, Reads, ReadsAll}
 use Rattle.scan_plans.specs.declared.node.Kind.{Kind}
 use Rattle.scan_plans.proofs.Columns.{Filled, filled_next, filled_fault, filled_end, within_at, count_rows, size_at}
 use Rattle.scan_plans.proofs.Nodes.{evaluate_passes, over_passes}
+use Rattle.scan_plans.proofs.OverLengths.{by_lengths_reads, by_lengths_passes}
 use Rattle.scan_plans.proofs.Parts.{columns_long, columns_scope}
 use Rattle.scan_plans.proofs.node.+read.Goals as goal
 
@@ -99,3 +108,302 @@ PlanNodes::read-returns t c =
     let k = c.loop-node.node-index in
     let filled : Filled k c.deref-node-items.result.now here is c.loop-node.columns.items = subst (λ (ps : List PlanTree). Filled k ps here is c.loop-node.columns.items) (sym items) c.loop-node.invariant in
     rw (← items) (filled_end k c.deref-node-items.result.now here is c.loop-node.columns.items c.loop-node-test.false filled)
+
+pub PlanNode::read-returns-in_err-whole-in-Lists : goal.PlanNode::read-returns-in_err-whole-in-Lists
+PlanNode::read-returns-in_err-whole-in-Lists t c =
+    let here = came c.args.inbox.now in
+    let is = true_rows c.args.first c.args.mask.now in
+    let d = c.in-Lists.dtype.value in
+    let p = c.in-Lists.elements.value in
+    let e : c.args.self.now ≡ lists d p c.in-Lists.offsets = sym c.self.view_is ∙ ap plan_of c.in-Lists.is in
+    let q = err_from_is_err_and c.from_residual-in_err-whole-in-Lists.result c.from_residual-in_err-whole-in-Lists.ensures.1 in
+    let fault = c.in_err-whole-in-Lists.field-0.0 in
+    rw (q.1, q.2) (subst (λ (x : PlanTree). Reads x here is (Err fault)) (sym e) (lists_fault d p c.in-Lists.offsets here is fault c.in_err-whole-in-Lists.ensures))
+
+pub PlanNode::read-returns-in_ok-column-in-Some : goal.PlanNode::read-returns-in_ok-column-in-Some
+PlanNode::read-returns-in_ok-column-in-Some t c =
+    let here = came c.args.inbox.now in
+    let is = true_rows c.args.first c.args.mask.now in
+    let d = c.in-Lists.dtype.value in
+    let p = c.in-Lists.elements.value in
+    let o = c.in-Lists.offsets in
+    let w = c.in-Some.whole in
+    let e : c.args.self.now ≡ lists d p o = sym c.self.view_is ∙ ap plan_of c.in-Lists.is in
+    let k = subst (λ (x : Option Whole). CutsWhole o here is (Ok x)) c.in-Some.is c.in_ok-whole-in-Lists.ensures in
+    let z = whole_rows o (arrived here) is w.cut w.rows.first w.rows.mask k.0 k.1 in
+    let v : AreValues p here (element_rows o (arrived here) is) c.in_ok-column-in-Some.column = subst (λ (js : List ℕ). AreValues p here js c.in_ok-column-in-Some.column) (sym z.0) (search (rules, c.in_ok-column-in-Some.ensures, c.deref-in-Some.ensures)) in
+    rw e (lists_given d p o here is w.cut c.in_ok-column-in-Some.column c.lists_of.result k.0 v (search (rules, c.lists_of.ensures)))
+
+pub PlanNode::read-whole-requires : goal.PlanNode::read-whole-requires
+PlanNode::read-whole-requires t c =
+    let here = came c.args.inbox.now in
+    let is = true_rows c.args.first c.args.mask.now in
+    let n = c.args.first + length c.args.mask.now in
+    let d = c.in-Lists.dtype.value in
+    let p = c.in-Lists.elements.value in
+    let o = c.in-Lists.offsets in
+    let e : c.args.self.now ≡ lists d p o = sym c.self.view_is ∙ ap plan_of c.in-Lists.is in
+    let w : Within (lists d p o) n = subst (λ (x : PlanTree). Within x n) e c.requires in
+    search (rules, w.0)
+
+pub PlanNode::read-read-requires-in-Some : goal.PlanNode::read-read-requires-in-Some
+PlanNode::read-read-requires-in-Some t c =
+    let here = came c.args.inbox.now in
+    let is = true_rows c.args.first c.args.mask.now in
+    let n = c.args.first + length c.args.mask.now in
+    let d = c.in-Lists.dtype.value in
+    let p = c.in-Lists.elements.value in
+    let o = c.in-Lists.offsets in
+    let e : c.args.self.now ≡ lists d p o = sym c.self.view_is ∙ ap plan_of c.in-Lists.is in
+    let w : Within (lists d p o) n = subst (λ (x : PlanTree). Within x n) e c.requires in
+    let u = c.in-Some.whole in
+    let k = subst (λ (x : Option Whole). CutsWhole o here is (Ok x)) c.in-Some.is c.in_ok-whole-in-Lists.ensures in
+    let z = whole_rows o (arrived here) is u.cut u.rows.first u.rows.mask k.0 k.1 in
+    let m = u.rows.first + length u.rows.mask in
+    let fewer : Within c.deref-in-Some.result.now m = subst (λ (x : PlanTree). Within x m) (sym c.deref-in-Some.ensures) (within_fewer p o.elements m z.1 w.1) in
+    let sized : tree_size c.deref-in-Some.result.now + 1 ≤ tree_size c.args.self.now = subst (λ (x : PlanTree). tree_size x + 1 ≤ tree_size c.args.self.now) (sym c.deref-in-Some.ensures) (subst (λ (x : PlanTree). tree_size p + 1 ≤ tree_size x) (sym e) (omega arith)) in
+    (search (rules, sized), fewer)
+
+pub PlanNode::read-returns-in_err-column-in-Some : goal.PlanNode::read-returns-in_err-column-in-Some
+PlanNode::read-returns-in_err-column-in-Some t c =
+    let here = came c.args.inbox.now in
+    let is = true_rows c.args.first c.args.mask.now in
+    let n = c.args.first + length c.args.mask.now in
+    let d = c.in-Lists.dtype.value in
+    let p = c.in-Lists.elements.value in
+    let o = c.in-Lists.offsets in
+    let e : c.args.self.now ≡ lists d p o = sym c.self.view_is ∙ ap plan_of c.in-Lists.is in
+    let u = c.in-Some.whole in
+    let k = subst (λ (x : Option Whole). CutsWhole o here is (Ok x)) c.in-Some.is c.in_ok-whole-in-Lists.ensures in
+    let z = whole_rows o (arrived here) is u.cut u.rows.first u.rows.mask k.0 k.1 in
+    let f : IsNode (lists d p o) = subst (λ (x : Kind). IsNode (plan_of x)) c.in-Lists.is c.self.invariant in
+    let q = err_from_is_err_and c.from_residual-in_err-column-in-Some.result c.from_residual-in_err-column-in-Some.ensures.1 in
+    let fault = c.in_err-column-in-Some.field-0.0 in
+    let own : Reads p here (element_rows o (arrived here) is) (Err fault) = subst (λ (js : List ℕ). Reads p here js (Err fault)) (sym z.0) (subst (λ (x : PlanTree). Reads x here (true_rows u.rows.first u.rows.mask) (Err fault)) c.deref-in-Some.ensures c.in_err-column-in-Some.ensures) in
+    rw (q.1, q.2) (subst (λ (x : PlanTree). Reads x here is (Err fault)) (sym e) (elements_fault d p o here is u.rows.first u.rows.mask fault f.1 z.0 z.1 own))
+
+pub PlanNode::read-lists_of-requires-clause-element : goal.PlanNode::read-lists_of-requires-clause-element
+PlanNode::read-lists_of-requires-clause-element t c =
+    let here = came c.args.inbox.now in
+    let is = true_rows c.args.first c.args.mask.now in
+    let n = c.args.first + length c.args.mask.now in
+    let d = c.in-Lists.dtype.value in
+    let p = c.in-Lists.elements.value in
+    let o = c.in-Lists.offsets in
+    let e : c.args.self.now ≡ lists d p o = sym c.self.view_is ∙ ap plan_of c.in-Lists.is in
+    let u = c.in-Some.whole in
+    let k = subst (λ (x : Option Whole). CutsWhole o here is (Ok x)) c.in-Some.is c.in_ok-whole-in-Lists.ensures in
+    let z = whole_rows o (arrived here) is u.cut u.rows.first u.rows.mask k.0 k.1 in
+    let f : IsNode (lists d p o) = subst (λ (x : Kind). IsNode (plan_of x)) c.in-Lists.is c.self.invariant in
+    let v : AreValues p here (element_rows o (arrived here) is) c.in_ok-column-in-Some.column = subst (λ (js : List ℕ). AreValues p here js c.in_ok-column-in-Some.column) (sym z.0) (search (rules, c.in_ok-column-in-Some.ensures, c.deref-in-Some.ensures)) in
+    ap (λ t. Some t) v.dtype ∙ sym (ap element_of f.0)
+
+pub PlanNode::read-lists_of-requires-clause-length : goal.PlanNode::read-lists_of-requires-clause-length
+PlanNode::read-lists_of-requires-clause-length t c =
+    let here = came c.args.inbox.now in
+    let is = true_rows c.args.first c.args.mask.now in
+    let n = c.args.first + length c.args.mask.now in
+    let d = c.in-Lists.dtype.value in
+    let p = c.in-Lists.elements.value in
+    let o = c.in-Lists.offsets in
+    let e : c.args.self.now ≡ lists d p o = sym c.self.view_is ∙ ap plan_of c.in-Lists.is in
+    let u = c.in-Some.whole in
+    let k = subst (λ (x : Option Whole). CutsWhole o here is (Ok x)) c.in-Some.is c.in_ok-whole-in-Lists.ensures in
+    let z = whole_rows o (arrived here) is u.cut u.rows.first u.rows.mask k.0 k.1 in
+    cut_count o (arrived here) u.cut.first (length u.cut.mask + 1) u.cut.offsets.items (k.0).offsets
+
+pub PlanNode::read-lists_of-requires-clause-rises : goal.PlanNode::read-lists_of-requires-clause-rises
+PlanNode::read-lists_of-requires-clause-rises t c =
+    let here = came c.args.inbox.now in
+    let is = true_rows c.args.first c.args.mask.now in
+    let n = c.args.first + length c.args.mask.now in
+    let d = c.in-Lists.dtype.value in
+    let p = c.in-Lists.elements.value in
+    let o = c.in-Lists.offsets in
+    let e : c.args.self.now ≡ lists d p o = sym c.self.view_is ∙ ap plan_of c.in-Lists.is in
+    let u = c.in-Some.whole in
+    let k = subst (λ (x : Option Whole). CutsWhole o here is (Ok x)) c.in-Some.is c.in_ok-whole-in-Lists.ensures in
+    let z = whole_rows o (arrived here) is u.cut u.rows.first u.rows.mask k.0 k.1 in
+    climbs_rises o.elements 0 u.cut.offsets.items ((k.0).offsets).climbs
+
+pub PlanNode::read-lists_of-requires-clause-whole : goal.PlanNode::read-lists_of-requires-clause-whole
+PlanNode::read-lists_of-requires-clause-whole t c =
+    let here = came c.args.inbox.now in
+    let is = true_rows c.args.first c.args.mask.now in
+    let n = c.args.first + length c.args.mask.now in
+    let d = c.in-Lists.dtype.value in
+    let p = c.in-Lists.elements.value in
+    let o = c.in-Lists.offsets in
+    let e : c.args.self.now ≡ lists d p o = sym c.self.view_is ∙ ap plan_of c.in-Lists.is in
+    let u = c.in-Some.whole in
+    let k = subst (λ (x : Option Whole). CutsWhole o here is (Ok x)) c.in-Some.is c.in_ok-whole-in-Lists.ensures in
+    let z = whole_rows o (arrived here) is u.cut u.rows.first u.rows.mask k.0 k.1 in
+    let v : AreValues p here (element_rows o (arrived here) is) c.in_ok-column-in-Some.column = subst (λ (js : List ℕ). AreValues p here js c.in_ok-column-in-Some.column) (sym z.0) (search (rules, c.in_ok-column-in-Some.ensures, c.deref-in-Some.ensures)) in
+    cut_size p o here is u.cut c.in_ok-column-in-Some.column k.0 v
+
+pub PlanNode::read-returns-in-None : goal.PlanNode::read-returns-in-None
+PlanNode::read-returns-in-None t c =
+    let here = came c.args.inbox.now in
+    let is = true_rows c.args.first c.args.mask.now in
+    let n = c.args.first + length c.args.mask.now in
+    let d = c.in-Lists.dtype.value in
+    let p = c.in-Lists.elements.value in
+    let o = c.in-Lists.offsets in
+    let e : c.args.self.now ≡ lists d p o = sym c.self.view_is ∙ ap plan_of c.in-Lists.is in
+    let none = subst (λ (x : Option Whole). CutsWhole o here is (Ok x)) c.in-None.is c.in_ok-whole-in-Lists.ensures in
+    rw e (none_given d p o here is c.no_lists.result none (search (rules, c.no_lists.ensures)))
+
+pub PlanNode::read-read_lengths-requires : goal.PlanNode::read-read_lengths-requires
+PlanNode::read-read_lengths-requires t c =
+    let here = came c.args.inbox.now in
+    let is = true_rows c.args.first c.args.mask.now in
+    let n = c.args.first + length c.args.mask.now in
+    let o = c.in-Lengths.offsets in
+    let e : c.args.self.now ≡ lengths o = sym c.self.view_is ∙ ap plan_of c.in-Lengths.is in
+    let w : Within (lengths o) n = subst (λ (x : PlanTree). Within x n) e c.requires in
+    search (rules, w)
+
+pub PlanNode::read-returns-in-Lengths : goal.PlanNode::read-returns-in-Lengths
+PlanNode::read-returns-in-Lengths t c =
+    let o = c.in-Lengths.offsets in
+    let e : c.args.self.now ≡ lengths o = sym c.self.view_is ∙ ap plan_of c.in-Lengths.is in
+    rw e c.read_lengths.ensures
+
+pub PlanNode::read-read-requires-in-Valid : goal.PlanNode::read-read-requires-in-Valid
+PlanNode::read-read-requires-in-Valid t c =
+    let here = came c.args.inbox.now in
+    let is = true_rows c.args.first c.args.mask.now in
+    let n = c.args.first + length c.args.mask.now in
+    let p = c.in-Valid.values.value in
+    let v = c.in-Valid.validity.value in
+    let e : c.args.self.now ≡ valid p v = sym c.self.view_is ∙ ap plan_of c.in-Valid.is in
+    let w : Within (valid p v) n = subst (λ (x : PlanTree). Within x n) e c.requires in
+    let own : Within c.deref-in-Valid.result.now n = subst (λ (x : PlanTree). Within x n) (sym c.deref-in-Valid.ensures) w.0 in
+    let sized : tree_size c.deref-in-Valid.result.now + 1 ≤ tree_size c.args.self.now = subst (λ (x : PlanTree). tree_size x + 1 ≤ tree_size c.args.self.now) (sym c.deref-in-Valid.ensures) (subst (λ (x : PlanTree). tree_size v + 1 ≤ tree_size x) (sym e) (omega arith)) in
+    (search (rules, sized), own)
+
+pub PlanNode::read-read-requires-in-Valid-2 : goal.PlanNode::read-read-requires-in-Valid-2
+PlanNode::read-read-requires-in-Valid-2 t c =
+    let here = came c.args.inbox.now in
+    let is = true_rows c.args.first c.args.mask.now in
+    let n = c.args.first + length c.args.mask.now in
+    let p = c.in-Valid.values.value in
+    let v = c.in-Valid.validity.value in
+    let e : c.args.self.now ≡ valid p v = sym c.self.view_is ∙ ap plan_of c.in-Valid.is in
+    let w : Within (valid p v) n = subst (λ (x : PlanTree). Within x n) e c.requires in
+    let own : Within c.deref-in-Valid-2.result.now n = subst (λ (x : PlanTree). Within x n) (sym c.deref-in-Valid-2.ensures) w.1 in
+    let sized : tree_size c.deref-in-Valid-2.result.now + 1 ≤ tree_size c.args.self.now = subst (λ (x : PlanTree). tree_size x + 1 ≤ tree_size c.args.self.now) (sym c.deref-in-Valid-2.ensures) (subst (λ (x : PlanTree). tree_size p + 1 ≤ tree_size x) (sym e) (omega arith)) in
+    (search (rules, sized), own)
+
+pub PlanNode::read-returns-in_err-validity-in-Valid : goal.PlanNode::read-returns-in_err-validity-in-Valid
+PlanNode::read-returns-in_err-validity-in-Valid t c =
+    let here = came c.args.inbox.now in
+    let is = true_rows c.args.first c.args.mask.now in
+    let n = c.args.first + length c.args.mask.now in
+    let p = c.in-Valid.values.value in
+    let v = c.in-Valid.validity.value in
+    let e : c.args.self.now ≡ valid p v = sym c.self.view_is ∙ ap plan_of c.in-Valid.is in
+    let q = err_from_is_err_and c.from_residual-in_err-validity-in-Valid.result c.from_residual-in_err-validity-in-Valid.ensures.1 in
+    let fault = c.in_err-validity-in-Valid.field-0.0 in
+    let own = subst (λ (x : PlanTree). Reads x here is (Err fault)) c.deref-in-Valid.ensures c.in_err-validity-in-Valid.ensures in
+    rw (q.1, q.2) (subst (λ (x : PlanTree). Reads x here is (Err fault)) (sym e) (validity_fault p v here is fault own))
+
+pub PlanNode::read-returns-in_err-column-in-Valid : goal.PlanNode::read-returns-in_err-column-in-Valid
+PlanNode::read-returns-in_err-column-in-Valid t c =
+    let here = came c.args.inbox.now in
+    let is = true_rows c.args.first c.args.mask.now in
+    let n = c.args.first + length c.args.mask.now in
+    let p = c.in-Valid.values.value in
+    let v = c.in-Valid.validity.value in
+    let e : c.args.self.now ≡ valid p v = sym c.self.view_is ∙ ap plan_of c.in-Valid.is in
+    let q = err_from_is_err_and c.from_residual-in_err-column-in-Valid.result c.from_residual-in_err-column-in-Valid.ensures.1 in
+    let fault = c.in_err-column-in-Valid.field-0.0 in
+    let own = subst (λ (x : PlanTree). Reads x here is (Err fault)) c.deref-in-Valid-2.ensures c.in_err-column-in-Valid.ensures in
+    rw (q.1, q.2) (subst (λ (x : PlanTree). Reads x here is (Err fault)) (sym e) (values_fault p v here is fault own))
+
+pub PlanNode::read-validated-requires-clause-dtype : goal.PlanNode::read-validated-requires-clause-dtype
+PlanNode::read-validated-requires-clause-dtype t c =
+    let here = came c.args.inbox.now in
+    let is = true_rows c.args.first c.args.mask.now in
+    let n = c.args.first + length c.args.mask.now in
+    let p = c.in-Valid.values.value in
+    let v = c.in-Valid.validity.value in
+    let e : c.args.self.now ≡ valid p v = sym c.self.view_is ∙ ap plan_of c.in-Valid.is in
+    let first : AreValues v here is c.in_ok-validity-in-Valid.validity = subst (λ (x : PlanTree). AreValues x here is c.in_ok-validity-in-Valid.validity) c.deref-in-Valid.ensures c.in_ok-validity-in-Valid.ensures in
+    let f : IsNode (valid p v) = subst (λ (x : Kind). IsNode (plan_of x)) c.in-Valid.is c.self.invariant in
+    first.dtype ∙ f
+
+pub PlanNode::read-validated-requires-clause-length : goal.PlanNode::read-validated-requires-clause-length
+PlanNode::read-validated-requires-clause-length t c =
+    let here = came c.args.inbox.now in
+    let is = true_rows c.args.first c.args.mask.now in
+    let n = c.args.first + length c.args.mask.now in
+    let p = c.in-Valid.values.value in
+    let v = c.in-Valid.validity.value in
+    let e : c.args.self.now ≡ valid p v = sym c.self.view_is ∙ ap plan_of c.in-Valid.is in
+    let first : AreValues v here is c.in_ok-validity-in-Valid.validity = subst (λ (x : PlanTree). AreValues x here is c.in_ok-validity-in-Valid.validity) c.deref-in-Valid.ensures c.in_ok-validity-in-Valid.ensures in
+    let own : AreValues p here is c.in_ok-column-in-Valid.column = subst (λ (x : PlanTree). AreValues x here is c.in_ok-column-in-Valid.column) c.deref-in-Valid-2.ensures c.in_ok-column-in-Valid.ensures in
+    values_long v here c.args.first c.args.mask.now c.in_ok-validity-in-Valid.validity first ∙ sym (values_long p here c.args.first c.args.mask.now c.in_ok-column-in-Valid.column own)
+
+pub PlanNode::read-returns-in_ok-column-in-Valid : goal.PlanNode::read-returns-in_ok-column-in-Valid
+PlanNode::read-returns-in_ok-column-in-Valid t c =
+    let here = came c.args.inbox.now in
+    let is = true_rows c.args.first c.args.mask.now in
+    let n = c.args.first + length c.args.mask.now in
+    let p = c.in-Valid.values.value in
+    let v = c.in-Valid.validity.value in
+    let e : c.args.self.now ≡ valid p v = sym c.self.view_is ∙ ap plan_of c.in-Valid.is in
+    let first : AreValues v here is c.in_ok-validity-in-Valid.validity = subst (λ (x : PlanTree). AreValues x here is c.in_ok-validity-in-Valid.validity) c.deref-in-Valid.ensures c.in_ok-validity-in-Valid.ensures in
+    let own : AreValues p here is c.in_ok-column-in-Valid.column = subst (λ (x : PlanTree). AreValues x here is c.in_ok-column-in-Valid.column) c.deref-in-Valid-2.ensures c.in_ok-column-in-Valid.ensures in
+    rw e (c.validated.ensures p v here is first own)
+
+pub PlanNode::read-returns-in_err-column-in-ByLengths : goal.PlanNode::read-returns-in_err-column-in-ByLengths
+PlanNode::read-returns-in_err-column-in-ByLengths t c =
+    let here = came c.args.inbox.now in
+    let is = true_rows c.args.first c.args.mask.now in
+    let b = c.in-ByLengths.field-0 in
+    let l = c.in-ByLengths.over_lengths in
+    let p = c.in-ByLengths.node.value in
+    let e : c.args.self.now ≡ by_lengths b.scope b.expr l.scope l.expr p = sym c.self.view_is ∙ ap plan_of c.in-ByLengths.is in
+    let q = err_from_is_err_and c.from_residual-in_err-column-in-ByLengths.result c.from_residual-in_err-column-in-ByLengths.ensures.1 in
+    let fault = c.in_err-column-in-ByLengths.field-0.0 in
+    let own = subst (λ (x : PlanTree). Reads x here is (Err fault)) c.deref-in-ByLengths.ensures c.in_err-column-in-ByLengths.ensures in
+    rw (q.1, q.2) (subst (λ (x : PlanTree). Reads x here is (Err fault)) (sym e) (by_lengths_passes b.scope b.expr l.scope l.expr p here is fault own))
+
+pub PlanNode::read-evaluated-requires-in-ByLengths-clause-scope : goal.PlanNode::read-evaluated-requires-in-ByLengths-clause-scope
+PlanNode::read-evaluated-requires-in-ByLengths-clause-scope t c =
+    let b = c.in-ByLengths.field-0 in
+    let l = c.in-ByLengths.over_lengths in
+    let p = c.in-ByLengths.node.value in
+    let here = came c.args.inbox.now in
+    let is = true_rows c.args.first c.args.mask.now in
+    let k : IsNode (by_lengths b.scope b.expr l.scope l.expr p) = subst (λ (x : Kind). IsNode (plan_of x)) c.in-ByLengths.is c.self.invariant in
+    let v : AreValues p here is c.in_ok-column-in-ByLengths.column = subst (λ (x : PlanTree). AreValues x here is c.in_ok-column-in-ByLengths.column) c.deref-in-ByLengths.ensures c.in_ok-column-in-ByLengths.ensures in
+    v.dtype ∙ k.0
+
+pub PlanNode::read-evaluated-requires-in-ByLengths-clause-rows : goal.PlanNode::read-evaluated-requires-in-ByLengths-clause-rows
+PlanNode::read-evaluated-requires-in-ByLengths-clause-rows t c =
+    let b = c.in-ByLengths.field-0 in
+    let l = c.in-ByLengths.over_lengths in
+    let p = c.in-ByLengths.node.value in
+    let k : IsNode (by_lengths b.scope b.expr l.scope l.expr p) = subst (λ (x : Kind). IsNode (plan_of x)) c.in-ByLengths.is c.self.invariant in
+    (k.2).unnumbered
+
+pub PlanNode::read-returns-in_ok-column-in-ByLengths : goal.PlanNode::read-returns-in_ok-column-in-ByLengths
+PlanNode::read-returns-in_ok-column-in-ByLengths t c =
+    let b = c.in-ByLengths.field-0 in
+    let l = c.in-ByLengths.over_lengths in
+    let p = c.in-ByLengths.node.value in
+    let here = came c.args.inbox.now in
+    let is = true_rows c.args.first c.args.mask.now in
+    let k : IsNode (by_lengths b.scope b.expr l.scope l.expr p) = subst (λ (x : Kind). IsNode (plan_of x)) c.in-ByLengths.is c.self.invariant in
+    let e : c.args.self.now ≡ by_lengths b.scope b.expr l.scope l.expr p = sym c.self.view_is ∙ ap plan_of c.in-ByLengths.is in
+    let v : AreValues p here is c.in_ok-column-in-ByLengths.column = subst (λ (x : PlanTree). AreValues x here is c.in_ok-column-in-ByLengths.column) c.deref-in-ByLengths.ensures c.in_ok-column-in-ByLengths.ensures in
+    rw e (by_lengths_reads b.scope b.expr l.scope l.expr k.2 p here is c.in_ok-column-in-ByLengths.column c.evaluated-in-ByLengths.result k.1 k.0 v (c.evaluated-in-ByLengths.ensures p here is v))
+
+pub PlanNode::read-returns-in-Numbers : goal.PlanNode::read-returns-in-Numbers
+PlanNode::read-returns-in-Numbers t c =
+    let here = came c.args.inbox.now in
+    let e : c.args.self.now ≡ numbers c.in-Numbers.number = sym c.self.view_is ∙ ap plan_of c.in-Numbers.is in
+    let own = subst (λ (bits : List Bool). Reads (numbers c.in-Numbers.number) here (true_rows c.args.first bits) c.numbered.result) c.as_slice-in-Numbers.ensures (c.numbered.ensures here) in
+    subst (λ (x : PlanTree). Reads x here (true_rows c.args.first c.args.mask.now) c.numbered.result) (sym e) own

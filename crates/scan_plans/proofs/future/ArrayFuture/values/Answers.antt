@@ -1,4 +1,4 @@
-use Rattle.std.proofs.Common.{◌≡◌, List, None, Ok, subst, sym}
+use Rattle.std.proofs.Common.{List, None, Ok, subst, sym}
 use Rattle.std.proofs.lemmas.Result.{err_from_is_err_and}
 use Rattle.scan_plans.specs.Came.{came}
 use Rattle.scan_plans.specs.FutureView.{source_tree, source_first, source_mask, future_of}

@@ -1,4 +1,4 @@
-use Rattle.std.proofs.Common.{◌≡◌, ◌∙◌, List, Bool, Ok, Result, ap, subst, sym}
+use Rattle.std.proofs.Common.{◌≡◌, ◌∙◌, List, Bool, Ok, ap, subst, sym}
 use Rattle.scan_plans.specs.Came.{came}
 use Rattle.scan_plans.specs.FutureView.{source_tree, source_first, source_mask}
 use Rattle.scan_plans.specs.Given.{Gives}

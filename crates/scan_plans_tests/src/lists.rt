@@ -1,0 +1,175 @@
+//! Lists and how many elements they have: what they want first and then, and offsets that are no good.
+ghost use Rattle.std.specs.Prelude.{◌≡◌, IfOk};
+ghost use Rattle.scan_values.specs.DataType.{int_type, list_type};
+ghost use Rattle.scan_values.specs.declared.ptype.Nullability.TheVariants.{NonNullable};
+ghost use Rattle.scan_values.specs.declared.ptype.PType.TheVariants.{I32, U64};
+ghost use Rattle.scan_expr.specs.Bound.{bound_of};
+ghost use Rattle.scan_expr.specs.Expr.{root};
+ghost use Rattle.scan_layout.specs.Check.{total_rows};
+ghost use Rattle.scan_plans.specs.Meaning.{Within};
+ghost use Rattle.scan_plans.specs.OffsetsData.{AreNumbers};
+
+use crate::fixtures::{
+    are_numbers, deliver, gives_numbers, int, leaf, project, project_all, spoils, wants,
+};
+use scan_expr::Expression;
+use scan_layout::{LeafSegments, Spelling};
+use scan_plans::{ArrayFuture, Offsets, Plan, PlanNode};
+use scan_segments::SegmentId;
+use scan_splits::{Inbox, Poll, SegmentRuns};
+use scan_values::{Array, DType, Nullability, PType, Value};
+use std::alloc::Global;
+use std::sync::Arc;
+use std::test::Fail;
+
+/// The segment 2, of four rows.
+fn four_rows(alloc: Global) -> Result<SegmentRuns, Fail>
+    ensures { IfOk result (λ runs. total_rows runs ≡ 4) }
+{
+    let mut segments = Vec::new(alloc);
+    segments.push((SegmentId::from(2), 4))?;
+    let segments = LeafSegments::new(segments);
+    Ok(SegmentRuns::from_segments(alloc, &segments)?)
+}
+
+/// The offsets of three lists, of three elements in all.
+fn offsets(alloc: Global) -> Result<Offsets, Fail>
+    ensures rows { IfOk result (λ o. total_rows o.segments ≡ 4) }
+    ensures elements { IfOk result (λ o. o.elements ≡ 3) }
+{
+    let runs = Arc::new(alloc, four_rows(alloc)?)?;
+    let dtype = Arc::new(alloc, int())?;
+    Ok(Offsets::new(dtype, Spelling::One, runs, 3))
+}
+
+fn lists_dtype(alloc: Global) -> Result<DType, Fail>
+    ensures { IfOk result (λ d. d ≡ list_type (int_type PType.I32 Nullability.NonNullable) Nullability.NonNullable) }
+{
+    Ok(DType::list(alloc, int(), Nullability::NonNullable)?)
+}
+
+/// The plan of `$` over lists of the elements of the leaf.
+fn plan_of_lists(alloc: Global) -> Result<Arc<Plan>, Fail>
+    ensures { IfOk result (λ p. Within (p.value).tree 3) }
+{
+    let bound = Expression::root().bind(alloc, &lists_dtype(alloc)?)?;
+    let dtype = Arc::new(alloc, lists_dtype(alloc)?)?;
+    let node = PlanNode::lists(alloc, dtype, leaf(alloc)?, offsets(alloc)?)?;
+    Ok(Arc::new(alloc, Plan::new(bound, node))?)
+}
+
+/// The plan of `$` over their lengths.
+fn plan_of_lengths(alloc: Global) -> Result<Arc<Plan>, Fail>
+    ensures { IfOk result (λ p. Within (p.value).tree 3) }
+{
+    let dtype = DType::primitive(PType::U64, Nullability::NonNullable);
+    let bound = Expression::root().bind(alloc, &dtype)?;
+    let node = PlanNode::lengths(offsets(alloc)?);
+    Ok(Arc::new(alloc, Plan::new(bound, node))?)
+}
+
+/// The offsets 0, 2, 2 and another.
+fn deliver_offsets(alloc: Global, inbox: &mut Inbox, last: u8) -> Result<(), Fail> {
+    deliver(
+        alloc,
+        inbox,
+        2,
+        &[0, 0, 0, 0, 2, 0, 0, 0, 2, 0, 0, 0, last, 0, 0, 0],
+    )
+}
+
+/// Whether the next poll wants one segment and no other.
+fn waits(alloc: Global, future: &mut ArrayFuture, inbox: &Inbox, id: u32) -> bool {
+    let poll = future.poll(alloc, inbox);
+    wants(&poll, id)
+}
+
+/// Whether it finds a segment no good.
+fn refuses(alloc: Global, future: &mut ArrayFuture, inbox: &Inbox, id: u32) -> bool {
+    let poll = future.poll(alloc, inbox);
+    spoils(&poll, id)
+}
+
+/// Whether it gives these numbers.
+fn gives(alloc: Global, future: &mut ArrayFuture, inbox: &Inbox, numbers: &[i128]) -> bool {
+    let poll = future.poll(alloc, inbox);
+    gives_numbers(&poll, numbers)
+}
+
+fn is_list(values: &[Value], numbers: &[i128]) -> bool {
+    match values {
+        [Value::List(items)] => are_numbers(items.as_slice(), numbers),
+        _ => false,
+    }
+}
+
+/// Whether it gives one list, of these numbers.
+fn gives_list(alloc: Global, future: &mut ArrayFuture, inbox: &Inbox, numbers: &[i128]) -> bool {
+    let poll = future.poll(alloc, inbox);
+    match &poll {
+        Poll::Ready(array) => is_list(array.as_slice(), numbers),
+        _ => false,
+    }
+}
+
+/// The list of a row alone.
+fn one_list(alloc: Global, bits: [bool; 3]) -> Result<ArrayFuture, Fail> {
+    let plan = plan_of_lists(alloc)?;
+    project(alloc, &plan, bits)
+}
+
+#[test]
+fn a_list_waits_for_its_offsets_and_then_for_its_elements(rt: HostRuntime) -> Result<(), Fail> {
+    let alloc = rt.alloc();
+    let mut inbox = Inbox::new(alloc);
+    let mut future = one_list(alloc, [false, false, true])?;
+    assert!(rt; waits(alloc, &mut future, &inbox, 2));
+    deliver_offsets(alloc, &mut inbox, 3)?;
+    assert!(rt; waits(alloc, &mut future, &inbox, 1));
+    deliver(alloc, &mut inbox, 1, &[3, 0, 0, 0])?;
+    assert!(rt; gives_list(alloc, &mut future, &inbox, &[3]));
+    Ok(())
+}
+
+#[test]
+fn a_list_without_elements_wants_none(rt: HostRuntime) -> Result<(), Fail> {
+    let alloc = rt.alloc();
+    let mut inbox = Inbox::new(alloc);
+    let mut future = one_list(alloc, [false, true, false])?;
+    deliver_offsets(alloc, &mut inbox, 3)?;
+    assert!(rt; gives_list(alloc, &mut future, &inbox, &[]));
+    Ok(())
+}
+
+/// How many elements all lists have.
+fn all_lengths(alloc: Global) -> Result<ArrayFuture, Fail> {
+    let plan = plan_of_lengths(alloc)?;
+    project_all(alloc, &plan)
+}
+
+#[test]
+fn lengths_want_offsets_alone(rt: HostRuntime) -> Result<(), Fail> {
+    let alloc = rt.alloc();
+    let mut inbox = Inbox::new(alloc);
+    let mut future = all_lengths(alloc)?;
+    assert!(rt; waits(alloc, &mut future, &inbox, 2));
+    deliver_offsets(alloc, &mut inbox, 3)?;
+    assert!(rt; gives(alloc, &mut future, &inbox, &[2, 0, 1]));
+    Ok(())
+}
+
+#[test]
+fn an_offset_past_the_elements_or_below_the_one_before_it_is_no_good(
+    rt: HostRuntime,
+) -> Result<(), Fail> {
+    let alloc = rt.alloc();
+    let mut inbox = Inbox::new(alloc);
+    let mut future = all_lengths(alloc)?;
+    deliver_offsets(alloc, &mut inbox, 4)?;
+    assert!(rt; refuses(alloc, &mut future, &inbox, 2));
+    let mut inbox = Inbox::new(alloc);
+    let mut lists = one_list(alloc, [false, false, true])?;
+    deliver_offsets(alloc, &mut inbox, 1)?;
+    assert!(rt; refuses(alloc, &mut lists, &inbox, 2));
+    Ok(())
+}
