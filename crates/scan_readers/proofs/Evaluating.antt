@@ -1,24 +1,28 @@
 -- What filters and projections of a plan mean, by the reader's rows.
-use Rattle.std.proofs.Common.{◌≡◌, ℕ, ◌==◌, ◌+◌, ◌<◌, ◌≤◌, Bool, true, false, ◌||◌, ◌&&◌, List, [], ◌∷◌, ◌++◌, map, length, Result, Ok, Err, refl, ap, sym, subst, ◌∙◌, arith}
+use Rattle.std.proofs.Common.{◌≡◌, ℕ, ◌==◌, ◌+◌, ◌<◌, ◌≤◌, Bool, true, false, ◌||◌, ◌&&◌, List, [], ◌∷◌, ◌++◌, length, Result, Ok, Err, refl, ap, sym, subst, ◌∙◌, arith}
 use Rattle.std.specs.Prelude.{if◌then◌else◌, IfOk}
 use Rattle.std.specs.List.{list_any}
 use Rattle.std.proofs.lemmas.List.Folds.{list_any-append}
 use Rattle.scan_values.specs.Marked.{is_true}
+use Rattle.scan_values.specs.Masks.{both_true}
 use Rattle.scan_segments.specs.Source.{Store}
 use Rattle.scan_layout.specs.Places.{Place}
 use Rattle.scan_expr.specs.Bound.{Bound}
-use Rattle.scan_plans.specs.PlanTree.{PlanTree, PlanTrees, leaf, rows, evaluate, over, constant, no_plans, plan}
+use Rattle.scan_plans.specs.PlanTree.{PlanTree}
 use Rattle.scan_plans.specs.PlanData.{PlanData}
-use Rattle.scan_plans.specs.Came.{Came, arrived, Holds}
-use Rattle.scan_plans.specs.Futures.{future_data, future_overflow, future_wanted, items_of}
-use Rattle.scan_plans.specs.Masks.{MaskData, mask_data, Filter, kept, filtered, spilled, are_here, filters_wanted, mask_of, mask_overflow, mask_wanted}
-use Rattle.scan_plans.specs.Meaning.{value_at, overflow_at, overflow_on, true_rows, Within, AllWithin}
-use Rattle.scan_plans.specs.Wants.{wanted, names_id}
+use Rattle.scan_plans.specs.Came.{Came, arrived}
+use Rattle.scan_plans.specs.Futures.{future_data}
+use Rattle.scan_plans.specs.Masks.{MaskData, mask_data, Filter, kept, filtered, spilled, filters_wanted, mask_of, mask_overflow, mask_wanted}
+use Rattle.scan_plans.specs.Meaning.{value_at, overflow_at, overflow_on, true_rows, Within}
+use Rattle.scan_plans.specs.Wants.{wanted, are_here, names_id}
+use Rattle.scan_plans.specs.Pruning.{is_numbered, pruned, IsWithin}
 use Rattle.scan_plans.proofs.Filtering.{kept_length}
+use Rattle.scan_plans.proofs.ListWants.{within_fewer}
+use Rattle.scan_plans.proofs.Pruned.{pruned_wants, pruned_keeps, pruned_alike}
 use Rattle.scan_plans.proofs.RowLemmas.{map_rows}
-use Rattle.scan_readers.specs.Readers.{ReaderState, value_of, overflows_at}
+use Rattle.scan_readers.specs.Readers.{ReaderState, numbers_alone, value_of, overflows_at}
 use Rattle.scan_readers.specs.PlanOf.{IsPlanOf, may_want}
-use Rattle.scan_readers.specs.Evaluations.{rows_true, overflows_on, Filters, Projects}
+use Rattle.scan_readers.specs.Evaluations.{rows_true, overflows_on, Filters, Projects, Prunes}
 
 or_assoc : (a b c : Bool) → (a || (b || c)) ≡ ((a || b) || c)
 or_assoc true b c = refl
@@ -136,19 +140,53 @@ projection_means s p first end m is below l = record {
     of_left true b h = refl
     of_left false b h = absurd cc
 
+-- ---- a prune
+both_length : (bits cs : List Bool) → length (both_true bits cs) ≤ length bits
+both_length [] cs = omega arith
+both_length (b ∷ bits) [] = omega arith
+both_length (b ∷ bits) (c ∷ cs) = let k = both_length bits cs in omega (arith, k)
+
+and_same : (b t : Bool) → ((b && t) && t) ≡ (b && t)
+and_same true true = refl
+and_same true false = refl
+and_same false t = refl
+
+rows_again : (s : ReaderState) (e : Bound) (store : Store) (k : ℕ) (bits : List Bool) → rows_true s e store k (rows_true s e store k bits) ≡ rows_true s e store k bits
+rows_again s e store k [] = refl
+rows_again s e store k (b ∷ bits) = rw (and_same b (is_true (value_of s e store k))) (ap (λ bs. (b && is_true (value_of s e store k)) ∷ bs) (rows_again s e store (k + 1) bits))
+
+pub prune_means : (s : ReaderState) (p : PlanData) (first end : ℕ) (mask : List Bool) → IsPlanOf s p.expr p → end ≤ s.rows → first + length mask ≡ end → Prunes s p.expr first mask (pruned p.tree first mask)
+prune_means s p first end mask is below l = record {
+  size = refl;
+  mask = λ store. left_by store (is_numbered p.tree) (numbers_alone s p.expr.expr) is.numbered;
+  drops = λ store. subst (λ (bs : List Bool). IsWithin bs (mask_of (pruned p.tree first mask) store)) (here store mask (omega arith)) (pruned_keeps p.tree first mask store);
+  alike = λ store. sym (here store (both_true mask (mask_of (pruned p.tree first mask) store)) (both_length mask (mask_of (pruned p.tree first mask) store))) ∙ pruned_alike p.tree first mask store ∙ here store mask (omega arith);
+  again = λ alone store.
+      let left = left_by store (is_numbered p.tree) true (is.numbered ∙ alone) in
+      ap (rows_true s p.expr store first) left ∙ rows_again s p.expr store first mask ∙ sym left;
+  overflow = λ store. spilled_by store (is_numbered p.tree) (numbers_alone s p.expr.expr) is.numbered;
+  wants = pruned_wants p.tree first mask;
+}
+  where
+    here : (store : Store) (bits : List Bool) → length bits ≤ length mask → kept p.tree store first bits ≡ rows_true s p.expr store first bits
+    here store bits less = rows_kept s p.expr p.tree store (is.value store) first bits (omega (arith, less, below, l))
+
+    left_by : (store : Store) (a b : Bool) → a ≡ b → filtered store mask (if a then (p.tree, first) ∷ [] else []) ≡ (if b then rows_true s p.expr store first mask else mask)
+    left_by store true true h = here store mask (omega arith)
+    left_by store true false h = absurd cc
+    left_by store false true h = absurd cc
+    left_by store false false h = refl
+
+    spilled_by : (store : Store) (a b : Bool) → a ≡ b → spilled store mask (if a then (p.tree, first) ∷ [] else []) ≡ (b && overflows_on s p.expr store first mask)
+    spilled_by store true true h = or_false (overflow_on p.tree store (true_rows first mask)) ∙ any_rows (overflow_at p.tree store) (overflows_at s p.expr store) first mask (λ i low high. is.overflow store i (omega (arith, high, below, l)))
+    spilled_by store true false h = absurd cc
+    spilled_by store false true h = absurd cc
+    spilled_by store false false h = refl
+
 -- ---- what a call gives
 pub given_means : {A E : Type 0} (P : A → Type 0) (x : A) (r : Result A E) → P x → IfOk r (λ y. y ≡ x) → IfOk r P
 given_means P x (Ok y) p h = subst P (sym h) p
 given_means P x (Err e) p h = tt
 
-mutual
-  pub fewer_rows : (p : PlanTree) (m n : ℕ) → m ≤ n → Within p n → Within p m
-  fewer_rows (leaf d s gs) m n h w = omega (arith, h, w)
-  fewer_rows (rows d vs) m n h w = omega (arith, h, w)
-  fewer_rows (evaluate d e p) m n h w = fewer_rows p m n h w
-  fewer_rows (over d e ps) m n h w = all_fewer ps m n h w
-  fewer_rows (constant d e) m n h w = tt
-
-  all_fewer : (ps : PlanTrees) (m n : ℕ) → m ≤ n → AllWithin ps n → AllWithin ps m
-  all_fewer no_plans m n h w = tt
-  all_fewer (plan p ps) m n h w = (fewer_rows p m n h w.0, all_fewer ps m n h w.1)
+pub fewer_rows : (p : PlanTree) (m n : ℕ) → m ≤ n → Within p n → Within p m
+fewer_rows p m n h w = within_fewer p n m h w

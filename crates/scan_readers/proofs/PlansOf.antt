@@ -1,13 +1,12 @@
 -- Plans over arrays and leaves are plans of their readers.
-use Rattle.std.proofs.Common.{◌≡◌, ℕ, ◌==◌, ◌+◌, ◌<◌, ◌≤◌, ◌^◌, Bool, true, false, ◌||◌, List, [], ◌∷◌, ◌++◌, length, max, min, filter, refl, ap, sym, subst, ◌∙◌, arith}
+use Rattle.std.proofs.Common.{◌≡◌, ℕ, ◌+◌, Bool, true, false, List, [], ◌∷◌, ◌++◌, length, max, min, filter, refl, ap, sym, subst, ◌∙◌, arith}
 use Rattle.std.specs.Prelude.{if◌then◌else◌, nat_lt, Result, Ok, Err, IfOk, OnOk, OnErr}
 use Rattle.scan_values.specs.Arrays.{ArrayData}
 use Rattle.scan_values.specs.DataType.{DataType, Name, bool_type, int_type, utf8_type, list_type, struct_type}
 use Rattle.scan_values.specs.Kinds.{is_scalar_type}
 use Rattle.scan_values.specs.Fits.{is_struct_type}
-use Rattle.scan_values.specs.Marked.{null}
 use Rattle.scan_layout.specs.declared.node.LayoutKind.{LayoutKind}
-use Rattle.scan_layout.specs.declared.node.LayoutKind.TheVariants.{Leaf, Struct, List as List'}
+use Rattle.scan_layout.specs.declared.node.LayoutKind.TheVariants.{Leaf}
 use Rattle.scan_layout.specs.declared.spelling.Spelling.{Spelling}
 use Rattle.scan_layout.specs.Check.{total_rows, child_types}
 use Rattle.scan_layout.specs.Form.{HasForm, HaveForms}
@@ -16,23 +15,19 @@ use Rattle.scan_layout.specs.Places.{Place, place_of, places_of}
 use Rattle.scan_layout.specs.Touched.{leaf_touched}
 use Rattle.scan_expr.specs.Bound.{Bound}
 use Rattle.scan_expr.specs.Expr.{Expr}
-use Rattle.scan_expr.specs.Infer.{infer}
 use Rattle.scan_expr.specs.Needs.{needed}
 use Rattle.scan_plans.specs.PlanTree.{PlanTree, leaf, rows, evaluate, constant}
 use Rattle.scan_plans.specs.PlanData.{PlanData, plan_data}
-use Rattle.scan_plans.specs.Meaning.{plan_dtype, true_rows, Within}
 use Rattle.scan_plans.specs.Formed.{reads}
-use Rattle.scan_plans.specs.Wants.{names_id, leaf_wanted}
+use Rattle.scan_plans.specs.Wants.{names_id}
 use Rattle.scan_plans.proofs.Constants.{value_alike, overflow_alike}
 use Rattle.scan_plans.proofs.Wanting.{leaves_touch}
-use Rattle.scan_readers.specs.Readers.{ReaderState}
-use Rattle.scan_readers.specs.PlanOf.{IsPlanOf, needed_places, may_want}
+use Rattle.scan_readers.specs.PlanOf.{IsPlanOf}
 use Rattle.scan_readers.specs.RowsData.{rows_state}
 use Rattle.scan_readers.specs.LeafPlans.{layout_state, leaf_layout, leaf_tree}
-use Rattle.scan_readers.specs.declared.layout.ReaderKind.{ReaderKind}
+use Rattle.scan_readers.specs.declared.kind.ReaderKind.{ReaderKind}
 use Rattle.scan_readers.specs.KindView.{layout_of}
 use Rattle.scan_readers.specs.ReaderData.{IsReader}
-use Rattle.scan_readers.specs.Kept.{EachPlan}
 use Rattle.scan_readers.proofs.Scopes.{needed_here}
 use Rattle.scan_readers.proofs.Keeping.{kept_each, own_plan}
 
@@ -40,6 +35,7 @@ use Rattle.scan_readers.proofs.Keeping.{kept_each, own_plan}
 pub rows_plan : (name : Name) (a : ArrayData) (e : Bound) → IsPlanOf (rows_state name a) e (plan_data e (evaluate e.scope e.expr (rows a.dtype a.items)))
 rows_plan name a e = record {
   expr = refl;
+  numbered = refl;
   dtype = refl;
   rows = omega arith;
   value = λ store i h. refl;
@@ -98,6 +94,7 @@ module _ (name : Name) (spelling : Spelling) (segments : List (ℕ × ℕ)) (e :
   reading : is_scalar_type e.scope ≡ true → reads e.scope e.expr ≡ true → IsPlanOf (layout_state name (leaf_layout e.scope spelling segments)) e (plan_data e (evaluate e.scope e.expr (leaf e.scope spelling segments)))
   reading scalar h = record {
     expr = refl;
+    numbered = refl;
     dtype = refl;
     rows = omega arith;
     value = λ store i below. refl;
@@ -109,6 +106,7 @@ module _ (name : Name) (spelling : Spelling) (segments : List (ℕ × ℕ)) (e :
   reading_nothing : reads e.scope e.expr ≡ false → IsPlanOf (layout_state name (leaf_layout e.scope spelling segments)) e (plan_data e (constant e.scope e.expr))
   reading_nothing h = record {
     expr = refl;
+    numbered = refl;
     dtype = refl;
     rows = tt;
     value = λ store i below. value_alike e.scope e.expr _ _ 0 h;
@@ -143,7 +141,7 @@ leaf_node_plan d spelling segments e (Err f) scope form is = tt
 pub reader_kept : {A E : Type 0} (name : Name) (l m : Layout) (old new : List PlanData) (e : Bound) (q : PlanData) (r : Result A E) → IsReader name l old → m ≡ l → IsPlanOf (layout_state name l) e q → OnOk r (new ≡ old ++ q ∷ []) → OnErr r (new ≡ old) → IsReader name m new
 reader_kept name l m old new e q r is same h ok err =
     let all : IsReader name l new = record {
-      form = is.form;
+      readable = is.readable;
       kept = kept_each (λ (p : PlanData). IsPlanOf (layout_state name l) p.expr p) old new q r is.kept (own_plan (layout_state name l) e q h) ok err;
     } in
     subst (λ (x : Layout). IsReader name x new) (sym same) all

@@ -1,8 +1,8 @@
 -- What an expression reads of its scope.
-use Rattle.std.proofs.Common.{◌≡◌, ℕ, zero, suc, ◌+◌, ◌<◌, ◌≤◌, Bool, true, false, cond, ◌||◌, ◌&&◌, List, [], ◌∷◌, ◌++◌, length, get_or, drop, refl, ap, sym, subst, ◌∙◌, arith, add-one, drop-cons}
+use Rattle.std.proofs.Common.{◌≡◌, ℕ, zero, suc, ◌+◌, ◌<◌, ◌≤◌, Bool, true, false, ◌||◌, List, [], ◌∷◌, ◌++◌, length, get_or, drop, refl, ap, sym, subst, ◌∙◌, arith, add-one, drop-cons}
 use Rattle.std.specs.List.{list_any, All}
 use Rattle.std.proofs.lemmas.List.Elements.{All-get_or}
-use Rattle.scan_values.specs.DataType.{DataType, Name, bool_type, int_type, utf8_type, list_type, struct_type, is_nullable}
+use Rattle.scan_values.specs.DataType.{DataType, Name, bool_type, int_type, utf8_type, list_type, struct_type}
 use Rattle.scan_values.specs.declared.ptype.Nullability.{Nullability}
 use Rattle.scan_values.specs.Kinds.{is_scalar_type}
 use Rattle.scan_expr.specs.declared.op.Unary.{Unary}
@@ -10,9 +10,9 @@ use Rattle.scan_expr.specs.declared.op.Unary.TheVariants.{GetItem, Select, Exclu
 use Rattle.scan_expr.specs.Bound.{Bound, exprs_of}
 use Rattle.scan_expr.specs.Expr.{Expr, root, row_index, literal, unary, binary, pack, Parts, no_parts, part, parts_of, is_root, expr_size}
 use Rattle.scan_expr.specs.Infer.{infer, struct_fields}
-use Rattle.scan_expr.specs.Needs.{Demand, whole, null_alone, length_alone, fields, at, asked, uses, uses_all, needs, any_needs, use_needs, needed, has_none, list_validity}
+use Rattle.scan_expr.specs.Needs.{Demand, whole, asked, uses, uses_all, needs, any_needs, use_needs, needed, has_none}
 use Rattle.scan_plans.specs.Formed.{reads, any_reads, reads_root}
-use Rattle.scan_columns.proofs.Sizes.{total_size, parts_total, part_below}
+use Rattle.scan_columns.proofs.Sizes.{parts_total, part_below}
 
 -- ---- the walk of an expression
 pub reads_under : (d : DataType) (u : Unary) (e : Expr) → is_root e ≡ false → reads d (unary u e) ≡ reads d e

@@ -1,7 +1,8 @@
--- What filters and projections of a reader's plans mean, in the words of the reader.
-use Rattle.std.specs.Prelude.{◌≡◌, ◌+◌, ◌||◌, ◌&&◌, ℕ, Bool, true, List, [], ◌∷◌, length, map}
+-- What prunes, filters and projections of a reader's plans mean, in the words of the reader.
+use Rattle.std.specs.Prelude.{◌≡◌, ◌+◌, ◌||◌, ◌&&◌, ℕ, Bool, true, List, [], ◌∷◌, length, map, if◌then◌else◌}
 use Rattle.std.specs.List.{list_any}
 use Rattle.scan_values.specs.Marked.{is_true}
+use Rattle.scan_values.specs.Masks.{both_true}
 use Rattle.scan_segments.specs.Source.{Store}
 use Rattle.scan_expr.specs.Bound.{Bound}
 use Rattle.scan_expr.specs.Infer.{infer}
@@ -9,9 +10,10 @@ use Rattle.scan_plans.specs.Came.{Came, Holds}
 use Rattle.scan_plans.specs.Futures.{FutureData, items_of, future_dtype, future_overflow, future_wanted}
 use Rattle.scan_plans.specs.Masks.{MaskData, mask_of, mask_overflow, mask_wanted}
 use Rattle.scan_plans.specs.Meaning.{true_rows}
+use Rattle.scan_plans.specs.Pruning.{IsWithin}
 use Rattle.scan_plans.specs.Wants.{names_id}
 use Rattle.scan_readers.specs.PlanOf.{may_want}
-use Rattle.scan_readers.specs.Readers.{ReaderState, value_of, overflows_at}
+use Rattle.scan_readers.specs.Readers.{ReaderState, numbers_alone, value_of, overflows_at}
 
 -- the rows of a mask, which begins at a row, at which an expression is true
 abbrev pub rows_true : ReaderState → Bound → Store → ℕ → List Bool → List Bool
@@ -35,3 +37,17 @@ pub record Projects (s : ReaderState) (e : Bound) (first : ℕ) (m : MaskData) (
   pub items : (store : Store) → items_of f store ≡ map (value_of s e store) (true_rows first (mask_of m store))
   pub overflow : (store : Store) → future_overflow f store ≡ (mask_overflow m store || overflows_on s e store first (mask_of m store))
   pub wants : (store : Store) (here : Came) (id : ℕ) → Holds store here → names_id id (future_wanted f here) ≡ true → (names_id id (mask_wanted m here) || may_want s e store first (first + length m.known) id) ≡ true
+
+-- A mask future after bits, which begin at a row of a reader, are pruned by an expression: where the expression reads
+-- row numbers alone the rows of the bits at which it is true, else the bits.
+pub record Prunes (s : ReaderState) (e : Bound) (first : ℕ) (bits : List Bool) (m : MaskData) : Type 0 where
+  pub size : length m.known ≡ length bits
+  pub mask : (store : Store) → mask_of m store ≡ (if numbers_alone s e.expr then rows_true s e store first bits else bits)
+  -- no row of the bits is dropped at which it is true
+  pub drops : (store : Store) → IsWithin (rows_true s e store first bits) (mask_of m store)
+  -- under the bits and what is left of them the expression is true where it is under the bits
+  pub alike : (store : Store) → rows_true s e store first (both_true bits (mask_of m store)) ≡ rows_true s e store first bits
+  -- by row numbers alone: a filter by it leaves that as it is
+  pub again : numbers_alone s e.expr ≡ true → (store : Store) → rows_true s e store first (mask_of m store) ≡ mask_of m store
+  pub overflow : (store : Store) → mask_overflow m store ≡ (numbers_alone s e.expr && overflows_on s e store first bits)
+  pub wants : (here : Came) → mask_wanted m here ≡ []

@@ -4,5 +4,14 @@ pub mod Kept
 pub mod Evaluations
 pub mod RowsData
 pub mod LeafPlans
+pub mod Made
+pub mod StructData
 pub mod KindView
+pub mod KindFalls
+pub mod Reached
+pub mod StructPlans
 pub mod ReaderData
+pub mod RowIdxData
+pub mod RowParts
+pub mod ListPlans
+pub mod ListKids

@@ -9,8 +9,9 @@ use Rattle.scan_plans.specs.Came.{Came, Holds}
 use Rattle.scan_plans.specs.Formed.{reads}
 use Rattle.scan_plans.specs.Meaning.{value_at, overflow_at, plan_dtype, true_rows, Within}
 use Rattle.scan_plans.specs.PlanData.{PlanData}
+use Rattle.scan_plans.specs.Pruning.{is_numbered}
 use Rattle.scan_plans.specs.Wants.{wanted, names_id}
-use Rattle.scan_readers.specs.Readers.{ReaderState, value_of, overflows_at}
+use Rattle.scan_readers.specs.Readers.{ReaderState, numbers_alone, value_of, overflows_at}
 
 -- of these segments those at a path that an expression needs
 abbrev pub needed_places : Bound → List Place → List Place
@@ -25,9 +26,11 @@ abbrev pub held : Bound → (List ℕ → List Place) → List ℕ → List Plac
 held e holding is = if reads e.scope e.expr then holding is else []
 
 -- A plan of an expression over a reader's rows. Each row has the expression's value, and overflows where that does.
--- What it wants the rows touch, at paths that the expression needs.
+-- What it wants the rows touch, at paths that the expression needs. It is one over row numbers where the expression
+-- reads these alone.
 pub record IsPlanOf (s : ReaderState) (e : Bound) (p : PlanData) : Type 0 where
   pub expr : p.expr ≡ e
+  pub numbered : is_numbered p.tree ≡ numbers_alone s e.expr
   pub dtype : plan_dtype p.tree ≡ infer e.scope e.expr
   pub rows : Within p.tree s.rows
   pub value : (store : Store) (i : ℕ) → i < s.rows → value_at p.tree store i ≡ value_of s e store i

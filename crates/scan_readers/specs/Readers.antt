@@ -1,5 +1,5 @@
 -- What a reader of rows is, as far as contracts see it.
-use Rattle.std.specs.Prelude.{ℕ, ◌+◌, nat_lt, ◌&&◌, List, Bool, if◌then◌else◌, Option, Some, None, is_none}
+use Rattle.std.specs.Prelude.{ℕ, ◌+◌, nat_lt, ◌&&◌, List, Bool, if◌then◌else◌, Option, Some, None, is_none, is_some, not}
 use Rattle.scan_values.specs.DataType.{DataType, Name}
 use Rattle.scan_values.specs.Marked.{Marked}
 use Rattle.scan_values.specs.declared.field_path.FieldMask.{FieldMask}
@@ -9,6 +9,7 @@ use Rattle.scan_expr.specs.Expr.{Expr, uses_row_index}
 use Rattle.scan_expr.specs.Bound.{Bound}
 use Rattle.scan_expr.specs.Eval.{eval}
 use Rattle.scan_expr.specs.Overflow.{overflows}
+use Rattle.scan_partition.specs.RowDivided.{uses_root}
 use Rattle.scan_splits.specs.LayoutSplits.{missing}
 use Rattle.scan_splits.specs.declared.fault.SplitFault.{SplitFault}
 use Rattle.scan_splits.specs.declared.fault.SplitFault.TheVariants.{Bounds}
@@ -39,6 +40,10 @@ number_of (Some first) i = first + i
 -- the row's number stands in an expression, and rows are not numbered
 abbrev pub lacks_numbers : ReaderState → Expr → Bool
 lacks_numbers s e = is_none s.first_number && uses_row_index e
+
+-- an expression reads the numbers of a reader's rows, and nothing else
+abbrev pub numbers_alone : ReaderState → Expr → Bool
+numbers_alone s e = is_some s.first_number && (uses_row_index e && not (uses_root e))
 
 -- the value of an expression in a row
 abbrev pub value_of : ReaderState → Bound → Store → ℕ → Marked

@@ -1,5 +1,5 @@
 -- What a reader of an array in memory is.
-use Rattle.std.specs.Prelude.{ℕ, List, [], ◌∷◌, Some, None, false, length, get_or, refl}
+use Rattle.std.specs.Prelude.{List, [], ◌∷◌, Some, None, false, length, get_or, refl}
 use Rattle.std.specs.Coded.{Coded, code_by, coded×, coded_list, coded_ℕ}
 use Rattle.scan_values.specs.Arrays.{ArrayData, array_code}
 use Rattle.scan_values.specs.DataType.{Name}

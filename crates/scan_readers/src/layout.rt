@@ -1,84 +1,30 @@
 //! Readers of layouts. After the Rust's readers of each kind of layout.
 ghost use Rattle.std.specs.Prelude.{◌≡◌, [], IfOk, None, true, false};
-ghost use Rattle.scan_values.specs.DataType.{Name};
 ghost use Rattle.scan_expr.specs.Expr.{uses_row_index};
 ghost use Rattle.scan_layout.specs.Form.{HasForm};
-ghost use Rattle.scan_layout.specs.Layout.{dtype_of, rows_of};
-ghost use Rattle.scan_plans.specs.PlanData.{plan_data};
+ghost use Rattle.scan_layout.specs.Layout.{dtype_of};
+ghost use Rattle.scan_partition.specs.Partable.{IsPartable};
 ghost use Rattle.scan_readers.specs.Kept.{find_plan, Makes};
-ghost use Rattle.scan_readers.specs.KindView.{layout_of};
-ghost use Rattle.scan_readers.specs.LeafPlans.{is_leaf, layout_state};
+ghost use Rattle.scan_readers.specs.LeafPlans.{layout_state};
+ghost use Rattle.scan_readers.specs.Made.{is_made, none_made};
 ghost use Rattle.scan_readers.specs.PlanOf.{IsPlanOf};
+ghost use Rattle.scan_readers.specs.Reached.{reached, MakesWithin, MakesAll};
 ghost use Rattle.scan_readers.specs.ReaderData.{reader_data};
 
 use crate::kept::KeptPlans;
-use crate::leaf::LeafReader;
+use crate::kind::ReaderKind;
 use crate::reader::LayoutReader;
 use scan_expr::BoundExpression;
-use scan_layout::{LayoutKind, LayoutNode, LayoutReaderContext, LayoutRef};
-use scan_plans::{Plan, PlanNode};
+use scan_layout::{LayoutReaderContext, LayoutRef};
+use scan_plans::Plan;
 use scan_splits::{RowSplits, SplitFault, SplitRange};
 use scan_values::{DType, FieldMask, NoMemory, Text};
 use std::alloc::Global;
 use std::marker::Model;
 use std::sync::Arc;
 
-/// A reader of one kind of layout.
-#[derive(Drop)]
-pub(crate) enum ReaderKind {
-    Leaf(LeafReader),
-}
-
-impl ReaderKind {
-    /// A reader of a leaf.
-    fn of_leaf(alloc: Global, node: &LayoutNode) -> Result<ReaderKind, NoMemory>
-        requires form { HasForm node.now (dtype_of node.now) }
-        requires leaf { is_leaf node.now ≡ true }
-        ensures { IfOk result (λ k. layout_of k ≡ node.now) }
-    {
-        match &node.kind {
-            LayoutKind::Leaf(segments, spelling) => {
-                let leaf = LeafReader::of_segments(alloc, &node.dtype, *spelling, segments)?;
-                Ok(ReaderKind::Leaf(leaf))
-            }
-            _ => unreachable!(),
-        }
-    }
-
-    /// The dtype of its rows.
-    fn dtype(&self) -> &DType
-        ensures { result.now ≡ dtype_of (layout_of self.now) }
-    {
-        match self {
-            ReaderKind::Leaf(leaf) => &leaf.dtype,
-        }
-    }
-
-    /// The number of its rows.
-    fn row_count(&self) -> u64
-        ensures { result ≡ rows_of (layout_of self.now) }
-    {
-        match self {
-            ReaderKind::Leaf(leaf) => leaf.runs.row_count(),
-        }
-    }
-
-    /// The node of an expression.
-    fn node(&mut self, alloc: Global, expr: &BoundExpression) -> Result<PlanNode, NoMemory>
-        requires scope { expr.now.scope ≡ dtype_of (layout_of self.old) }
-        requires rows { uses_row_index expr.now.expr ≡ false }
-        requires form { HasForm (layout_of self.old) (dtype_of (layout_of self.old)) }
-        ensures same { layout_of self.new ≡ layout_of self.old }
-        ensures plan { IfOk result (λ n. (name : Name) →
-            IsPlanOf (layout_state name (layout_of self.old)) expr.now (plan_data expr.now n)) }
-    {
-        match self {
-            ReaderKind::Leaf(leaf) => leaf.node(alloc, expr),
-        }
-    }
-}
-
-/// A reader of a layout. Contracts see its name, the layout, what its readers share, and the plans that it keeps.
+/// A reader of a layout. Its children are made at first use. Contracts see its name, the layout, what of the
+/// layout's children is made, what its readers share, and the plans that it keeps.
 #[derive(Drop)]
 pub struct Reader<V> {
     name: Text,
@@ -94,15 +40,15 @@ impl<V> Model for Reader<V> {
 
     ghost coded = { reader_code V.code };
 
-    ghost use Rattle.scan_readers.specs.KindView.{layout_of};
+    ghost use Rattle.scan_readers.specs.KindView.{layout_of, made_of};
 
-    ghost view = { λ a. reader_data a.name (layout_of a.kind) a.shared a.kept };
+    ghost view = { λ a. reader_data a.name (layout_of a.kind) (made_of a.kind) a.shared a.kept };
 
     ghost invariant = { λ a. IsReader a.name (layout_of a.kind) a.kept };
 }
 
 impl<V: Drop> Reader<V> {
-    /// A reader of a leaf of good form, of this name.
+    /// A reader of a layout of good form, of this name. None of its children is made.
     pub fn from_layout(
         alloc: Global,
         name: Text,
@@ -110,10 +56,9 @@ impl<V: Drop> Reader<V> {
         ctx: &LayoutReaderContext<V>,
     ) -> Result<Reader<V>, NoMemory>
         requires form { HasForm node.now.value (dtype_of node.now.value) }
-        requires leaf { is_leaf node.now.value ≡ true }
-        ensures { IfOk result (λ r. r ≡ reader_data name node.now.value ctx.now []) }
+        ensures { IfOk result (λ r. r ≡ reader_data name node.now.value (none_made node.now.value) ctx.now []) }
     {
-        let kind = ReaderKind::of_leaf(alloc, node)?;
+        let kind = ReaderKind::of_layout(alloc, node)?;
         let shared = ctx.try_clone(alloc)?;
         Ok(Reader {
             name,
@@ -126,16 +71,26 @@ impl<V: Drop> Reader<V> {
     /// The plan of an expression of which none is kept, which is kept from then on.
     fn make(&mut self, alloc: Global, expr: &BoundExpression) -> Result<Arc<Plan>, NoMemory>
         requires scope { expr.now.scope ≡ dtype_of self.old.layout }
+        requires bound { IsPartable expr.now }
         requires rows { uses_row_index expr.now.expr ≡ false }
         requires none { find_plan self.old.kept expr.now ≡ None }
         ensures made { Makes self.old.kept self.new.kept expr.now result }
         ensures plan { IfOk result (λ p. IsPlanOf (layout_state self.old.name self.old.layout) expr.now p.value) }
         ensures name { self.new.name ≡ self.old.name }
         ensures layout { self.new.layout ≡ self.old.layout }
+        ensures within { MakesWithin (reached self.old.layout expr.now) self.old.made self.new.made }
+        ensures all { IfOk result (λ _. MakesAll (reached self.old.layout expr.now) self.old.made self.new.made) }
     {
         let node = self.kind.node(alloc, expr)?;
         let plan = Arc::new(alloc, Plan::new(expr.try_clone(alloc)?, node))?;
         self.kept.keep(plan)
+    }
+
+    /// Whether the child at a path of child indices is made. The reader itself is.
+    pub fn is_made(&self, path: &[usize]) -> bool
+        ensures { result ≡ is_made self.now.made path.now }
+    {
+        self.kind.is_made(path)
     }
 
     /// What its readers share.
@@ -147,6 +102,12 @@ impl<V: Drop> Reader<V> {
 }
 
 impl<V: Drop> LayoutReader for Reader<V> {
+    ghost use Rattle.std.specs.Prelude.{◌↔◌, ◌<◌, Err, Some, IfSome};
+    ghost use Rattle.scan_layout.specs.Layout.{rows_of};
+    ghost use Rattle.scan_splits.specs.RowLists.{shifted, Pushes};
+    ghost use Rattle.scan_splits.specs.SplitFaults.{Tells};
+    ghost use Rattle.scan_readers.specs.Kept.{Stay};
+    ghost use Rattle.scan_readers.specs.Readers.{lacks_numbers, split_fault};
     ghost use Rattle.scan_readers.specs.Kept.{find_plan};
     ghost use Rattle.scan_readers.specs.LeafPlans.{layout_state};
 
@@ -166,21 +127,43 @@ impl<V: Drop> LayoutReader for Reader<V> {
         self.kind.row_count()
     }
 
+    /// No child is made.
     #[tactic(auto, using(crate::proofs::Keeping::stays_same))]
     fn register_splits(
         &mut self,
-        _alloc: Global,
-        _masks: &[FieldMask],
+        alloc: Global,
+        masks: &[FieldMask],
         range: &SplitRange,
         splits: &mut RowSplits,
-    ) -> Result<(), SplitFault> {
-        match &self.kind {
-            ReaderKind::Leaf(leaf) => leaf.runs.register_splits(range, splits),
-        }
+    ) -> Result<(), SplitFault>
+        ensures same { layout_state self.new.name self.new.layout ≡ layout_state self.old.name self.old.layout }
+        ensures stay { Stay (find_plan self.old.kept) (find_plan self.new.kept) }
+        ensures bounds { (result ≡ Err SplitFault.Bounds) ↔ (rows_of self.old.layout < range.now.end) }
+        ensures first { Tells result
+            (split_fault (layout_state self.old.name self.old.layout) masks.now range.now.end) }
+        ensures pushed { Pushes result (shifted range.now.offset
+            ((layout_state self.old.name self.old.layout).edges masks.now range.now.start range.now.end))
+            splits.old splits.new }
+        ensures made { self.new.made ≡ self.old.made }
+    {
+        self.kind.register_splits(alloc, masks, range, splits)
     }
 
+    /// The children that the expression reaches are made, and no other; none is where the plan is kept.
     #[tactic(auto, using(crate::proofs::Keeping::stays_same))]
-    fn plan(&mut self, alloc: Global, expr: &BoundExpression) -> Result<Arc<Plan>, NoMemory> {
+    fn plan(&mut self, alloc: Global, expr: &BoundExpression) -> Result<Arc<Plan>, NoMemory>
+        requires scope { expr.now.scope ≡ dtype_of self.old.layout }
+        requires bound { IsPartable expr.now }
+        requires numbers { lacks_numbers (layout_state self.old.name self.old.layout) expr.now.expr ≡ false }
+        ensures same { layout_state self.new.name self.new.layout ≡ layout_state self.old.name self.old.layout }
+        ensures stay { Stay (find_plan self.old.kept) (find_plan self.new.kept) }
+        ensures kept { IfOk result (λ p. find_plan self.new.kept expr.now ≡ Some p.value) }
+        ensures plan { IfOk result (λ p. IsPlanOf (layout_state self.old.name self.old.layout) expr.now p.value) }
+        ensures within { MakesWithin (reached self.old.layout expr.now) self.old.made self.new.made }
+        ensures again { IfSome (find_plan self.old.kept expr.now) (λ _. self.new.made ≡ self.old.made) }
+        ensures all { find_plan self.old.kept expr.now ≡ None →
+            IfOk result (λ _. MakesAll (reached self.old.layout expr.now) self.old.made self.new.made) }
+    {
         match self.kept.find(expr) {
             Some(plan) => Ok(plan.clone()?),
             None => self.make(alloc, expr),

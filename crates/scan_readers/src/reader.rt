@@ -5,9 +5,10 @@ ghost use Rattle.scan_expr.specs.Infer.{infer};
 ghost use Rattle.scan_partition.specs.Partable.{IsPartable};
 ghost use Rattle.scan_plans.specs.Futures.{future_data};
 ghost use Rattle.scan_plans.specs.Masks.{mask_data};
+ghost use Rattle.scan_plans.specs.Pruning.{pruned};
 ghost use Rattle.scan_splits.specs.RowLists.{shifted, Pushes};
 ghost use Rattle.scan_splits.specs.SplitFaults.{Tells};
-ghost use Rattle.scan_readers.specs.Evaluations.{Filters, Projects};
+ghost use Rattle.scan_readers.specs.Evaluations.{Filters, Projects, Prunes};
 ghost use Rattle.scan_readers.specs.Kept.{Stay};
 ghost use Rattle.scan_readers.specs.PlanOf.{IsPlanOf};
 ghost use Rattle.scan_readers.specs.Readers.{lacks_numbers, split_fault};
@@ -15,7 +16,7 @@ ghost use Rattle.scan_readers.specs.Readers.{lacks_numbers, split_fault};
 use scan_expr::BoundExpression;
 use scan_plans::{ArrayFuture, MaskFuture, Plan};
 use scan_splits::{RowSplits, SplitFault, SplitRange};
-use scan_values::{DType, FieldMask, NoMemory, Text};
+use scan_values::{DType, FieldMask, Mask, NoMemory, Text};
 use std::alloc::Global;
 use std::ops::Range;
 use std::sync::Arc;
@@ -74,6 +75,25 @@ pub trait LayoutReader {
         ensures stay { Stay (kept self.old) (kept self.new) }
         ensures kept { IfOk result (λ p. kept self.new expr.now ≡ Some p.value) }
         ensures plan { IfOk result (λ p. IsPlanOf (state self.old) expr.now p.value) };
+
+    /// The rows of a mask of a range at which the expression of one of its plans may be true, by what is known before
+    /// anything is read: where it reads row numbers alone those at which it is true, else all. Nothing is wanted.
+    fn pruning_evaluation(
+        &self,
+        alloc: Global,
+        range: &Range<u64>,
+        plan: &Arc<Plan>,
+        mask: Mask,
+    ) -> Result<MaskFuture, NoMemory>
+        requires own { IsPlanOf (state self.now) (plan.now.value).expr plan.now.value }
+        requires dtype { is_bool_type (infer (plan.now.value).expr.scope (plan.now.value).expr.expr) ≡ true }
+        requires rows { range.now.end ≤ (state self.now).rows }
+        requires length { range.now.start + length mask ≡ range.now.end }
+        ensures made { IfOk result (λ m. m ≡ pruned (plan.now.value).tree range.now.start mask) }
+        ensures means { IfOk result (λ m. Prunes (state self.now) (plan.now.value).expr range.now.start mask m) }
+    {
+        Plan::prune(alloc, plan, range, mask)
+    }
 
     /// The rows of a mask of a range at which the expression of one of its plans is true.
     fn filter_evaluation(

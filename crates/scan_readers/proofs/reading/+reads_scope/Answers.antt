@@ -1,4 +1,4 @@
-use Rattle.std.proofs.Common.{◌≡◌, rules, ◌<◌, sym, ◌∙◌}
+use Rattle.std.proofs.Common.{rules, ◌<◌, sym, ◌∙◌}
 use Rattle.scan_expr.specs.Expr.{expr_size}
 use Rattle.scan_readers.proofs.Scopes.{part_smaller, pack_true, pack_false}
 use Rattle.scan_readers.proofs.reading.+reads_scope.Goals as goal
