@@ -1,0 +1,2 @@
+pub mod FieldMasks
+pub mod SplitRanges
