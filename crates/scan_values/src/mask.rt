@@ -201,7 +201,11 @@ impl Mask {
 fn count_true(bits: &[bool]) -> usize
     ensures { result ≡ true_count bits.now }
 {
-    bits.iter().filter(|b| **b).count()
+    let mut count = 0;
+    for bit in bits {
+        count += *bit as usize;
+    }
+    count
 }
 
 /// The rows, of which only the first `n` true ones stay true.
