@@ -14,6 +14,7 @@ pub mod OffsetSegments
 pub mod OffsetChecks
 pub mod ListRows
 pub mod ListCells
+pub mod WholeLists
 pub mod Nodes
 pub mod Numbering
 pub mod OverLengths

@@ -3,7 +3,6 @@ use Rattle.std.proofs.Common.{◌≡◌, ℕ, zero, suc, ◌+◌, ◌-◌, ◌<�
 use Rattle.std.specs.Prelude.{nat_le, if◌then◌else◌}
 use Rattle.std.specs.List.{list_any, items_where_true}
 use Rattle.std.proofs.lemmas.Bool.Decides.{nat_tests}
-use Rattle.std.proofs.lemmas.List.{length-replicate}
 use Rattle.scan_values.specs.Arrays.{ArrayData, of_parts}
 use Rattle.scan_values.specs.DataType.{DataType, int_type}
 use Rattle.scan_values.specs.declared.ptype.Nullability.TheVariants.{NonNullable}
@@ -21,18 +20,18 @@ use Rattle.scan_plans.specs.PlanTree.{PlanTree, lists, lengths}
 use Rattle.scan_plans.specs.Came.{Came, arrived}
 use Rattle.scan_plans.specs.Formed.{NeverOverflows}
 use Rattle.scan_plans.specs.ListItems.{length_val, sizes_in, first_in, last_from, last_in}
-use Rattle.scan_plans.specs.Lists.{rows_on, elements_from, element_rows}
+use Rattle.scan_plans.specs.Lists.{rows_on, elements_from, span_elements, element_rows}
 use Rattle.scan_plans.specs.Meaning.{value_at, overflow_on, true_rows}
-use Rattle.scan_plans.specs.OffsetReads.{Climbs, AreOffsets, IsCut, Cuts, IsWhole, CutsWhole, ListsOf, NoneOf}
+use Rattle.scan_plans.specs.OffsetReads.{Climbs, AreOffsets, IsCut, Cuts, CutsWhole, ListsOf, NoneOf}
 use Rattle.scan_plans.specs.OffsetsData.{OffsetsData, offset_at, offset_marked}
 use Rattle.scan_plans.specs.Reads.{AreValues, Reads}
-use Rattle.scan_plans.specs.Wants.{wanted, offsets_wanted, are_here, offsets_spoiled, Complete}
+use Rattle.scan_plans.specs.Wants.{wanted, offsets_wanted, knows_elements, offsets_spoiled, Complete}
 use Rattle.scan_plans.specs.declared.fault.ReadFault.{ReadFault}
 use Rattle.scan_plans.specs.declared.fault.ReadFault.TheVariants.{Corrupt, Overflow, NoMemory}
 use Rattle.scan_plans.specs.declared.lists.Cut.{Cut}
 use Rattle.scan_plans.proofs.OffsetChecks.{rows_long}
 use Rattle.scan_plans.proofs.ListRows.{kept_rows}
-use Rattle.scan_plans.proofs.Transfer.{complete_left, complete_right, complete_here}
+use Rattle.scan_plans.proofs.Transfer.{complete_left, complete_right, knows_here}
 
 or_true : (b : Bool) → (b || true) ≡ true
 or_true true = refl
@@ -47,7 +46,7 @@ pub climbs_rises : (most a : ℕ) (ns : List ℕ) → Climbs most a ns → Rises
 climbs_rises most a [] c = tt
 climbs_rises most a (n ∷ ns) c = (c.0, climbs_rises most n ns c.2)
 
-last_above : (most a : ℕ) (ns : List ℕ) → Climbs most a ns → a ≤ last_from a ns
+pub last_above : (most a : ℕ) (ns : List ℕ) → Climbs most a ns → a ≤ last_from a ns
 last_above most a [] c = omega arith
 last_above most a (n ∷ ns) c = let z = last_above most n ns c.2 in omega (arith, z, c.0)
 
@@ -92,7 +91,7 @@ opened o store i n ns a = by ns refl
         let d : Climbs o.elements 0 (m ∷ ms) = subst (λ (xs : List ℕ). Climbs o.elements 0 xs) s a.climbs in
         (m, ms, s, x, rest, d.1, d.2)
 
--- the elements of all these lists
+-- the elements of these lists
 pub record Whole (o : OffsetsData) (store : Store) (i n : ℕ) (ns : List ℕ) : Type 0 where
   pub rows : elements_from o store i (n + 1) ≡ rows_on (first_in ns) (last_in ns - first_in ns)
   pub order : first_in ns ≤ last_in ns
@@ -117,7 +116,7 @@ whole o store i n ns h =
     })
 
 -- ---- lists of elements
-parts : (f : ℕ → Marked) (k m a : ℕ) (es : List Val) → map marked es ≡ map f (rows_on a (k + m)) → (marked_all (vals_of (take k es)) ≡ values_from f a k) × (map marked (drop k es) ≡ map f (rows_on (a + k) m))
+pub parts : (f : ℕ → Marked) (k m a : ℕ) (es : List Val) → map marked es ≡ map f (rows_on a (k + m)) → (marked_all (vals_of (take k es)) ≡ values_from f a k) × (map marked (drop k es) ≡ map f (rows_on (a + k) m))
 parts f zero m a es h = let z : 0 + m ≡ m = omega arith in let y : a ≡ a + 0 = omega arith in (refl, h ∙ ap (λ n. map f (rows_on a n)) z ∙ ap (λ n. map f (rows_on n m)) y)
 parts f (suc k) m a [] h = absurd (let z : suc k + m ≡ suc (k + m) = omega arith in let w = h ∙ ap (λ n. map f (rows_on a n)) z in cc)
 parts f (suc k) m a (e ∷ es) h =
@@ -154,19 +153,19 @@ lists_at d p o store i n ns es h v =
     (λ w. lists_on d p o store n i q.0 q.1 es q.3 q.4 q.6 w) v
 
 -- the rows of the elements of a cut
-pub cut_rows : (o : OffsetsData) (store : Store) (is : List ℕ) (c : Cut) → IsCut o store is c → element_rows o store is ≡ rows_on (first_in c.offsets.items) (last_in c.offsets.items - first_in c.offsets.items)
+pub cut_rows : (o : OffsetsData) (store : Store) (is : List ℕ) (c : Cut) → IsCut o store is c → span_elements o store is ≡ rows_on (first_in c.offsets.items) (last_in c.offsets.items - first_in c.offsets.items)
 cut_rows o store is c k = (k.span).elements o store ∙ (whole o store c.first (length c.mask) c.offsets.items k.offsets).rows
 
-pub lists_ok : (d : DataType) (p : PlanTree) (o : OffsetsData) (here : Came) (is : List ℕ) (c : Cut) (a b : ArrayData) → IsCut o (arrived here) is c → AreValues p here (element_rows o (arrived here) is) a
+pub lists_ok : (d : DataType) (p : PlanTree) (o : OffsetsData) (here : Came) (is : List ℕ) (c : Cut) (a b : ArrayData) → IsCut o (arrived here) is c
+    → map marked a.items ≡ map (value_at p (arrived here)) (rows_on (first_in c.offsets.items) (last_in c.offsets.items - first_in c.offsets.items))
     → b ≡ of_parts d (items_where_true c.mask (typed list_of (cuts (sizes_in c.offsets.items) a.items) (replicate (length c.mask) true))) → AreValues (lists d p o) here is b
-lists_ok d p o here is c a b k v e =
-    let own = v.items ∙ ap (map (value_at p (arrived here))) (cut_rows o (arrived here) is c k) in record {
-      dtype = ap (λ (x : ArrayData). x.dtype) e;
-      items = ap (λ (x : ArrayData). map marked x.items) e
-          ∙ kept_rows (value_at (lists d p o) (arrived here)) (typed list_of (cuts (sizes_in c.offsets.items) a.items) (replicate (length c.mask) true)) c.first c.mask (lists_at d p o (arrived here) c.first (length c.mask) c.offsets.items a.items k.offsets own)
-          ∙ ap (map (value_at (lists d p o) (arrived here))) (sym (k.span).rows);
-      within = never is;
-    }
+lists_ok d p o here is c a b k own e = record {
+  dtype = ap (λ (x : ArrayData). x.dtype) e;
+  items = ap (λ (x : ArrayData). map marked x.items) e
+      ∙ kept_rows (value_at (lists d p o) (arrived here)) (typed list_of (cuts (sizes_in c.offsets.items) a.items) (replicate (length c.mask) true)) c.first c.mask (lists_at d p o (arrived here) c.first (length c.mask) c.offsets.items a.items k.offsets own)
+      ∙ ap (map (value_at (lists d p o) (arrived here))) (sym (k.span).rows);
+  within = never is;
+}
 
 pub lists_none : (d : DataType) (p : PlanTree) (o : OffsetsData) (here : Came) (is : List ℕ) (b : ArrayData) → is ≡ [] → b ≡ of_parts d [] → AreValues (lists d p o) here is b
 lists_none d p o here is b n e = subst (λ (js : List ℕ). AreValues (lists d p o) here js b) (sym n) (record { dtype = ap (λ (x : ArrayData). x.dtype) e; items = ap (λ (x : ArrayData). map marked x.items) e; within = refl })
@@ -180,10 +179,10 @@ never_on p n store k (b ∷ bits) h w = by b (never_on p n store (k + 1) bits h 
     by true rest = rw (h store k (omega (arith, w))) rest
     by false rest = rest
 
-pub second_wanted : (d : DataType) (p : PlanTree) (o : OffsetsData) (here : Came) (is : List ℕ) → Complete (wanted (lists d p o) here is) here → (are_here (offsets_wanted o is) here ≡ true) × Complete (wanted p here (element_rows o (arrived here) is)) here
+pub second_wanted : (d : DataType) (p : PlanTree) (o : OffsetsData) (here : Came) (is : List ℕ) → Complete (wanted (lists d p o) here is) here → (knows_elements o here is ≡ true) × Complete (wanted p here (element_rows o (arrived here) is)) here
 second_wanted d p o here is c =
-    let first = complete_here (offsets_wanted o is) here (complete_left (offsets_wanted o is) (if are_here (offsets_wanted o is) here then wanted p here (element_rows o (arrived here) is) else []) here c) in
-    (first, by (are_here (offsets_wanted o is) here) first (complete_right (offsets_wanted o is) (if are_here (offsets_wanted o is) here then wanted p here (element_rows o (arrived here) is) else []) here c))
+    let first = knows_here o here is (complete_left (offsets_wanted o is) (if knows_elements o here is then wanted p here (element_rows o (arrived here) is) else []) here c) in
+    (first, by (knows_elements o here is) first (complete_right (offsets_wanted o is) (if knows_elements o here is then wanted p here (element_rows o (arrived here) is) else []) here c))
   where
     by : (b : Bool) → b ≡ true → Complete (if b then wanted p here (element_rows o (arrived here) is) else []) here → Complete (wanted p here (element_rows o (arrived here) is)) here
     by true e w = w
@@ -197,7 +196,7 @@ elements_fault d p o here is k bits NoMemory n e w h = tt
 
 pub offsets_fault_of : (d : DataType) (p : PlanTree) (o : OffsetsData) (here : Came) (is : List ℕ) (f : ReadFault) → Cuts o here is (Err f) → Reads (lists d p o) here is (Err f)
 offsets_fault_of d p o here is (Corrupt id) h = λ c.
-    let first = complete_left (offsets_wanted o is) (if are_here (offsets_wanted o is) here then wanted p here (element_rows o (arrived here) is) else []) here c in rw (h first) refl
+    let first = complete_left (offsets_wanted o is) (if knows_elements o here is then wanted p here (element_rows o (arrived here) is) else []) here c in rw (h first) refl
 offsets_fault_of d p o here is Overflow h = absurd h
 offsets_fault_of d p o here is NoMemory h = tt
 
@@ -245,7 +244,7 @@ sizes_long : (a : ℕ) (ns : List ℕ) → length (sizes a ns) ≡ length ns
 sizes_long a [] = refl
 sizes_long a (n ∷ ns) = ap suc (sizes_long n ns)
 
-length-map : {A B : Type 0} (f : A → B) (xs : List A) → length (map f xs) ≡ length xs
+pub length-map : {A B : Type 0} (f : A → B) (xs : List A) → length (map f xs) ≡ length xs
 length-map f [] = refl
 length-map f (x ∷ xs) = ap suc (length-map f xs)
 
@@ -296,16 +295,6 @@ lengths_fit most (x ∷ xs) m c = sizes_fit most x xs m c.2
 pub cut_count : (o : OffsetsData) (store : Store) (i n : ℕ) (ns : List ℕ) → AreOffsets o store i n ns → length ns ≡ n
 cut_count o store i n ns a = sym (length-map (λ k. Some (pos k)) ns) ∙ ap length (sym a.at) ∙ length-map (offset_at o store) (rows_on i n) ∙ rows_long i n
 
-pub whole_rows : (o : OffsetsData) (store : Store) (is : List ℕ) (c : Cut) (first : ℕ) (mask : List Bool) → IsCut o store is c → IsWhole c.offsets.items first mask → (element_rows o store is ≡ true_rows first mask) × (first + length mask ≤ o.elements)
-whole_rows o store is c first mask k w =
-    let ns : List ℕ = c.offsets.items in
-    let q = whole o store c.first (length c.mask) c.offsets.items k.offsets in
-    let long : length mask ≡ last_in ns - first_in ns = ap length w.1 ∙ length-replicate (last_in ns - first_in ns) true in
-    (cut_rows o store is c k ∙ ap (λ n. true_rows n (replicate (last_in ns - first_in ns) true)) (sym w.0) ∙ ap (true_rows first) (sym w.1), omega (arith, long, w.0, q.order, q.within))
-
-pub no_elements : (o : OffsetsData) (store : Store) (is : List ℕ) (mask : List Bool) → is ≡ [] → mask ≡ replicate 0 true → (element_rows o store is ≡ true_rows 0 mask) × (0 + length mask ≤ o.elements)
-no_elements o store is mask n e = (ap (element_rows o store) n ∙ ap (true_rows 0) (sym e), (let z : length mask ≡ 0 = ap length e in omega (arith, z)))
-
 pub whole_fault : (o : OffsetsData) (here : Came) (is : List ℕ) (f : ReadFault) → Cuts o here is (Err f) → CutsWhole o here is (Err f)
 whole_fault o here is (Corrupt id) h = h
 whole_fault o here is Overflow h = h
@@ -321,15 +310,9 @@ lengths_fault o here is (Corrupt id) h = h
 lengths_fault o here is Overflow h = absurd h
 lengths_fault o here is NoMemory h = tt
 
--- as many elements as all these lists have
-pub cut_size : (p : PlanTree) (o : OffsetsData) (here : Came) (is : List ℕ) (c : Cut) (a : ArrayData) → IsCut o (arrived here) is c → AreValues p here (element_rows o (arrived here) is) a → total (sizes_in c.offsets.items) ≡ length a.items
-cut_size p o here is c a k v =
-    let ns : List ℕ = c.offsets.items in
-    (whole o (arrived here) c.first (length c.mask) ns k.offsets).size ∙ sym (rows_long (first_in ns) (last_in ns - first_in ns)) ∙ ap length (sym (cut_rows o (arrived here) is c k))
-    ∙ sym (length-map (value_at p (arrived here)) (element_rows o (arrived here) is)) ∙ ap length (sym v.items) ∙ length-map marked a.items
-
 -- ---- what is made of the elements that were read
-pub lists_given : (d : DataType) (p : PlanTree) (o : OffsetsData) (here : Came) (is : List ℕ) (c : Cut) (a : ArrayData) (r : Result ArrayData ReadFault) → IsCut o (arrived here) is c → AreValues p here (element_rows o (arrived here) is) a → ListsOf d c a r → Reads (lists d p o) here is r
+pub lists_given : (d : DataType) (p : PlanTree) (o : OffsetsData) (here : Came) (is : List ℕ) (c : Cut) (a : ArrayData) (r : Result ArrayData ReadFault) → IsCut o (arrived here) is c
+    → map marked a.items ≡ map (value_at p (arrived here)) (rows_on (first_in c.offsets.items) (last_in c.offsets.items - first_in c.offsets.items)) → ListsOf d c a r → Reads (lists d p o) here is r
 lists_given d p o here is c a (Ok b) k v h = lists_ok d p o here is c a b k v h
 lists_given d p o here is c a (Err (Corrupt id)) k v h = absurd h
 lists_given d p o here is c a (Err Overflow) k v h = absurd h

@@ -8,7 +8,7 @@ use Rattle.std.proofs.lemmas.List.Sums.{fails_before_first}
 use Rattle.std.proofs.lemmas.Bool.{eq-eqb}
 use Rattle.std.proofs.lemmas.Bool.Decides.{nat_tests}
 use Rattle.scan_values.specs.Masks.{last_true, later}
-use Rattle.scan_plans.specs.Lists.{rows_on, least_row, greatest_row, offset_count, offset_rows, elements_from, element_rows, IsSpan}
+use Rattle.scan_plans.specs.Lists.{rows_on, least_row, greatest_row, offset_count, offset_rows, elements_from, span_elements, IsSpan}
 use Rattle.scan_plans.specs.Meaning.{true_rows}
 use Rattle.scan_plans.proofs.RowLemmas.{split_rows, drop_twice}
 use Rattle.scan_plans.proofs.Spans.{bounded}
@@ -98,7 +98,7 @@ span_some k bits f l part p q e =
       record {
         rows = s.0 ∙ cut ∙ ap (true_rows (k + f)) (sym e);
         offsets = ap offset_rows rows ∙ ap (λ n. rows_on n (offset_count i is)) low ∙ ap (rows_on (k + f)) count;
-        elements = λ o store. ap (element_rows o store) rows ∙ ap (λ n. elements_from o store n (offset_count i is)) low ∙ ap (elements_from o store (k + f)) count;
+        elements = λ o store. ap (span_elements o store) rows ∙ ap (λ n. elements_from o store n (offset_count i is)) low ∙ ap (elements_from o store (k + f)) count;
       },
       omega (arith, long, inside),
     )

@@ -1,6 +1,6 @@
 -- The rows of offsets and of elements that rows of lists need.
 use Rattle.std.proofs.Common.{◌≡◌, ℕ, zero, suc, ◌+◌, ◌-◌, ◌<◌, ◌≤◌, ◌==◌, Bool, true, false, ◌||◌, List, [], ◌∷◌, min, max, Option, Some, None, ℤ, pos, negsuc, refl, ap, ◌∙◌, arith}
-use Rattle.std.specs.Prelude.{nat_le}
+use Rattle.std.specs.Prelude.{nat_le, if◌then◌else◌}
 use Rattle.std.specs.List.{list_any}
 use Rattle.std.proofs.lemmas.Bool.{eqb-true}
 use Rattle.std.proofs.lemmas.Bool.Decides.{nat_tests}
@@ -9,7 +9,7 @@ use Rattle.scan_segments.specs.Source.{Store}
 use Rattle.scan_layout.specs.RowValue.{elements_between, values_from, offset_of}
 use Rattle.scan_layout.specs.Touched.{least_offset, greatest_offset, lesser, greater}
 use Rattle.scan_plans.specs.OffsetsData.{OffsetsData, offset_at, offset_marked}
-use Rattle.scan_plans.specs.Lists.{rows_on, least_row, greatest_row, offset_count, offset_rows, element_rows}
+use Rattle.scan_plans.specs.Lists.{rows_on, least_row, greatest_row, offset_count, offset_rows, span_elements, is_whole, element_rows}
 
 -- row i is one of the rows
 abbrev pub among : ℕ → List ℕ → Bool
@@ -91,15 +91,22 @@ greatest_above f k (suc n) i a low high e = by (k == i) refl (λ past. greatest_
         let z = later past in
         let y = greater_rest (offset_of (f k)) (greatest_offset f (k + 1) n) in omega (arith, y, z)
 
-pub own_element : (o : OffsetsData) (store : Store) (i : ℕ) (is : List ℕ) (a b j : ℕ) → among i is ≡ true → offset_at o store i ≡ Some (pos a) → offset_at o store (i + 1) ≡ Some (pos b) → b ≤ o.elements → a ≤ j → j < b → among j (element_rows o store is) ≡ true
-own_element o store i [] a b j h x y m low high = absurd cc
-own_element o store i (k ∷ ks) a b j h x y m low high =
+span_element : (o : OffsetsData) (store : Store) (i : ℕ) (is : List ℕ) (a b j : ℕ) → among i is ≡ true → offset_at o store i ≡ Some (pos a) → offset_at o store (i + 1) ≡ Some (pos b) → b ≤ o.elements → a ≤ j → j < b → among j (span_elements o store is) ≡ true
+span_element o store i [] a b j h x y m low high = absurd cc
+span_element o store i (k ∷ ks) a b j h x y m low high =
     let z = bounded i k ks h in
     let at : ℕ → Marked = offset_marked o store in
     let l = least_below o.elements at (least_row k ks) (offset_count k ks) i a z.0 (omega (arith, z.0, z.1)) x in
     let g = greatest_above at (least_row k ks) (offset_count k ks) (i + 1) b (omega (arith, z.0)) (omega (arith, z.0, z.1)) y in
     on_rows (least_offset o.elements (offset_marked o store) (least_row k ks) (offset_count k ks)) (min o.elements (greatest_offset (offset_marked o store) (least_row k ks) (offset_count k ks)) - least_offset o.elements (offset_marked o store) (least_row k ks) (offset_count k ks)) j
     (omega (arith, l, low)) (omega (arith, l, g, m, low, high))
+
+pub own_element : (o : OffsetsData) (store : Store) (i : ℕ) (is : List ℕ) (a b j : ℕ) → among i is ≡ true → offset_at o store i ≡ Some (pos a) → offset_at o store (i + 1) ≡ Some (pos b) → b ≤ o.elements → a ≤ j → j < b → among j (element_rows o store is) ≡ true
+own_element o store i is a b j h x y m low high = by (is_whole o is)
+  where
+    by : (w : Bool) → among j (if w then rows_on 0 o.elements else span_elements o store is) ≡ true
+    by true = on_rows 0 o.elements j (omega arith) (omega (arith, m, high))
+    by false = span_element o store i is a b j h x y m low high
 
 pub values_alike : (n a : ℕ) (f g : ℕ → Marked) → ((j : ℕ) → a ≤ j → j < a + n → f j ≡ g j) → values_from f a n ≡ values_from g a n
 values_alike zero a f g h = refl

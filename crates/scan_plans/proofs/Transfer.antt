@@ -14,10 +14,10 @@ use Rattle.scan_layout.specs.Places.{Place, places_of}
 use Rattle.scan_layout.specs.RowValue.{leaf_value, segment_value, item_of, offset_of}
 use Rattle.scan_plans.specs.PlanTree.{PlanTree, leaf, rows, evaluate, over, constant, lists, lengths, valid, numbers, by_lengths, PlanTrees, no_plans, plan}
 use Rattle.scan_plans.specs.OffsetsData.{OffsetsData, offset_at, offset_places}
-use Rattle.scan_plans.specs.Lists.{offset_rows, element_rows}
+use Rattle.scan_plans.specs.Lists.{offset_rows, is_whole, element_rows}
 use Rattle.scan_plans.specs.Came.{Came, arrived, Holds}
 use Rattle.scan_plans.specs.Meaning.{value_at, values_at, list_at, overflow_at, overflow_in}
-use Rattle.scan_plans.specs.Wants.{holds_any, leaf_wanted, offsets_wanted, are_here, wanted, all_wanted, names_id, Complete}
+use Rattle.scan_plans.specs.Wants.{holds_any, leaf_wanted, offsets_wanted, are_here, knows_elements, wanted, all_wanted, names_id, Complete}
 use Rattle.scan_plans.proofs.Spans.{among, own_offset, next_offset, own_element, elements_alike}
 
 -- ---- what has arrived
@@ -39,6 +39,13 @@ complete_here [] here c = refl
 complete_here (p ∷ ps) here c =
     let n = left_false (p.id == p.id) (names_id p.id ps) (is_none (here p.id)) (c p.id) (eq-eqb p.id p.id refl) in
     rw (is_here (here p.id) n) (complete_here ps here (λ id. rest_false (p.id == id) (names_id id ps) (is_none (here id)) (c id)))
+
+pub knows_here : (o : OffsetsData) (here : Came) (is : List ℕ) → Complete (offsets_wanted o is) here → knows_elements o here is ≡ true
+knows_here o here is c = ap (λ b. is_whole o is || b) (complete_here (offsets_wanted o is) here c) ∙ either_way (is_whole o is)
+  where
+    either_way : (b : Bool) → (b || true) ≡ true
+    either_way true = refl
+    either_way false = refl
 
 or_left : (a b : Bool) → (a || b) ≡ false → a ≡ false
 or_left true b h = h
@@ -118,8 +125,8 @@ mutual
   value_same (over d e ps) here store i is holds h c = ap (λ vs. eval d e (struct vs) 0) (values_same ps here store i is holds h c)
   value_same (constant d e) here store i is holds h c = refl
   value_same (lists d p o) here store i is holds h c =
-      let first = complete_left (offsets_wanted o is) (if are_here (offsets_wanted o is) here then wanted p here (element_rows o (arrived here) is) else []) here c in
-      let rest : Complete (wanted p here (element_rows o (arrived here) is)) here = second (are_here (offsets_wanted o is) here) (complete_here (offsets_wanted o is) here first) (complete_right (offsets_wanted o is) (if are_here (offsets_wanted o is) here then wanted p here (element_rows o (arrived here) is) else []) here c) in
+      let first = complete_left (offsets_wanted o is) (if knows_elements o here is then wanted p here (element_rows o (arrived here) is) else []) here c in
+      let rest : Complete (wanted p here (element_rows o (arrived here) is)) here = second (knows_elements o here is) (knows_here o here is first) (complete_right (offsets_wanted o is) (if knows_elements o here is then wanted p here (element_rows o (arrived here) is) else []) here c) in
       rw (offset_same o here store i is holds (own_offset i is h) first, offset_same o here store (i + 1) is holds (next_offset i is h) first)
       (elements_alike o.elements (offset_at o (arrived here) i) (offset_at o (arrived here) (i + 1)) (λ j. value_at p store j) (λ j. value_at p (arrived here) j)
       (λ a b j x y m low high. value_same p here store j (element_rows o (arrived here) is) holds (own_element o (arrived here) i is a b j h x y m low high) rest))

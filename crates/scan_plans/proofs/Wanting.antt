@@ -12,7 +12,7 @@ use Rattle.scan_plans.specs.PlanTree.{PlanTree, leaf, rows, evaluate, over, cons
 use Rattle.scan_plans.specs.Lists.{offset_rows, element_rows}
 use Rattle.scan_plans.specs.Came.{Came, arrived}
 use Rattle.scan_plans.specs.Meaning.{true_rows}
-use Rattle.scan_plans.specs.Wants.{holds_any, leaf_wanted, are_here, offsets_wanted, wanted, all_wanted, may, all_may, names_id}
+use Rattle.scan_plans.specs.Wants.{holds_any, leaf_wanted, offsets_wanted, knows_elements, wanted, all_wanted, may, all_may, names_id}
 use Rattle.scan_plans.proofs.RowLemmas.{none_of_rows}
 
 or_true : (b : Bool) → (b || true) ≡ true
@@ -54,10 +54,10 @@ mutual
   wants_may (constant d e) here is id h = h
   wants_may (lists d p o) here is id h =
       among_append id (map (λ (g : ℕ × ℕ). g.0) o.segments) (may p)
-      ∙ either (names_id id (offsets_wanted o is)) (names_id id (if are_here (offsets_wanted o is) here then wanted p here (element_rows o (arrived here) is) else []))
+      ∙ either (names_id id (offsets_wanted o is)) (names_id id (if knows_elements o here is then wanted p here (element_rows o (arrived here) is) else []))
       (is_among (map (λ (g : ℕ × ℕ). g.0) o.segments) id) (is_among (may p) id)
-      (sym (names_append id (offsets_wanted o is) (if are_here (offsets_wanted o is) here then wanted p here (element_rows o (arrived here) is) else [])) ∙ h)
-      (leaf_may o.dtype o.spelling o.segments 0 (offset_rows is) id) (second (are_here (offsets_wanted o is) here) (wants_may p here (element_rows o (arrived here) is) id))
+      (sym (names_append id (offsets_wanted o is) (if knows_elements o here is then wanted p here (element_rows o (arrived here) is) else [])) ∙ h)
+      (leaf_may o.dtype o.spelling o.segments 0 (offset_rows is) id) (second (knows_elements o here is) (wants_may p here (element_rows o (arrived here) is) id))
     where
       second : (b : Bool) → (names_id id (wanted p here (element_rows o (arrived here) is)) ≡ true → is_among (may p) id ≡ true) → names_id id (if b then wanted p here (element_rows o (arrived here) is) else []) ≡ true → is_among (may p) id ≡ true
       second true f w = f w

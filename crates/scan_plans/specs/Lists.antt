@@ -1,6 +1,7 @@
 -- The offsets that rows of lists need, the elements between them, and offsets that are no good.
-use Rattle.std.specs.Prelude.{◌≡◌, ℕ, ◌+◌, ◌-◌, nat_le, min, max, Bool, true, false, ◌&&◌, List, [], ◌∷◌, length, replicate, if◌then◌else◌, Option, Some, None, is_none, ℤ, pos, negsuc}
+use Rattle.std.specs.Prelude.{◌≡◌, ℕ, ◌+◌, ◌-◌, ◌==◌, nat_le, min, max, Bool, true, false, ◌&&◌, List, [], ◌∷◌, length, replicate, if◌then◌else◌, Option, Some, None, is_none, ℤ, pos, negsuc}
 use Rattle.scan_segments.specs.Source.{Store}
+use Rattle.scan_layout.specs.Check.{total_rows}
 use Rattle.scan_layout.specs.Touched.{row_at, least_offset, greatest_offset}
 use Rattle.scan_plans.specs.OffsetsData.{OffsetsData, offset_marked}
 use Rattle.scan_plans.specs.Meaning.{true_rows}
@@ -31,15 +32,24 @@ elements_from o store i n =
     rows_on (least_offset o.elements (offset_marked o store) i n) (min o.elements (greatest_offset (offset_marked o store) i n) - least_offset o.elements (offset_marked o store) i n)
 
 -- those of the lists at these rows and between them
+abbrev pub span_elements : OffsetsData → Store → List ℕ → List ℕ
+span_elements o store [] = []
+span_elements o store (i ∷ is) = elements_from o store (least_row i is) (offset_count i is)
+
+-- of rows that rise: these are all the lists that there are, and there is one
+abbrev pub is_whole : OffsetsData → List ℕ → Bool
+is_whole o [] = false
+is_whole o (i ∷ is) = length (i ∷ is) + 1 == total_rows o.segments
+
+-- the rows of the elements that lists at these rows want: of all lists all that there are
 abbrev pub element_rows : OffsetsData → Store → List ℕ → List ℕ
-element_rows o store [] = []
-element_rows o store (i ∷ is) = elements_from o store (least_row i is) (offset_count i is)
+element_rows o store is = if is_whole o is then rows_on 0 o.elements else span_elements o store is
 
 -- these rows are the true ones of a mask, which begins at the first of them and ends with the last
 pub record IsSpan (is : List ℕ) (first : ℕ) (mask : List Bool) : Type 0 where
   pub rows : is ≡ true_rows first mask
   pub offsets : offset_rows is ≡ rows_on first (length mask + 1)
-  pub elements : (o : OffsetsData) (store : Store) → element_rows o store is ≡ elements_from o store first (length mask + 1)
+  pub elements : (o : OffsetsData) (store : Store) → span_elements o store is ≡ elements_from o store first (length mask + 1)
 
 -- an offset that is neither negative, nor below the one before it, nor past the elements
 abbrev pub good_offset : ℕ → ℕ → ℤ → Option ℕ

@@ -1,5 +1,5 @@
 -- What a contract sees of the reading of offsets.
-use Rattle.std.specs.Prelude.{◌≡◌, ◌≤◌, ℕ, ◌+◌, ◌-◌, Bool, true, false, ◌||◌, ◌&&◌, List, [], ◌∷◌, length, map, replicate, Option, Some, None, is_none, Result, Ok, Err, ℤ, pos}
+use Rattle.std.specs.Prelude.{◌≡◌, ◌≤◌, ℕ, ◌+◌, ◌-◌, Bool, true, false, ◌||◌, ◌&&◌, List, [], ◌∷◌, length, map, replicate, Option, Some, None, is_none, Result, Ok, Err, ℤ, pos, slice_range}
 use Rattle.std.specs.List.{items_where_true}
 use Rattle.scan_values.specs.Arrays.{ArrayData, of_parts}
 use Rattle.scan_values.specs.DataType.{DataType}
@@ -11,16 +11,13 @@ use Rattle.scan_layout.specs.Touched.{row_at}
 use Rattle.scan_plans.specs.OffsetsData.{OffsetsData, offset_at, offset_places}
 use Rattle.scan_plans.specs.Came.{Came, arrived}
 use Rattle.scan_plans.specs.Meaning.{true_rows}
-use Rattle.scan_plans.specs.Lists.{rows_on, IsSpan, element_rows, good_offset}
+use Rattle.scan_plans.specs.Lists.{rows_on, IsSpan, is_whole, element_rows, good_offset}
 use Rattle.scan_plans.specs.ListItems.{sizes_in, first_in, last_in}
-use Rattle.scan_plans.specs.Wants.{leaf_wanted, offsets_wanted, names_id, offsets_spoiled, spoils, any_bad, Complete}
+use Rattle.scan_plans.specs.Wants.{leaf_wanted, offsets_wanted, knows_elements, lacks, names_id, offsets_spoiled, spoils, any_bad, Complete}
 use Rattle.scan_plans.specs.declared.fault.ReadFault.{ReadFault}
 use Rattle.scan_plans.specs.declared.fault.ReadFault.TheVariants.{Corrupt, Overflow, NoMemory}
-use Rattle.scan_plans.specs.Given.{AreLacking}
 use Rattle.scan_plans.specs.declared.lists.Cut.{Cut}
 use Rattle.scan_plans.specs.declared.lists.Whole.{Whole}
-use Rattle.scan_plans.specs.declared.lists.Next.{Next}
-use Rattle.scan_plans.specs.declared.lists.Next.TheVariants.{Lacking, Elements}
 use Rattle.scan_plans.specs.declared.lists.Span.{Span}
 
 -- the span of the true rows of a mask, where there are any
@@ -71,25 +68,50 @@ Cuts o here is (Err (Corrupt id)) = Complete (offsets_wanted o is) here → offs
 Cuts o here is (Err Overflow) = ⊥
 Cuts o here is (Err NoMemory) = Unit {0}
 
--- the rows of the elements of lists with these offsets
-abbrev pub IsWhole : List ℕ → ℕ → List Bool → Type 0
-IsWhole offsets first mask = (first ≡ first_in offsets) × (mask ≡ replicate (last_in offsets - first_in offsets) true)
+-- so many rows, from one on
+abbrev pub AreRows : ℕ → ℕ → ℕ → List Bool → Type 0
+AreRows start count first mask = (first ≡ start) × (mask ≡ replicate count true)
 
--- the same, with the rows of their elements
+-- the rows of all elements, or of those of lists with these offsets
+abbrev pub AreElements : Bool → OffsetsData → List ℕ → ℕ → List Bool → Type 0
+AreElements true o offsets first mask = AreRows 0 o.elements first mask
+AreElements false o offsets first mask = AreRows (first_in offsets) (last_in offsets - first_in offsets) first mask
+
+-- the elements that are read for lists at rows, which have these offsets
+abbrev pub AreRead : OffsetsData → List ℕ → List ℕ → ℕ → List Bool → Type 0
+AreRead o is offsets first mask = AreElements (is_whole o is) o offsets first mask
+
+-- the same, with the rows of the elements that are read
 abbrev pub CutsWhole : OffsetsData → Came → List ℕ → Result (Option Whole) ReadFault → Type 0
 CutsWhole o here is (Ok None) = is ≡ []
-CutsWhole o here is (Ok (Some w)) = IsCut o (arrived here) is w.cut × IsWhole (w.cut.offsets.items) w.rows.first w.rows.mask
+CutsWhole o here is (Ok (Some w)) = IsCut o (arrived here) is w.cut × AreRead o is (w.cut.offsets.items) w.rows.first w.rows.mask
 CutsWhole o here is (Err (Corrupt id)) = Complete (offsets_wanted o is) here → offsets_spoiled o here is id ≡ true
 CutsWhole o here is (Err Overflow) = ⊥
 CutsWhole o here is (Err NoMemory) = Unit {0}
 
--- what lists want next: offsets that lack, or the rows of their elements
-abbrev pub NextOf : OffsetsData → Came → List ℕ → Result Next ReadFault → Type 0
-NextOf o here is (Ok (Lacking ids)) = AreLacking (offsets_wanted o is) here ids
-NextOf o here is (Ok (Elements first mask)) = Complete (offsets_wanted o is) here × (element_rows o (arrived here) is ≡ true_rows first mask) × (first + length mask ≤ o.elements)
-NextOf o here is (Err (Corrupt id)) = offsets_spoiled o here is id ≡ true
-NextOf o here is (Err Overflow) = ⊥
-NextOf o here is (Err NoMemory) = Unit {0}
+-- the rows of the elements that lists want, which are known
+pub record WantsRows (o : OffsetsData) (here : Came) (is : List ℕ) (s : Span) : Type 0 where
+  pub known : knows_elements o here is ≡ true
+  pub rows : element_rows o (arrived here) is ≡ true_rows s.first s.mask
+  pub within : s.first + length s.mask ≤ o.elements
+
+abbrev pub ElementsOf : OffsetsData → Came → List ℕ → Result Span ReadFault → Type 0
+ElementsOf o here is (Ok s) = WantsRows o here is s
+ElementsOf o here is (Err (Corrupt id)) = offsets_spoiled o here is id ≡ true
+ElementsOf o here is (Err Overflow) = ⊥
+ElementsOf o here is (Err NoMemory) = Unit {0}
+
+-- the ids of the offsets that lack are added
+abbrev pub AddsOffsets : List ℕ → List ℕ → OffsetsData → Came → List ℕ → Type 0
+AddsOffsets old new o here is = (id : ℕ) → is_among new id ≡ (is_among old id || lacks (offsets_wanted o is) here id)
+
+-- and the elements that are wanted next, where they are known
+abbrev pub NextOf : List ℕ → List ℕ → OffsetsData → Came → List ℕ → Result (Option Span) ReadFault → Type 0
+NextOf old new o here is (Ok None) = AddsOffsets old new o here is × (knows_elements o here is ≡ false)
+NextOf old new o here is (Ok (Some s)) = AddsOffsets old new o here is × WantsRows o here is s
+NextOf old new o here is (Err (Corrupt id)) = offsets_spoiled o here is id ≡ true
+NextOf old new o here is (Err Overflow) = ⊥
+NextOf old new o here is (Err NoMemory) = Unit {0}
 
 -- these ids are added
 abbrev pub AddsIds : {A : Type 0} → List ℕ → List ℕ → List ℕ → Result A ReadFault → Type 0
@@ -97,6 +119,14 @@ AddsIds old ids new (Ok x) = (id : ℕ) → is_among new id ≡ (is_among old id
 AddsIds old ids new (Err (Corrupt id)) = ⊥
 AddsIds old ids new (Err Overflow) = ⊥
 AddsIds old ids new (Err NoMemory) = Unit {0}
+
+-- the elements of these lists are among so many that were read
+abbrev pub HasElements : Whole → ℕ → Type 0
+HasElements w n = (w.rows.first ≤ first_in (w.cut.offsets.items)) × (last_in (w.cut.offsets.items) ≤ w.rows.first + n)
+
+-- of the elements that were read, from a row on, those of lists with these offsets
+abbrev pub elements_in : List ℕ → ℕ → ArrayData → ArrayData
+elements_in offsets first a = of_parts a.dtype (slice_range a.items (first_in offsets - first) (last_in offsets - first))
 
 -- the lists of a cut that are asked for, cut out of all their elements
 abbrev pub ListsOf : DataType → Cut → ArrayData → Result ArrayData ReadFault → Type 0

@@ -7,7 +7,7 @@ use Rattle.scan_layout.specs.Places.{Place, places_of}
 use Rattle.scan_plans.specs.Came.{Came, arrived}
 use Rattle.scan_plans.specs.PlanTree.{PlanTree, leaf, rows, evaluate, over, constant, lists, lengths, valid, numbers, by_lengths, PlanTrees, no_plans, plan}
 use Rattle.scan_plans.specs.OffsetsData.{OffsetsData, offset_places, offset_at}
-use Rattle.scan_plans.specs.Lists.{offset_rows, element_rows, is_bad_offset, before_next}
+use Rattle.scan_plans.specs.Lists.{offset_rows, is_whole, element_rows, is_bad_offset, before_next}
 
 -- one of the rows is among the n rows from the row base on
 abbrev pub holds_any : ℕ → ℕ → List ℕ → Bool
@@ -26,7 +26,12 @@ are_here places here = list_all (λ (p : Place). is_some (here p.id)) places
 abbrev pub offsets_wanted : OffsetsData → List ℕ → List Place
 offsets_wanted o is = leaf_wanted 0 (offset_places o) (offset_rows is)
 
--- what rows of a plan want next, where so much has arrived, with what they wanted before: of lists the offsets first
+-- it is known which elements lists at these rows want: of all lists at once, else where no offset lacks
+abbrev pub knows_elements : OffsetsData → Came → List ℕ → Bool
+knows_elements o came is = is_whole o is || are_here (offsets_wanted o is) came
+
+-- What rows of a plan want next, where so much has arrived, with what they wanted before: of lists the offsets, and the
+-- elements where it is known which.
 abbrev mutual
   pub wanted : PlanTree → Came → List ℕ → List Place
   wanted (leaf d s gs) came is = leaf_wanted 0 (places_of d s gs) is
@@ -34,7 +39,7 @@ abbrev mutual
   wanted (evaluate d e p) came is = wanted p came is
   wanted (over d e ps) came is = all_wanted ps came is
   wanted (constant d e) came is = []
-  wanted (lists d p o) came is = offsets_wanted o is ++ (if are_here (offsets_wanted o is) came then wanted p came (element_rows o (arrived came) is) else [])
+  wanted (lists d p o) came is = offsets_wanted o is ++ (if knows_elements o came is then wanted p came (element_rows o (arrived came) is) else [])
   wanted (lengths o) came is = offsets_wanted o is
   wanted (valid p v) came is = wanted v came is ++ wanted p came is
   wanted (numbers k) came is = []
@@ -102,7 +107,7 @@ abbrev mutual
   spoiled (evaluate d e p) came is id = spoiled p came is id
   spoiled (over d e ps) came is id = any_spoiled ps came is id
   spoiled (constant d e) came is id = false
-  spoiled (lists d p o) came is id = offsets_spoiled o came is id || (if are_here (offsets_wanted o is) came then spoiled p came (element_rows o (arrived came) is) id else false)
+  spoiled (lists d p o) came is id = offsets_spoiled o came is id || (if knows_elements o came is then spoiled p came (element_rows o (arrived came) is) id else false)
   spoiled (lengths o) came is id = offsets_spoiled o came is id
   spoiled (valid p v) came is id = spoiled v came is id || spoiled p came is id
   spoiled (numbers k) came is id = false

@@ -1,5 +1,5 @@
 //! Lists: the offsets that rows of them need, and how these cut the elements.
-ghost use Rattle.std.specs.Prelude.{◌≡◌, ◌≤◌, ◌<◌, ◌+◌, ◌^◌, ◌∷◌, [], IfOk, Some, Ok, length, map, replicate, true};
+ghost use Rattle.std.specs.Prelude.{◌≡◌, ◌≤◌, ◌<◌, ◌+◌, ◌-◌, ◌^◌, ◌∷◌, ℕ, [], IfOk, Some, Ok, length, map, replicate, true, false};
 ghost use Rattle.std.specs.List.{items_where_true};
 ghost use Rattle.scan_values.specs.Arrays.{of_parts};
 ghost use Rattle.scan_values.specs.DataType.{DataType, int_type};
@@ -14,11 +14,11 @@ ghost use Rattle.scan_layout.specs.Check.{total_rows};
 ghost use Rattle.scan_layout.specs.Places.{places_of};
 ghost use Rattle.scan_layout.specs.declared.spelling.Spelling.{Spelling};
 ghost use Rattle.scan_plans.specs.Came.{came};
-ghost use Rattle.scan_plans.specs.ListItems.{number_of, length_val, sizes_in};
-ghost use Rattle.scan_plans.specs.Lists.{good_offset};
+ghost use Rattle.scan_plans.specs.ListItems.{number_of, length_val, sizes_in, first_in, last_in};
+ghost use Rattle.scan_plans.specs.Lists.{good_offset, is_whole};
 ghost use Rattle.scan_plans.specs.Meaning.{true_rows};
 ghost use Rattle.scan_plans.specs.OffsetsData.{AreNumbers};
-ghost use Rattle.scan_plans.specs.OffsetReads.{Spans, Checks, ReadsOffsets, Cuts, CutsWhole, NextOf, AddsIds, ListsOf, NoneOf, Climbs, IsWhole};
+ghost use Rattle.scan_plans.specs.OffsetReads.{Spans, Checks, ReadsOffsets, Cuts, AreRows, AreRead, CutsWhole, HasElements, ElementsOf, NextOf, AddsIds, elements_in, ListsOf, NoneOf, Climbs};
 ghost use Rattle.scan_plans.specs.PlanTree.{lengths};
 ghost use Rattle.scan_plans.specs.Reads.{CollectsPlan, Reads};
 ghost use Rattle.scan_plans.specs.Wants.{leaf_wanted, names_id, offsets_wanted, Complete};
@@ -48,18 +48,11 @@ pub struct Cut {
     pub(crate) offsets: Vec<u64>,
 }
 
-/// Lists side by side, and the rows of all their elements.
+/// Lists side by side, and the rows of the elements that are read for them.
 #[derive(Drop)]
 pub struct Whole {
     pub(crate) cut: Cut,
     pub(crate) rows: Span,
-}
-
-/// What lists want next: offsets that lack, or the elements at the true rows, of the rows from one on.
-#[derive(Drop)]
-pub enum Next {
-    Lacking(WantedIds),
-    Elements(u64, Mask),
 }
 
 /// The true rows of the rows from `first` on, without those before and after them.
@@ -221,7 +214,29 @@ impl Offsets {
         }
     }
 
-    /// The same, with the rows of all elements of these lists.
+    /// Whether a mask is true at each list that there is, and there is one.
+    fn is_whole(&self, mask: &Mask) -> bool
+        ensures { (first : ℕ) → result ≡ is_whole self.now (true_rows first mask.now) }
+    {
+        let count = mask.true_count() as u64;
+        count > 0 && count == self.runs.row_count().saturating_sub(1)
+    }
+
+    /// The rows of the elements that are read for lists with these offsets: of all lists all that there are.
+    fn rows_read(&self, alloc: Global, mask: &Mask, offsets: &[u64]) -> Result<Span, NoMemory>
+        requires some { 0 < length offsets.now }
+        requires climbs { Climbs self.now.elements 0 offsets.now }
+        ensures { (first : ℕ) → IfOk result (λ s. AreRead self.now (true_rows first mask.now) offsets.now s.first s.mask) }
+    {
+        if self.is_whole(mask) {
+            all_elements(alloc, self.elements)
+        } else {
+            elements_of(alloc, self.elements, offsets)
+        }
+    }
+
+    /// The offsets of the lists at the true rows and between them, of the rows from `first` on, with the rows of the
+    /// elements that are read for them.
     pub(crate) fn whole(
         &self,
         alloc: Global,
@@ -234,7 +249,7 @@ impl Offsets {
     {
         match self.cut(alloc, first, mask, inbox)? {
             Some(cut) => {
-                let rows = elements_of(alloc, self.elements, &cut.offsets)?;
+                let rows = self.rows_read(alloc, mask, &cut.offsets)?;
                 Ok(Some(Whole { cut, rows }))
             }
             None => Ok(None),
@@ -248,45 +263,68 @@ impl Offsets {
         first: u64,
         mask: &Mask,
         inbox: &Inbox,
-    ) -> Result<Next, ReadFault>
+    ) -> Result<Span, ReadFault>
         requires { first + length mask.now < total_rows self.now.segments }
         ensures { Complete (offsets_wanted self.now (true_rows first mask.now)) (came inbox.now) →
-            NextOf self.now (came inbox.now) (true_rows first mask.now) result }
+            ElementsOf self.now (came inbox.now) (true_rows first mask.now) result }
     {
         match self.whole(alloc, first, mask, inbox)? {
             Some(whole) => {
                 let Whole { cut: _, rows } = whole;
-                Ok(Next::Elements(rows.first, rows.mask))
+                Ok(rows)
             }
-            None => Ok(Next::Elements(0, Mask::new_true(alloc, 0)?)),
+            None => Ok(all_elements(alloc, 0)?),
         }
     }
 
-    /// What the lists at the true rows want next, of the rows from `first` on.
+    /// Adds the ids of the offsets that lack, or gives the rows of the elements, where none does.
+    fn next_by_offsets(
+        &self,
+        alloc: Global,
+        first: u64,
+        mask: &Mask,
+        inbox: &Inbox,
+        wants: &mut Wants,
+    ) -> Result<Option<Span>, ReadFault>
+        requires rows { first + length mask.now < total_rows self.now.segments }
+        requires part { is_whole self.now (true_rows first mask.now) ≡ false }
+        ensures { NextOf wants.old wants.new self.now (came inbox.now) (true_rows first mask.now) result }
+    {
+        let mut lacking = Wants::new(alloc);
+        self.collect(alloc, first, mask, inbox, &mut lacking)?;
+        match lacking.into_wanted() {
+            Some(ids) => {
+                let _some = ids.as_slice();
+                add_all(&ids, wants)?;
+                Ok(None)
+            }
+            None => Ok(Some(self.next_elements(alloc, first, mask, inbox)?)),
+        }
+    }
+
+    /// What the lists at the true rows want next, of the rows from `first` on: adds the ids of the offsets that lack,
+    /// and gives the rows of the elements, where these are known. Of all lists they are all elements, at once.
     pub(crate) fn next(
         &self,
         alloc: Global,
         first: u64,
         mask: &Mask,
         inbox: &Inbox,
-    ) -> Result<Next, ReadFault>
+        wants: &mut Wants,
+    ) -> Result<Option<Span>, ReadFault>
         requires { first + length mask.now < total_rows self.now.segments }
-        ensures { NextOf self.now (came inbox.now) (true_rows first mask.now) result }
+        ensures { NextOf wants.old wants.new self.now (came inbox.now) (true_rows first mask.now) result }
     {
-        let mut wants = Wants::new(alloc);
-        self.collect(alloc, first, mask, inbox, &mut wants)?;
-        match wants.into_wanted() {
-            Some(ids) => {
-                let _some = ids.as_slice();
-                Ok(Next::Lacking(ids))
-            }
-            None => self.next_elements(alloc, first, mask, inbox),
+        if self.is_whole(mask) {
+            self.collect(alloc, first, mask, inbox, wants)?;
+            return Ok(Some(all_elements(alloc, self.elements)?));
         }
+        self.next_by_offsets(alloc, first, mask, inbox, wants)
     }
 }
 
 /// Adds ids.
-pub(crate) fn add_all(ids: &WantedIds, wants: &mut Wants) -> Result<(), ReadFault>
+fn add_all(ids: &WantedIds, wants: &mut Wants) -> Result<(), ReadFault>
     ensures { AddsIds wants.old ids.now wants.new result }
 {
     let items = ids.as_slice();
@@ -364,11 +402,19 @@ fn rebased(alloc: Global, start: u64, ends: &[u64]) -> Result<Vec<usize>, NoMemo
     Ok(made)
 }
 
+/// The rows of so many elements, which are all.
+fn all_elements(alloc: Global, count: u64) -> Result<Span, NoMemory>
+    ensures { IfOk result (λ s. AreRows 0 count s.first s.mask) }
+{
+    let mask = Mask::new_true(alloc, count as usize)?;
+    Ok(Span { first: 0, mask })
+}
+
 /// The rows of the elements of lists side by side, by where the first begins and each ends.
 fn elements_of(alloc: Global, most: u64, offsets: &[u64]) -> Result<Span, NoMemory>
     requires some { 0 < length offsets.now }
     requires climbs { Climbs most 0 offsets.now }
-    ensures { IfOk result (λ s. IsWhole offsets.now s.first s.mask) }
+    ensures { IfOk result (λ s. AreRows (first_in offsets.now) (last_in offsets.now - first_in offsets.now) s.first s.mask) }
 {
     let first = offsets[0];
     let last = offsets[offsets.len() - 1];
@@ -376,8 +422,29 @@ fn elements_of(alloc: Global, most: u64, offsets: &[u64]) -> Result<Span, NoMemo
     Ok(Span { first, mask })
 }
 
+/// Of the elements from a row on those of lists side by side, by where the first begins and each ends.
+fn own_elements(
+    alloc: Global,
+    offsets: &[u64],
+    first: u64,
+    elements: Column,
+) -> Result<Column, NoMemory>
+    requires some { 0 < length offsets.now }
+    requires order { first_in offsets.now ≤ last_in offsets.now }
+    requires begins { first ≤ first_in offsets.now }
+    requires ends { last_in offsets.now ≤ first + length elements.items }
+    ensures { IfOk result (λ c. c ≡ elements_in offsets.now first elements) }
+{
+    let start = (offsets[0] - first) as usize;
+    let end = (offsets[offsets.len() - 1] - first) as usize;
+    if end - start == elements.len() {
+        return Ok(elements);
+    }
+    elements.slice(alloc, start..end)
+}
+
 /// Those lists at which the mask is true, cut out of their elements by where the first begins and each ends.
-pub(crate) fn lists_of(
+fn cut_lists(
     alloc: Global,
     dtype: &Arc<DType>,
     cut: &Cut,
@@ -391,7 +458,29 @@ pub(crate) fn lists_of(
 {
     let ends = rebased(alloc, cut.offsets[0], &cut.offsets[1..])?;
     let column = Column::lists(alloc, dtype.clone()?, ends, None, elements)?;
+    if cut.mask.all_true() {
+        return Ok(column);
+    }
     Ok(column.filter(alloc, &cut.mask)?)
+}
+
+/// The lists of a cut, of the elements that were read for them.
+pub(crate) fn lists_of(
+    alloc: Global,
+    dtype: &Arc<DType>,
+    whole: &Whole,
+    elements: Column,
+) -> Result<Column, ReadFault>
+    requires element { Some elements.dtype ≡ element_of dtype.now.value }
+    requires length { length whole.now.cut.offsets.items ≡ length whole.now.cut.mask + 1 }
+    requires rises { Rises 0 whole.now.cut.offsets.items }
+    requires among { HasElements whole.now (length elements.items) }
+    ensures { ListsOf dtype.now.value whole.now.cut
+        (elements_in whole.now.cut.offsets.items whole.now.rows.first elements) result }
+{
+    let cut = &whole.cut;
+    let own = own_elements(alloc, &cut.offsets, whole.rows.first, elements)?;
+    cut_lists(alloc, dtype, cut, own)
 }
 
 /// No lists.

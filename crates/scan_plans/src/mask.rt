@@ -251,7 +251,7 @@ impl Plan {
             (λ m. FiltersAlike (plan.now.value).tree store range.now.start mask (mask_of m store)) }
     {
         let all = MaskFuture::ready(alloc, mask);
-        if plan.node().is_numbered() {
+        if plan.is_numbered() {
             return Plan::filter(plan, range, all);
         }
         Ok(all)

@@ -5,6 +5,7 @@ ghost use Rattle.scan_expr.specs.Infer.{infer};
 ghost use Rattle.scan_plans.specs.PlanTree.{evaluate, rows};
 ghost use Rattle.scan_plans.specs.Meaning.{plan_dtype};
 ghost use Rattle.scan_plans.specs.PlanData.{plan_data, IsPlan};
+ghost use Rattle.scan_plans.specs.Pruning.{is_numbered};
 
 use crate::node::PlanNode;
 use scan_expr::BoundExpression;
@@ -64,6 +65,13 @@ impl Plan {
         ensures dtype { IsPlan self.now }
     {
         &self.expr
+    }
+
+    /// Whether it is an expression over the numbers of rows alone: such a plan prunes.
+    pub fn is_numbered(&self) -> bool
+        ensures { result ≡ is_numbered self.now.tree }
+    {
+        self.node.is_numbered()
     }
 
     /// A copy of its node, which another plan may hold.

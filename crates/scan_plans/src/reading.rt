@@ -16,7 +16,7 @@ ghost use Rattle.scan_plans.specs.Reads.{CollectsPlan, CollectsAll, Reads, Reads
 
 use crate::fault::ReadFault;
 use crate::leaf::{collect_leaf, no_values, read_leaf};
-use crate::lists::{Next, add_all, lists_of, no_lists, read_lengths};
+use crate::lists::{lists_of, no_lists, read_lengths};
 use crate::node::{Kind, PlanNode, PlanNodes};
 use scan_columns::Column;
 use scan_expr::BoundExpression;
@@ -132,10 +132,12 @@ impl PlanNode {
             Kind::Evaluate(_, node) => node.collect(alloc, first, mask, inbox, wants),
             Kind::Over(_, parts) => parts.collect(alloc, first, mask, inbox, wants),
             Kind::Rows(_) | Kind::Constant(_) | Kind::Numbers(_) => Ok(()),
-            Kind::Lists(_, elements, offsets) => match offsets.next(alloc, first, mask, inbox)? {
-                Next::Lacking(ids) => add_all(&ids, wants),
-                Next::Elements(first, mask) => elements.collect(alloc, first, &mask, inbox, wants),
-            },
+            Kind::Lists(_, elements, offsets) => {
+                match offsets.next(alloc, first, mask, inbox, wants)? {
+                    Some(rows) => elements.collect(alloc, rows.first, &rows.mask, inbox, wants),
+                    None => Ok(()),
+                }
+            }
             Kind::Lengths(offsets) => offsets.collect(alloc, first, mask, inbox, wants),
             Kind::Valid(values, validity) => {
                 validity.collect(alloc, first, mask, inbox, wants)?;
@@ -176,7 +178,7 @@ impl PlanNode {
             )? {
                 Some(whole) => {
                     let column = elements.read(alloc, whole.rows.first, &whole.rows.mask, inbox)?;
-                    lists_of(alloc, dtype, &whole.cut, column)
+                    lists_of(alloc, dtype, &whole, column)
                 }
                 None => no_lists(alloc, dtype),
             },

@@ -198,6 +198,26 @@ pub(crate) fn wants<T: Drop>(poll: &Poll<T>, id: u32) -> bool {
     }
 }
 
+fn are_ids(found: &[SegmentId], ids: &[u32]) -> bool {
+    if found.len() != ids.len() {
+        return false;
+    }
+    for (i, id) in found.iter().enumerate() {
+        if *id != SegmentId::from(ids[i]) {
+            return false;
+        }
+    }
+    true
+}
+
+/// Whether a poll wants these segments and no other, in this order.
+pub(crate) fn wants_all<T: Drop>(poll: &Poll<T>, ids: &[u32]) -> bool {
+    match poll {
+        Poll::Pending(found) => are_ids(found.as_slice(), ids),
+        _ => false,
+    }
+}
+
 /// Whether a poll finds a segment no good.
 pub(crate) fn spoils<T: Drop>(poll: &Poll<T>, id: u32) -> bool {
     match poll {

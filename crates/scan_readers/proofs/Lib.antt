@@ -1,5 +1,6 @@
 pub mod Scopes
 pub mod Keeping
+pub mod Naming
 pub mod Evaluating
 pub mod PlansOf
 pub mod RowPlans

@@ -1,12 +1,13 @@
 -- Plans over a list's children are plans of the list's reader.
 use Rattle.std.proofs.Common.{◌≡◌, ℕ, ◌+◌, ◌-◌, ◌<◌, ◌≤◌, Bool, true, false, ◌||◌, List, [], ◌∷◌, ◌++◌, length, filter, min, replicate, Option, Some, None, refl, ap, sym, subst, ◌∙◌, arith}
 use Rattle.std.specs.Prelude.{if◌then◌else◌, nat_lt}
-use Rattle.std.proofs.lemmas.Bool.{lt-ltb}
+use Rattle.std.proofs.lemmas.Bool.{lt-ltb, eq-eqb}
 use Rattle.std.proofs.lemmas.List.{length-replicate}
 use Rattle.scan_values.specs.DataType.{DataType, Name, bool_type, int_type, list_type}
 use Rattle.scan_values.specs.declared.ptype.Nullability.{Nullability}
 use Rattle.scan_values.specs.declared.ptype.Nullability.TheVariants.{NonNullable, Nullable}
 use Rattle.scan_values.specs.declared.ptype.PType.{PType}
+use Rattle.scan_values.specs.Marked.{Marked}
 use Rattle.scan_segments.specs.Source.{Store}
 use Rattle.scan_expr.specs.Bound.{Bound, bound_of}
 use Rattle.scan_expr.specs.Expr.{root}
@@ -26,15 +27,16 @@ use Rattle.scan_partition.specs.declared.list_.ListChildrenNeeded.{ListChildrenN
 use Rattle.scan_partition.specs.declared.list_.ListChildrenNeeded.TheVariants.{Validity, All}
 use Rattle.scan_plans.specs.Came.{Came, arrived, Holds}
 use Rattle.scan_plans.specs.Formed.{NeverOverflows}
-use Rattle.scan_plans.specs.Lists.{least_row, offset_count, element_rows}
+use Rattle.scan_plans.specs.Lists.{rows_on, least_row, offset_count, is_whole, span_elements, element_rows}
 use Rattle.scan_plans.specs.Meaning.{true_rows, Within}
 use Rattle.scan_plans.specs.OffsetsData.{OffsetsData, offset_places, offset_marked}
 use Rattle.scan_plans.specs.PlanData.{plan_data}
 use Rattle.scan_plans.specs.Pruning.{are_numbers}
 use Rattle.scan_plans.specs.PlanTree.{PlanTree, lists, lengths}
-use Rattle.scan_plans.specs.Wants.{names_id, leaf_wanted, offsets_wanted, are_here, wanted}
+use Rattle.scan_plans.specs.Wants.{names_id, leaf_wanted, offsets_wanted, are_here, knows_elements, wanted}
 use Rattle.scan_plans.proofs.Spans.{on_rows}
 use Rattle.scan_plans.proofs.Transfer.{offset_same}
+use Rattle.scan_plans.proofs.WholeLists.{whole_range}
 use Rattle.scan_plans.proofs.Wanting.{names_append, leaves_touch}
 use Rattle.scan_readers.specs.LeafPlans.{layout_state, leaf_layout}
 use Rattle.scan_readers.specs.ListPlans.{list_layout, list_offsets, list_validity, valid_under, over_lists, over_lengths}
@@ -67,6 +69,10 @@ unnumbered d p o (Some v) = refl
 either : (a b c : Bool) → (a || b) ≡ true → (a ≡ true → c ≡ true) → (b ≡ true → c ≡ true) → c ≡ true
 either true b c h f g = f refl
 either false b c h f g = g h
+
+-- all lists take all elements
+all_elements : (most rows : ℕ) (f : ℕ → Marked) (s e : ℕ) → s ≡ 0 → e ≡ rows → (element_from most rows f s e ≡ 0) × (element_to most rows f s e ≡ most)
+all_elements most rows f s e a b = rw (eq-eqb s 0 a, eq-eqb e rows b) (refl, refl)
 
 module _ (law : NecessaryIsNeeded) (name : Name) (t : DataType) (rows : ℕ) (q : PType) (el : Layout) (sp : Spelling) (gs : List (ℕ × ℕ)) (e : Bound) where
   abbrev pub kids : Nodes → Nodes
@@ -118,12 +124,12 @@ module _ (law : NecessaryIsNeeded) (name : Name) (t : DataType) (rows : ℕ) (q 
   under_may Nullable (child (node u r (List' x) ks) ls) p store here first mask id scope forms k h = absurd (let z : serves (List' x) (bool_type NonNullable) ≡ true = subst (λ (d : DataType). serves (List' x) d ≡ true) (forms.0).0 (forms.0).1 in cc)
 
   -- ---- what the elements want
-  pub elements_may : (n : Nullability) (ls : Nodes) (p : PlanTree) (store : Store) (here : Came) (first : ℕ) (mask : List Bool) (id : ℕ) → e.scope ≡ list_type t n → necessary e.expr ≡ All → HasForm el t → IsElements name el t p
+  spans_may : (n : Nullability) (ls : Nodes) (p : PlanTree) (store : Store) (here : Came) (first : ℕ) (mask : List Bool) (id : ℕ) → e.scope ≡ list_type t n → necessary e.expr ≡ All → HasForm el t → IsElements name el t p
       → Holds store here → first + length mask ≤ rows → are_here (offsets_wanted o (true_rows first mask)) here ≡ true
-      → names_id id (wanted p here (element_rows o (arrived here) (true_rows first mask))) ≡ true → Touches n ls store first (first + length mask) id
-  elements_may n ls p store here first mask id scope is form plan holds inside there h = by (true_rows first mask) refl there h
+      → names_id id (wanted p here (span_elements o (arrived here) (true_rows first mask))) ≡ true → Touches n ls store first (first + length mask) id
+  spans_may n ls p store here first mask id scope is form plan holds inside there h = by (true_rows first mask) refl there h
     where
-      by : (js : List ℕ) → true_rows first mask ≡ js → are_here (offsets_wanted o js) here ≡ true → names_id id (wanted p here (element_rows o (arrived here) js)) ≡ true → Touches n ls store first (first + length mask) id
+      by : (js : List ℕ) → true_rows first mask ≡ js → are_here (offsets_wanted o js) here ≡ true → names_id id (wanted p here (span_elements o (arrived here) js)) ≡ true → Touches n ls store first (first + length mask) id
       by [] same t1 w = absurd (let z = plan.wants store here 0 [] id holds (omega arith) w in let none : names_id id (touched el store 0 0) ≡ false = ap (names_id id) (touches_none el store 0) in let y = named_all id (needed t root) (touched el store 0 0) z in let x : true ≡ false = sym y ∙ none in cc)
       by (i ∷ js) same t1 w =
           let b = rows_between first mask i js same in
@@ -145,6 +151,33 @@ module _ (law : NecessaryIsNeeded) (name : Name) (t : DataType) (rows : ℕ) (q 
           may n ls store first (first + length mask) id scope (omega (arith, b.0, b.1, least_greatest i js))
           (in_elements law t n e.expr id (nth_touched ls 0 store first (first + length mask)) (nth_touched (kids ls) 1 store first (first + length mask + 1)) (element_places (kids ls) rows store first (first + length mask)) is
           (paths el t store (element_from most rows f first (first + length mask)) (element_to most rows f first (first + length mask)) form) more)
+
+  wholes_may : (n : Nullability) (ls : Nodes) (p : PlanTree) (store : Store) (here : Came) (first : ℕ) (mask : List Bool) (id : ℕ) → e.scope ≡ list_type t n → necessary e.expr ≡ All → HasForm el t → IsElements name el t p → rows < total_rows gs
+      → Holds store here → first + length mask ≤ rows → is_whole o (true_rows first mask) ≡ true
+      → names_id id (wanted p here (rows_on 0 o.elements)) ≡ true → Touches n ls store first (first + length mask) id
+  wholes_may n ls p store here first mask id scope is form plan more holds inside all w =
+      let most : ℕ = rows_of el in
+      let f = offset_marked o store in
+      let b = whole_range o first mask (omega (arith, inside, more)) all in
+      let long : length (replicate most true) ≡ most = length-replicate most true in
+      let z = plan.wants store here 0 (replicate most true) id holds (omega (arith, long)) w in
+      let named = named_all id (needed t root) (touched el store 0 (0 + length (replicate most true))) z in
+      let own : names_id id (touched el store 0 most) ≡ true = sym (ap (λ x. names_id id (touched el store 0 x)) (omega (arith, long))) ∙ named in
+      let ends = all_elements most rows f first (first + length mask) b.0 (omega (arith, b.0, b.1, inside, more)) in
+      let touches : names_id id (touched el store (element_from most rows f first (first + length mask)) (element_to most rows f first (first + length mask))) ≡ true = (λ r. names_id id (touched el store (ends.0 r) (ends.1 r))) ∙ own in
+      may n ls store first (first + length mask) id scope (omega (arith, b.2))
+      (in_elements law t n e.expr id (nth_touched ls 0 store first (first + length mask)) (nth_touched (kids ls) 1 store first (first + length mask + 1)) (element_places (kids ls) rows store first (first + length mask)) is
+      (paths el t store (element_from most rows f first (first + length mask)) (element_to most rows f first (first + length mask)) form) touches)
+
+  pub elements_may : (n : Nullability) (ls : Nodes) (p : PlanTree) (store : Store) (here : Came) (first : ℕ) (mask : List Bool) (id : ℕ) → e.scope ≡ list_type t n → necessary e.expr ≡ All → HasForm el t → IsElements name el t p → rows < total_rows gs
+      → Holds store here → first + length mask ≤ rows → knows_elements o here (true_rows first mask) ≡ true
+      → names_id id (wanted p here (element_rows o (arrived here) (true_rows first mask))) ≡ true → Touches n ls store first (first + length mask) id
+  elements_may n ls p store here first mask id scope is form plan more holds inside known h = by (is_whole o (true_rows first mask)) refl known h
+    where
+      by : (b : Bool) → is_whole o (true_rows first mask) ≡ b → (b || are_here (offsets_wanted o (true_rows first mask)) here) ≡ true
+          → names_id id (wanted p here (if b then rows_on 0 o.elements else span_elements o (arrived here) (true_rows first mask))) ≡ true → Touches n ls store first (first + length mask) id
+      by true all k w = wholes_may n ls p store here first mask id scope is form plan more holds inside all w
+      by false all k w = spans_may n ls p store here first mask id scope is form plan holds inside k w
 
   -- ---- the plans
   within : (n : Nullability) (ls : Nodes) (p : PlanTree) → HaveForms ls (validity_types n) → AllHaveRows rows ls → Within p rows → Within (valid_under p (list_validity n ls)) rows
@@ -168,8 +201,8 @@ module _ (law : NecessaryIsNeeded) (name : Name) (t : DataType) (rows : ℕ) (q 
     value = λ store i low. over_lists_value t n rows q el sp gs ls form.3.1.1 e p store i (λ j below. plan.value store j below);
     overflow = λ store i low. over_lists_overflow t n rows q el sp gs ls form.3.1.1 e p store i (λ j below. plan.value store j below);
     wants = λ store here first mask id holds low w. under_may n ls (lists (list_type t NonNullable) p o) store here first mask id scope form.3.1.1
-        (λ v. staged id (offsets_wanted o (true_rows first mask)) (are_here (offsets_wanted o (true_rows first mask)) here) (wanted p here (element_rows o (arrived here) (true_rows first mask))) v
-        (offsets_may n ls store first mask id All scope is (λ z. absurd cc)) (λ a b. elements_may n ls p store here first mask id scope is form.3.0 plan holds low a b)) w;
+        (λ v. staged id (offsets_wanted o (true_rows first mask)) (knows_elements o here (true_rows first mask)) (wanted p here (element_rows o (arrived here) (true_rows first mask))) v
+        (offsets_may n ls store first mask id All scope is (λ z. absurd cc)) (λ a b. elements_may n ls p store here first mask id scope is form.3.0 plan (omega (arith, (form.2).0)) holds low a b)) w;
     exact = tt;
   }
 

@@ -104,8 +104,10 @@ impl<V: Drop> Reader<V> {
 impl<V: Drop> LayoutReader for Reader<V> {
     ghost use Rattle.std.specs.Prelude.{◌↔◌, ◌<◌, Err, Some, IfSome};
     ghost use Rattle.scan_layout.specs.Layout.{rows_of};
+    ghost use Rattle.scan_splits.specs.LayoutSplits.{misses};
     ghost use Rattle.scan_splits.specs.RowLists.{shifted, Pushes};
     ghost use Rattle.scan_splits.specs.SplitFaults.{Tells};
+    ghost use Rattle.scan_readers.specs.FieldNames.{name_fields};
     ghost use Rattle.scan_readers.specs.Kept.{Stay};
     ghost use Rattle.scan_readers.specs.Readers.{lacks_numbers, split_fault};
     ghost use Rattle.scan_readers.specs.Kept.{find_plan};
@@ -141,6 +143,8 @@ impl<V: Drop> LayoutReader for Reader<V> {
         ensures bounds { (result ≡ Err SplitFault.Bounds) ↔ (rows_of self.old.layout < range.now.end) }
         ensures first { Tells result
             (split_fault (layout_state self.old.name self.old.layout) masks.now range.now.end) }
+        ensures named { name_fields (dtype_of self.old.layout) masks.now ≡ true →
+            misses self.old.layout masks.now ≡ false }
         ensures pushed { Pushes result (shifted range.now.offset
             ((layout_state self.old.name self.old.layout).edges masks.now range.now.start range.now.end))
             splits.old splits.new }

@@ -9,6 +9,7 @@ ghost use Rattle.scan_plans.specs.Pruning.{pruned};
 ghost use Rattle.scan_splits.specs.RowLists.{shifted, Pushes};
 ghost use Rattle.scan_splits.specs.SplitFaults.{Tells};
 ghost use Rattle.scan_readers.specs.Evaluations.{Filters, Projects, Prunes};
+ghost use Rattle.scan_readers.specs.FieldNames.{name_fields};
 ghost use Rattle.scan_readers.specs.Kept.{Stay};
 ghost use Rattle.scan_readers.specs.PlanOf.{IsPlanOf};
 ghost use Rattle.scan_readers.specs.Readers.{lacks_numbers, split_fault};
@@ -49,7 +50,8 @@ pub trait LayoutReader {
     ///
     /// # Errors
     /// `Bounds` exactly where the range's end passes the row count. Else `NoSuchField` exactly where a mask names no
-    /// field, unless memory ran out before: `NoMemory`.
+    /// field, unless memory ran out before: `NoMemory`. A mask that matches all, or whose path names a field of the
+    /// dtype, name by name, does name one.
     fn register_splits(
         &mut self,
         alloc: Global,
@@ -61,6 +63,8 @@ pub trait LayoutReader {
         ensures stay { Stay (kept self.old) (kept self.new) }
         ensures bounds { (result ≡ Err SplitFault.Bounds) ↔ ((state self.old).rows < range.now.end) }
         ensures first { Tells result (split_fault (state self.old) masks.now range.now.end) }
+        ensures named { name_fields (state self.old).dtype masks.now ≡ true →
+            (state self.old).misses masks.now ≡ false }
         ensures pushed { Pushes result
             (shifted range.now.offset ((state self.old).edges masks.now range.now.start range.now.end))
             splits.old splits.new };

@@ -1,44 +1,22 @@
 use borrow.Author.Rules.{rules}
 use Rattle.std.proofs.Common.{◌≡◌, ◌<◌, length, arith, ap, sym, ◌∙◌}
-use Rattle.std.specs.List.{items_where_true}
-use Rattle.scan_values.specs.Arrays.{ArrayData, of_parts}
-use Rattle.scan_columns.specs.Nested.{sums}
-use Rattle.scan_columns.proofs.NestedLemmas.{rises_sums, sizes_sums}
-use Rattle.scan_plans.specs.ListItems.{sizes_in}
-use Rattle.scan_plans.proofs.ListCells.{opened_rises, opened_sizes, cut_long, lists_made}
+use Rattle.scan_values.specs.Arrays.{ArrayData}
+use Rattle.scan_plans.specs.OffsetReads.{elements_in}
+use Rattle.scan_plans.proofs.WholeLists.{rises_order, own_size}
 use Rattle.scan_plans.proofs.lists.lists_of.Goals as goal
 
-pub rebased-requires : goal.rebased-requires
-rebased-requires c =
-    let some : 0 < length c.args.cut.now.offsets.items = omega (arith, c.requires.length) in
-    search (rules, opened_rises c.args.cut.now.offsets.items some c.requires.rises)
+pub own_elements-requires-clause-some : goal.own_elements-requires-clause-some
+own_elements-requires-clause-some c =
+    let some : 0 < length c.args.whole.now.cut.offsets.items = omega (arith, c.requires.length) in
+    search (rules, some)
 
-pub lists-requires-clause-rises : goal.lists-requires-clause-rises
-lists-requires-clause-rises c =
-    let some : 0 < length c.args.cut.now.offsets.items = omega (arith, c.requires.length) in
-    let made : c.in_ok-ends.ends.items ≡ sums 0 (sizes_in c.args.cut.now.offsets.items) = search (rules, c.in_ok-ends.ensures, opened_sizes c.args.cut.now.offsets.items some) in
-    rw made (rises_sums 0 (sizes_in c.args.cut.now.offsets.items))
+pub own_elements-requires-clause-order : goal.own_elements-requires-clause-order
+own_elements-requires-clause-order c =
+    let order = rises_order c.args.whole.now.cut.offsets.items c.requires.rises in
+    search (rules, order)
 
-pub lists-requires-clause-whole : goal.lists-requires-clause-whole
-lists-requires-clause-whole c =
-    let some : 0 < length c.args.cut.now.offsets.items = omega (arith, c.requires.length) in
-    let made : c.in_ok-ends.ends.items ≡ sums 0 (sizes_in c.args.cut.now.offsets.items) = search (rules, c.in_ok-ends.ensures, opened_sizes c.args.cut.now.offsets.items some) in
-    rw (made, sizes_sums 0 (sizes_in c.args.cut.now.offsets.items)) c.requires.whole
-
-pub filter-requires : goal.filter-requires
-filter-requires c =
-    let xs = c.args.cut.now.offsets.items in
-    let n = length c.args.cut.now.mask in
-    let some : 0 < length xs = omega (arith, c.requires.length) in
-    let made : c.in_ok-ends.ends.items ≡ sums 0 (sizes_in xs) = search (rules, c.in_ok-ends.ensures, opened_sizes xs some) in
-    let whole = lists_made c.args.dtype.now.value xs c.in_ok-ends.ends.items n c.args.elements.items c.in_ok-column.column c.requires.length made (search (rules, c.in_ok-column.ensures, c.in_ok-clone.ensures)) in
-    sym (ap (λ (x : ArrayData). length x.items) whole ∙ cut_long xs n c.args.elements.items c.requires.length)
-
-pub returns : goal.returns
-returns c =
-    let xs = c.args.cut.now.offsets.items in
-    let n = length c.args.cut.now.mask in
-    let some : 0 < length xs = omega (arith, c.requires.length) in
-    let made : c.in_ok-ends.ends.items ≡ sums 0 (sizes_in xs) = search (rules, c.in_ok-ends.ensures, c.index.ensures, c.deref.ensures, opened_sizes xs some) in
-    let whole = lists_made c.args.dtype.now.value xs c.in_ok-ends.ends.items n c.args.elements.items c.in_ok-column.column c.requires.length made (search (rules, c.in_ok-column.ensures, c.in_ok-clone.ensures)) in
-    c.in_ok-filter.ensures ∙ ap (λ (x : ArrayData). of_parts x.dtype (items_where_true c.args.cut.now.mask x.items)) whole
+pub cut_lists-requires-clause-whole : goal.cut_lists-requires-clause-whole
+cut_lists-requires-clause-whole c =
+    let ns = c.args.whole.now.cut.offsets.items in
+    let made : c.in_ok-own.own ≡ elements_in ns c.args.whole.now.rows.first c.args.elements = search (rules, c.in_ok-own.ensures) in
+    own_size ns c.args.whole.now.rows.first c.args.elements c.requires.rises c.requires.among.0 c.requires.among.1 ∙ ap (λ (x : ArrayData). length x.items) (sym made)

@@ -1,5 +1,5 @@
 use borrow.Author.Rules.{rules}
-use Rattle.std.proofs.Common.{◌≡◌, ◌+◌, ◌≤◌, arith, length, sym, ◌∙◌, ap, subst, List, Ok, Err}
+use Rattle.std.proofs.Common.{◌≡◌, ◌+◌, ◌≤◌, arith, length, sym, ◌∙◌, ap, subst, List, Option, Ok, Err}
 use Rattle.std.proofs.lemmas.Result.{err_from_is_err_and}
 use Rattle.scan_plans.specs.Came.{came}
 use Rattle.scan_plans.specs.Meaning.{true_rows}
@@ -10,8 +10,8 @@ use Rattle.scan_plans.specs.PlanTree.{tree_size, trees_size}
 use Rattle.scan_plans.proofs.Columns.{plans_next, drop_past, within_at, size_at}
 use Rattle.scan_plans.specs.PlanView.{plan_of}
 use Rattle.scan_plans.specs.OffsetReads.{NextOf}
-use Rattle.scan_plans.specs.declared.lists.Next.{Next}
-use Rattle.scan_plans.proofs.ListWants.{lists_stopped, offsets_lacking, elements_collected, within_fewer}
+use Rattle.scan_plans.specs.declared.lists.Span.{Span}
+use Rattle.scan_plans.proofs.ListWants.{lists_stopped, none_known, then_elements, within_fewer}
 use Rattle.scan_plans.proofs.ListRows.{then_values, no_validity}
 use Rattle.scan_plans.specs.Reads.{CollectsPlan}
 use Rattle.scan_plans.proofs.node.+collect.Goals as goal
@@ -55,8 +55,8 @@ PlanNodes::collect-collect-requires t c =
     let sized : tree_size c.node-item.result + 1 ≤ trees_size (plans c.args.self.now) = subst (λ (ps : List PlanTree). tree_size c.node-item.result + 1 ≤ trees_size (plans ps)) items (size_at c.loop-node.node-index c.deref-node-items.result.now c.node-item.result c.loop-node-test.true c.node-item.is) in
     (search (rules, sized), w)
 
-pub PlanNode::collect-returns-in_err-ids-in-Lists : goal.PlanNode::collect-returns-in_err-ids-in-Lists
-PlanNode::collect-returns-in_err-ids-in-Lists t c =
+pub PlanNode::collect-returns-in_err-rows-in-Lists : goal.PlanNode::collect-returns-in_err-rows-in-Lists
+PlanNode::collect-returns-in_err-rows-in-Lists t c =
     let d = c.in-Lists.field-0.value in
     let p = c.in-Lists.elements.value in
     let o = c.in-Lists.offsets in
@@ -64,19 +64,19 @@ PlanNode::collect-returns-in_err-ids-in-Lists t c =
     let q = err_from_is_err_and c.from_residual.result c.from_residual.ensures.1 in
     let here = came c.args.inbox.now in
     let is = true_rows c.args.first c.args.mask.now in
-    let fault = c.in_err-ids-in-Lists.field-0.0 in
-    rw (q.1, q.2) (subst (λ (x : PlanTree). CollectsPlan {A = Unit {0}} c.args.wants.now c.args.wants.now x here is (Err fault)) (sym e) (lists_stopped (Unit {0}) c.args.wants.now c.args.wants.now d p o here is fault c.in_err-ids-in-Lists.ensures))
+    let fault = c.in_err-rows-in-Lists.field-0.0 in
+    rw (q.1, q.2) (subst (λ (x : PlanTree). CollectsPlan {A = Unit {0}} c.args.wants.now c.next.new.wants x here is (Err fault)) (sym e) (lists_stopped (Unit {0}) c.args.wants.now c.next.new.wants c.args.wants.now c.next.new.wants d p o here is fault c.in_err-rows-in-Lists.ensures))
 
-pub PlanNode::collect-returns-in-Lacking : goal.PlanNode::collect-returns-in-Lacking
-PlanNode::collect-returns-in-Lacking t c =
+pub PlanNode::collect-returns-in-None : goal.PlanNode::collect-returns-in-None
+PlanNode::collect-returns-in-None t c =
     let here = came c.args.inbox.now in
     let is = true_rows c.args.first c.args.mask.now in
     let d = c.in-Lists.field-0.value in
     let p = c.in-Lists.elements.value in
     let o = c.in-Lists.offsets in
     let e : c.args.self.now ≡ lists d p o = sym c.self.view_is ∙ ap plan_of c.in-Lists.is in
-    let k = subst (λ (x : Next). NextOf o here is (Ok x)) c.in-Lacking.is c.in_ok-ids-in-Lists.ensures in
-    rw e (offsets_lacking c.args.wants.now c.add_all.new.wants c.in-Lacking.ids d p o here is c.add_all.result k c.add_all.ensures)
+    let k = subst (λ (x : Option Span). NextOf c.args.wants.now c.next.new.wants o here is (Ok x)) c.in-None.is c.in_ok-rows-in-Lists.ensures in
+    rw e (none_known c.args.wants.now c.next.new.wants d p o here is (tt {0}) k.0 k.1)
 
 pub PlanNode::collect-next-requires : goal.PlanNode::collect-next-requires
 PlanNode::collect-next-requires t c =
@@ -90,8 +90,8 @@ PlanNode::collect-next-requires t c =
     let w : Within (lists d p o) n = subst (λ (x : PlanTree). Within x n) e c.requires in
     search (rules, w.0)
 
-pub PlanNode::collect-collect-requires-in-Elements : goal.PlanNode::collect-collect-requires-in-Elements
-PlanNode::collect-collect-requires-in-Elements t c =
+pub PlanNode::collect-collect-requires-in-Some : goal.PlanNode::collect-collect-requires-in-Some
+PlanNode::collect-collect-requires-in-Some t c =
     let here = came c.args.inbox.now in
     let is = true_rows c.args.first c.args.mask.now in
     let n = c.args.first + length c.args.mask.now in
@@ -100,14 +100,14 @@ PlanNode::collect-collect-requires-in-Elements t c =
     let o = c.in-Lists.offsets in
     let e : c.args.self.now ≡ lists d p o = sym c.self.view_is ∙ ap plan_of c.in-Lists.is in
     let w : Within (lists d p o) n = subst (λ (x : PlanTree). Within x n) e c.requires in
-    let k = subst (λ (x : Next). NextOf o here is (Ok x)) c.in-Elements.is c.in_ok-ids-in-Lists.ensures in
-    let m = c.in-Elements.first + length c.in-Elements.mask in
-    let fewer : Within c.deref-in-Elements.result.now m = subst (λ (x : PlanTree). Within x m) (sym c.deref-in-Elements.ensures) (within_fewer p o.elements m k.2 w.1) in
-    let sized : tree_size c.deref-in-Elements.result.now + 1 ≤ tree_size c.args.self.now = subst (λ (x : PlanTree). tree_size x + 1 ≤ tree_size c.args.self.now) (sym c.deref-in-Elements.ensures) (subst (λ (x : PlanTree). tree_size p + 1 ≤ tree_size x) (sym e) (omega arith)) in
+    let k = subst (λ (x : Option Span). NextOf c.args.wants.now c.next.new.wants o here is (Ok x)) c.in-Some.is c.in_ok-rows-in-Lists.ensures in
+    let m = c.in-Some.rows.first + length c.in-Some.rows.mask in
+    let fewer : Within c.deref-in-Some.result.now m = subst (λ (x : PlanTree). Within x m) (sym c.deref-in-Some.ensures) (within_fewer p o.elements m (k.1).within w.1) in
+    let sized : tree_size c.deref-in-Some.result.now + 1 ≤ tree_size c.args.self.now = subst (λ (x : PlanTree). tree_size x + 1 ≤ tree_size c.args.self.now) (sym c.deref-in-Some.ensures) (subst (λ (x : PlanTree). tree_size p + 1 ≤ tree_size x) (sym e) (omega arith)) in
     (search (rules, sized), fewer)
 
-pub PlanNode::collect-returns-in-Elements : goal.PlanNode::collect-returns-in-Elements
-PlanNode::collect-returns-in-Elements t c =
+pub PlanNode::collect-returns-in-Some : goal.PlanNode::collect-returns-in-Some
+PlanNode::collect-returns-in-Some t c =
     let here = came c.args.inbox.now in
     let is = true_rows c.args.first c.args.mask.now in
     let n = c.args.first + length c.args.mask.now in
@@ -115,10 +115,10 @@ PlanNode::collect-returns-in-Elements t c =
     let p = c.in-Lists.elements.value in
     let o = c.in-Lists.offsets in
     let e : c.args.self.now ≡ lists d p o = sym c.self.view_is ∙ ap plan_of c.in-Lists.is in
-    let k = subst (λ (x : Next). NextOf o here is (Ok x)) c.in-Elements.is c.in_ok-ids-in-Lists.ensures in
-    let js = true_rows c.in-Elements.first c.in-Elements.mask in
-    let own = subst (λ (x : PlanTree). CollectsPlan c.args.wants.now c.collect-in-Elements.new.wants x here js c.collect-in-Elements.result) c.deref-in-Elements.ensures c.collect-in-Elements.ensures in
-    rw e (elements_collected c.args.wants.now c.collect-in-Elements.new.wants d p o here is js c.collect-in-Elements.result k.0 k.1 own)
+    let k = subst (λ (x : Option Span). NextOf c.args.wants.now c.next.new.wants o here is (Ok x)) c.in-Some.is c.in_ok-rows-in-Lists.ensures in
+    let js = true_rows c.in-Some.rows.first c.in-Some.rows.mask in
+    let own = subst (λ (x : PlanTree). CollectsPlan c.next.new.wants c.collect-in-Some.new.wants x here js c.collect-in-Some.result) c.deref-in-Some.ensures c.collect-in-Some.ensures in
+    rw e (then_elements c.args.wants.now c.next.new.wants c.collect-in-Some.new.wants d p o here is c.in-Some.rows c.collect-in-Some.result k.0 k.1 own)
 
 pub PlanNode::collect-collect-requires-in-Lengths : goal.PlanNode::collect-collect-requires-in-Lengths
 PlanNode::collect-collect-requires-in-Lengths t c =

@@ -4,11 +4,12 @@ use Rattle.std.proofs.lemmas.Result.{err_from_is_err_and}
 use Rattle.scan_plans.specs.Came.{came, arrived}
 use Rattle.scan_plans.specs.Formed.{IsNode}
 use Rattle.scan_plans.specs.Lists.{element_rows}
-use Rattle.scan_plans.specs.OffsetReads.{CutsWhole}
+use Rattle.scan_plans.specs.OffsetReads.{CutsWhole, elements_in}
 use Rattle.scan_plans.specs.declared.lists.Whole.{Whole}
-use Rattle.scan_plans.proofs.ListCells.{lists_fault, lists_given, none_given, elements_fault, whole_rows, climbs_rises, cut_count, cut_size}
+use Rattle.scan_plans.proofs.ListCells.{lists_fault, lists_given, none_given, elements_fault, climbs_rises, cut_count}
 use Rattle.scan_plans.proofs.ListRows.{validity_fault, values_fault}
 use Rattle.scan_plans.proofs.ListWants.{within_fewer}
+use Rattle.scan_plans.proofs.WholeLists.{cut_read, read_mask, read_long, read_items}
 use Rattle.scan_plans.proofs.Filtering.{values_long}
 use Rattle.scan_values.specs.Kinds.{element_of}
 use Rattle.scan_plans.specs.Meaning.{true_rows, Within, AllWithin}
@@ -130,9 +131,12 @@ PlanNode::read-returns-in_ok-column-in-Some t c =
     let w = c.in-Some.whole in
     let e : c.args.self.now ≡ lists d p o = sym c.self.view_is ∙ ap plan_of c.in-Lists.is in
     let k = subst (λ (x : Option Whole). CutsWhole o here is (Ok x)) c.in-Some.is c.in_ok-whole-in-Lists.ensures in
-    let z = whole_rows o (arrived here) is w.cut w.rows.first w.rows.mask k.0 k.1 in
-    let v : AreValues p here (element_rows o (arrived here) is) c.in_ok-column-in-Some.column = subst (λ (js : List ℕ). AreValues p here js c.in_ok-column-in-Some.column) (sym z.0) (search (rules, c.in_ok-column-in-Some.ensures, c.deref-in-Some.ensures)) in
-    rw e (lists_given d p o here is w.cut c.in_ok-column-in-Some.column c.lists_of.result k.0 v (search (rules, c.lists_of.ensures)))
+    let z = cut_read o (arrived here) is w.cut w.rows.first w.rows.mask k.0 k.1 in
+    let same = read_mask o (arrived here) is w.cut.offsets.items w.rows.first w.rows.mask z in
+    let v : AreValues p here (element_rows o (arrived here) is) c.in_ok-column-in-Some.column = subst (λ (js : List ℕ). AreValues p here js c.in_ok-column-in-Some.column) (sym same) (search (rules, c.in_ok-column-in-Some.ensures, c.deref-in-Some.ensures)) in
+    let ns : List ℕ = w.cut.offsets.items in
+    let own = read_items p o here is ns w.rows.first w.rows.mask c.in_ok-column-in-Some.column z v in
+    rw e (lists_given d p o here is w.cut (elements_in ns w.rows.first c.in_ok-column-in-Some.column) c.lists_of.result k.0 own (search (rules, c.lists_of.ensures)))
 
 pub PlanNode::read-whole-requires : goal.PlanNode::read-whole-requires
 PlanNode::read-whole-requires t c =
@@ -158,9 +162,10 @@ PlanNode::read-read-requires-in-Some t c =
     let w : Within (lists d p o) n = subst (λ (x : PlanTree). Within x n) e c.requires in
     let u = c.in-Some.whole in
     let k = subst (λ (x : Option Whole). CutsWhole o here is (Ok x)) c.in-Some.is c.in_ok-whole-in-Lists.ensures in
-    let z = whole_rows o (arrived here) is u.cut u.rows.first u.rows.mask k.0 k.1 in
+    let z = cut_read o (arrived here) is u.cut u.rows.first u.rows.mask k.0 k.1 in
+    let same = read_mask o (arrived here) is u.cut.offsets.items u.rows.first u.rows.mask z in
     let m = u.rows.first + length u.rows.mask in
-    let fewer : Within c.deref-in-Some.result.now m = subst (λ (x : PlanTree). Within x m) (sym c.deref-in-Some.ensures) (within_fewer p o.elements m z.1 w.1) in
+    let fewer : Within c.deref-in-Some.result.now m = subst (λ (x : PlanTree). Within x m) (sym c.deref-in-Some.ensures) (within_fewer p o.elements m z.within w.1) in
     let sized : tree_size c.deref-in-Some.result.now + 1 ≤ tree_size c.args.self.now = subst (λ (x : PlanTree). tree_size x + 1 ≤ tree_size c.args.self.now) (sym c.deref-in-Some.ensures) (subst (λ (x : PlanTree). tree_size p + 1 ≤ tree_size x) (sym e) (omega arith)) in
     (search (rules, sized), fewer)
 
@@ -175,12 +180,13 @@ PlanNode::read-returns-in_err-column-in-Some t c =
     let e : c.args.self.now ≡ lists d p o = sym c.self.view_is ∙ ap plan_of c.in-Lists.is in
     let u = c.in-Some.whole in
     let k = subst (λ (x : Option Whole). CutsWhole o here is (Ok x)) c.in-Some.is c.in_ok-whole-in-Lists.ensures in
-    let z = whole_rows o (arrived here) is u.cut u.rows.first u.rows.mask k.0 k.1 in
+    let z = cut_read o (arrived here) is u.cut u.rows.first u.rows.mask k.0 k.1 in
+    let same = read_mask o (arrived here) is u.cut.offsets.items u.rows.first u.rows.mask z in
     let f : IsNode (lists d p o) = subst (λ (x : Kind). IsNode (plan_of x)) c.in-Lists.is c.self.invariant in
     let q = err_from_is_err_and c.from_residual-in_err-column-in-Some.result c.from_residual-in_err-column-in-Some.ensures.1 in
     let fault = c.in_err-column-in-Some.field-0.0 in
-    let own : Reads p here (element_rows o (arrived here) is) (Err fault) = subst (λ (js : List ℕ). Reads p here js (Err fault)) (sym z.0) (subst (λ (x : PlanTree). Reads x here (true_rows u.rows.first u.rows.mask) (Err fault)) c.deref-in-Some.ensures c.in_err-column-in-Some.ensures) in
-    rw (q.1, q.2) (subst (λ (x : PlanTree). Reads x here is (Err fault)) (sym e) (elements_fault d p o here is u.rows.first u.rows.mask fault f.1 z.0 z.1 own))
+    let own : Reads p here (element_rows o (arrived here) is) (Err fault) = subst (λ (js : List ℕ). Reads p here js (Err fault)) (sym same) (subst (λ (x : PlanTree). Reads x here (true_rows u.rows.first u.rows.mask) (Err fault)) c.deref-in-Some.ensures c.in_err-column-in-Some.ensures) in
+    rw (q.1, q.2) (subst (λ (x : PlanTree). Reads x here is (Err fault)) (sym e) (elements_fault d p o here is u.rows.first u.rows.mask fault f.1 same z.within own))
 
 pub PlanNode::read-lists_of-requires-clause-element : goal.PlanNode::read-lists_of-requires-clause-element
 PlanNode::read-lists_of-requires-clause-element t c =
@@ -193,9 +199,10 @@ PlanNode::read-lists_of-requires-clause-element t c =
     let e : c.args.self.now ≡ lists d p o = sym c.self.view_is ∙ ap plan_of c.in-Lists.is in
     let u = c.in-Some.whole in
     let k = subst (λ (x : Option Whole). CutsWhole o here is (Ok x)) c.in-Some.is c.in_ok-whole-in-Lists.ensures in
-    let z = whole_rows o (arrived here) is u.cut u.rows.first u.rows.mask k.0 k.1 in
+    let z = cut_read o (arrived here) is u.cut u.rows.first u.rows.mask k.0 k.1 in
+    let same = read_mask o (arrived here) is u.cut.offsets.items u.rows.first u.rows.mask z in
     let f : IsNode (lists d p o) = subst (λ (x : Kind). IsNode (plan_of x)) c.in-Lists.is c.self.invariant in
-    let v : AreValues p here (element_rows o (arrived here) is) c.in_ok-column-in-Some.column = subst (λ (js : List ℕ). AreValues p here js c.in_ok-column-in-Some.column) (sym z.0) (search (rules, c.in_ok-column-in-Some.ensures, c.deref-in-Some.ensures)) in
+    let v : AreValues p here (element_rows o (arrived here) is) c.in_ok-column-in-Some.column = subst (λ (js : List ℕ). AreValues p here js c.in_ok-column-in-Some.column) (sym same) (search (rules, c.in_ok-column-in-Some.ensures, c.deref-in-Some.ensures)) in
     ap (λ t. Some t) v.dtype ∙ sym (ap element_of f.0)
 
 pub PlanNode::read-lists_of-requires-clause-length : goal.PlanNode::read-lists_of-requires-clause-length
@@ -209,7 +216,8 @@ PlanNode::read-lists_of-requires-clause-length t c =
     let e : c.args.self.now ≡ lists d p o = sym c.self.view_is ∙ ap plan_of c.in-Lists.is in
     let u = c.in-Some.whole in
     let k = subst (λ (x : Option Whole). CutsWhole o here is (Ok x)) c.in-Some.is c.in_ok-whole-in-Lists.ensures in
-    let z = whole_rows o (arrived here) is u.cut u.rows.first u.rows.mask k.0 k.1 in
+    let z = cut_read o (arrived here) is u.cut u.rows.first u.rows.mask k.0 k.1 in
+    let same = read_mask o (arrived here) is u.cut.offsets.items u.rows.first u.rows.mask z in
     cut_count o (arrived here) u.cut.first (length u.cut.mask + 1) u.cut.offsets.items (k.0).offsets
 
 pub PlanNode::read-lists_of-requires-clause-rises : goal.PlanNode::read-lists_of-requires-clause-rises
@@ -223,11 +231,12 @@ PlanNode::read-lists_of-requires-clause-rises t c =
     let e : c.args.self.now ≡ lists d p o = sym c.self.view_is ∙ ap plan_of c.in-Lists.is in
     let u = c.in-Some.whole in
     let k = subst (λ (x : Option Whole). CutsWhole o here is (Ok x)) c.in-Some.is c.in_ok-whole-in-Lists.ensures in
-    let z = whole_rows o (arrived here) is u.cut u.rows.first u.rows.mask k.0 k.1 in
+    let z = cut_read o (arrived here) is u.cut u.rows.first u.rows.mask k.0 k.1 in
+    let same = read_mask o (arrived here) is u.cut.offsets.items u.rows.first u.rows.mask z in
     climbs_rises o.elements 0 u.cut.offsets.items ((k.0).offsets).climbs
 
-pub PlanNode::read-lists_of-requires-clause-whole : goal.PlanNode::read-lists_of-requires-clause-whole
-PlanNode::read-lists_of-requires-clause-whole t c =
+pub PlanNode::read-lists_of-requires-clause-among : goal.PlanNode::read-lists_of-requires-clause-among
+PlanNode::read-lists_of-requires-clause-among t c =
     let here = came c.args.inbox.now in
     let is = true_rows c.args.first c.args.mask.now in
     let n = c.args.first + length c.args.mask.now in
@@ -237,9 +246,12 @@ PlanNode::read-lists_of-requires-clause-whole t c =
     let e : c.args.self.now ≡ lists d p o = sym c.self.view_is ∙ ap plan_of c.in-Lists.is in
     let u = c.in-Some.whole in
     let k = subst (λ (x : Option Whole). CutsWhole o here is (Ok x)) c.in-Some.is c.in_ok-whole-in-Lists.ensures in
-    let z = whole_rows o (arrived here) is u.cut u.rows.first u.rows.mask k.0 k.1 in
-    let v : AreValues p here (element_rows o (arrived here) is) c.in_ok-column-in-Some.column = subst (λ (js : List ℕ). AreValues p here js c.in_ok-column-in-Some.column) (sym z.0) (search (rules, c.in_ok-column-in-Some.ensures, c.deref-in-Some.ensures)) in
-    cut_size p o here is u.cut c.in_ok-column-in-Some.column k.0 v
+    let z = cut_read o (arrived here) is u.cut u.rows.first u.rows.mask k.0 k.1 in
+    let same = read_mask o (arrived here) is u.cut.offsets.items u.rows.first u.rows.mask z in
+    let v : AreValues p here (element_rows o (arrived here) is) c.in_ok-column-in-Some.column = subst (λ (js : List ℕ). AreValues p here js c.in_ok-column-in-Some.column) (sym same) (search (rules, c.in_ok-column-in-Some.ensures, c.deref-in-Some.ensures)) in
+    let ns : List ℕ = u.cut.offsets.items in
+    let long = read_long p o here is ns u.rows.first u.rows.mask c.in_ok-column-in-Some.column z v in
+    (z.begins, omega (arith, long, z.ends))
 
 pub PlanNode::read-returns-in-None : goal.PlanNode::read-returns-in-None
 PlanNode::read-returns-in-None t c =
