@@ -1,10 +1,11 @@
 //! The fields that a scan asks for. After the Rust's `scan::scan_builder` and its `referenced_field_paths`.
-ghost use Rattle.std.specs.Prelude.{◌≡◌, ◌++◌, ◌∷◌, [], IfOk, if◌then◌else◌, map, option_map};
+ghost use Rattle.std.specs.Prelude.{◌≡◌, ◌++◌, ◌∷◌, [], true, IfOk, IfSome, if◌then◌else◌, map, option_map};
 ghost use Rattle.std.specs.List.{flat_map};
 ghost use Rattle.scan_values.specs.DataType.{Fields};
 ghost use Rattle.scan_expr.specs.Infer.{fields_or_none, infer, struct_fields};
 ghost use Rattle.scan_expr.specs.Needs.{other_names, uses};
-ghost use Rattle.scan_core.specs.FieldMasks.{below, onto, end_of, lent_names, ends_of, path_mask, demand_paths, scan_paths, firsts};
+ghost use Rattle.scan_core.specs.FieldMasks.{below, onto, end_of, lent_names, ends_of, path_mask, demand_paths, used_paths, scan_paths, firsts};
+ghost use Rattle.scan_readers.specs.FieldNames.{all_lead, name_fields};
 
 use scan_expr::{BoundExpression, BoundNode, Unary};
 use scan_values::{DType, FieldMask, FieldName, FieldPath, Names, NoMemory, has_name};
@@ -12,21 +13,37 @@ use std::alloc::Global;
 use std::collections::HashSet;
 
 /// The paths of the fields that the projection and the filter of a scan use, each once, in the order in which they are
-/// first used. Of a select or an exclude on a field these are the fields that it chooses.
+/// first used. Of a select or an exclude on a field these are the fields that it chooses. Each is a field of the dtype
+/// that both are bound over.
 pub fn referenced_field_masks(
     alloc: Global,
     projection: &BoundExpression,
     filter: Option<&BoundExpression>,
 ) -> Result<Vec<FieldMask>, NoMemory>
-    ensures { IfOk result (λ v. v.items ≡
+    ensures paths { IfOk result (λ v. v.items ≡
         map path_mask (firsts (scan_paths projection.now (option_map (λ f. f.now) filter.entry)))) }
+    ensures named { IfSome filter.entry (λ f. f.now.scope ≡ projection.now.scope) →
+        IfOk result (λ v. name_fields projection.now.scope v.items ≡ true) }
 {
     let mut paths = Vec::new(alloc);
-    add_uses(alloc, projection, Vec::new(alloc), None, &mut paths)?;
+    add_referenced(alloc, projection, &mut paths)?;
     if let Some(filter) = filter {
-        add_uses(alloc, filter, Vec::new(alloc), None, &mut paths)?;
+        add_referenced(alloc, filter, &mut paths)?;
     }
     distinct_masks(alloc, &paths)
+}
+
+/// Adds the paths of what an expression uses. Each names a field of its scope.
+fn add_referenced(
+    alloc: Global,
+    expr: &BoundExpression,
+    paths: &mut Vec<Names>,
+) -> Result<(), NoMemory>
+    ensures paths { IfOk result (λ _. paths.new.items ≡ paths.old.items ++ used_paths expr.now) }
+    ensures named { all_lead expr.now.scope (used_paths expr.now) ≡ true }
+{
+    let _typed = expr.dtype();
+    add_uses(alloc, expr, Vec::new(alloc), None, paths)
 }
 
 /// The masks of paths, each at its first place.

@@ -1,6 +1,8 @@
-//! Tests of the row budget, of shared arrays and of scans of one reader.
+//! Tests of the row budget, of shared arrays and of what a scan asks for and is split into.
 #![tactic(auto)]
 
+#[cfg(test)]
+mod field_masks;
 #[cfg(test)]
 mod limits;
 #[cfg(test)]
