@@ -33,7 +33,9 @@ module _ {T : Type 0} (f : ℕ → Data → Option T) where
   glued found x (Some xs) = ap Some (sym (append_assoc found (x ∷ []) xs))
 
   -- one more item is something
-  pub each_more : (all : List Value) (found : List T) (i : ℕ) (d : Value) (x : T) → i < length all → each_from f 0 (items_view all) ≡ option_map (λ xs. found ++ xs) (each_from f i (items_view (drop i all))) → f i (view (get_or all i d)) ≡ Some x → each_from f 0 (items_view all) ≡ option_map (λ xs. (found ++ x ∷ []) ++ xs) (each_from f (i + 1) (items_view (drop (i + 1) all)))
+  pub each_more : (all : List Value) (found : List T) (i : ℕ) (d : Value) (x : T) → i < length all
+      → each_from f 0 (items_view all) ≡ option_map (λ xs. found ++ xs) (each_from f i (items_view (drop i all))) → f i (view (get_or all i d)) ≡ Some x
+      → each_from f 0 (items_view all) ≡ option_map (λ xs. (found ++ x ∷ []) ++ xs) (each_from f (i + 1) (items_view (drop (i + 1) all)))
   each_more all found i d x lt inv e =
       inv ∙ ap (λ vs. option_map (λ xs. found ++ xs) (each_from f i (items_view vs))) (drop_more all i d lt)
       ∙ ap (λ o. option_map (λ xs. found ++ xs) (option_and_then (λ y. option_map (λ ys. y ∷ ys) (each_from f (i + 1) (items_view (drop (i + 1) all)))) o)) e

@@ -56,7 +56,9 @@ untold-found a l true (Some vs) f = record { told = tt; count = f.count; fit = f
 untold-found a l false None f = f
 untold-found a l false (Some vs) f = f
 
-each-found : (holds now : Option Store) (ls : List Layout) (flags : List Bool) (cs : List (Option (List Val))) → ((l : Layout) (flag : Bool) (c : Option (List Val)) → ((p : Place) → In p (cond flag (leaf_places (dtype_of l) (spelling_of l) (segments_of l)) []) → In p (chosen_places ls flags)) → IsFound holds l flag c → IsFound now l flag c) → AreFound holds ls flags cs → AreFound now ls flags cs
+each-found : (holds now : Option Store) (ls : List Layout) (flags : List Bool) (cs : List (Option (List Val)))
+    → ((l : Layout) (flag : Bool) (c : Option (List Val)) → ((p : Place) → In p (cond flag (leaf_places (dtype_of l) (spelling_of l) (segments_of l)) [])
+    → In p (chosen_places ls flags)) → IsFound holds l flag c → IsFound now l flag c) → AreFound holds ls flags cs → AreFound now ls flags cs
 each-found holds now [] [] [] f h = tt
 each-found holds now [] [] (c ∷ cs) f h = h
 each-found holds now [] (x ∷ flags) cs f h = h

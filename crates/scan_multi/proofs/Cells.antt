@@ -54,7 +54,9 @@ pub record CellFacts (holds : Option Store) (t : DataType) (k : Layout) (found :
   pub fit : fits (marked (cell_of found i p)) t ≡ true
   pub told : IfSome holds (λ store. row_value k store i ≡ marked (cell_of found i p))
 
-pub cell-told : (holds : Option Store) (t : DataType) (rows : ℕ) (k : Layout) (values : List Val) (i : ℕ) → PlainKid t rows k → IfSome holds (λ store. column store (dtype_of k) (spelling_of k) (segments_of k) ≡ Some values) → i < length values → IfSome holds (λ store. row_value k store i ≡ marked (get_or values i null_val))
+pub cell-told : (holds : Option Store) (t : DataType) (rows : ℕ) (k : Layout) (values : List Val) (i : ℕ) → PlainKid t rows k
+    → IfSome holds (λ store. column store (dtype_of k) (spelling_of k) (segments_of k) ≡ Some values) → i < length values
+    → IfSome holds (λ store. row_value k store i ≡ marked (get_or values i null_val))
 cell-told None t rows k values i kid h lt = tt
 cell-told (Some store) t rows k values i kid h lt =
     let e : column store t kid.spelling kid.segments ≡ Some values = subst (λ z. column store (dtype_of z) (spelling_of z) (segments_of z) ≡ Some values) kid.is h in
@@ -125,7 +127,9 @@ pub pick-at : (fs : Fields) (kids : Nodes) (rows : ℕ) (n : Name) (store : Stor
 pick-at no_fields kids rows n store i d k h = absurd (cc h)
 pick-at (field m t fs) no_nodes rows n store i d k h = absurd k
 pick-at (field m t fs) (child l ls) rows n store i d k h = go (bytes_eq n m) h (pick-at fs ls rows n store i d k.1) where
-  go : (b : Bool) → IsTrue (is_some (cond b (Some t) (dtype_named n fs))) → (IsTrue (has_field n fs) → pick n fs (row_values ls store i) ≡ row_value (get_or (nodes_in ls) (field_place fs n) d) store i) → cond b (row_value l store i) (pick n fs (row_values ls store i)) ≡ row_value (get_or (l ∷ nodes_in ls) (cond b 0 (suc (field_place fs n))) d) store i
+  go : (b : Bool) → IsTrue (is_some (cond b (Some t) (dtype_named n fs)))
+      → (IsTrue (has_field n fs) → pick n fs (row_values ls store i) ≡ row_value (get_or (nodes_in ls) (field_place fs n) d) store i)
+      → cond b (row_value l store i) (pick n fs (row_values ls store i)) ≡ row_value (get_or (l ∷ nodes_in ls) (cond b 0 (suc (field_place fs n))) d) store i
   go true h ih = refl
   go false h ih = ih h
 

@@ -37,7 +37,9 @@ found-push holds (x ∷ ls) (y ∷ flags) [] l flag c h k = absurd h
 found-push holds (x ∷ ls) (y ∷ flags) (z ∷ cs) l flag c h k = (h.0, found-push holds ls flags cs l flag c h.1 k)
 
 -- one more child was looked at
-found_more : (holds : Option Store) (ls : List Layout) (flags : List Bool) (k : ℕ) (d : Layout) (f : Bool) (cs : List (Option (List Val))) (c : Option (List Val)) → k < length ls → length ls ≡ length flags → AreFound holds (take k ls) (take k flags) cs → IsFound holds (get_or ls k d) (get_or flags k f) c → AreFound holds (take (k + 1) ls) (take (k + 1) flags) (cs ++ c ∷ [])
+found_more : (holds : Option Store) (ls : List Layout) (flags : List Bool) (k : ℕ) (d : Layout) (f : Bool) (cs : List (Option (List Val)))
+    (c : Option (List Val)) → k < length ls → length ls ≡ length flags → AreFound holds (take k ls) (take k flags) cs
+    → IsFound holds (get_or ls k d) (get_or flags k f) c → AreFound holds (take (k + 1) ls) (take (k + 1) flags) (cs ++ c ∷ [])
 found_more holds ls flags k d f cs c lt e h q =
     rw (take_more ls k d lt, take_more flags k f (omega (arith, e)))
     (found-push holds (take k ls) (take k flags) cs (get_or ls k d) (get_or flags k f) c h q)
@@ -48,7 +50,10 @@ child_within rs flags k r f lt e same p h =
     let n : length (layouts_of rs) ≡ length rs = nodes-length rs in
     child_among (layouts_of rs) flags k r.value f (omega (arith, n)) (n ∙ same) p (rw (node_at rs k r lt e r.value) h)
 
-pub found_child : (holds : Option Store) (rs : List (Rc Layout Global)) (flags : List Bool) (k : ℕ) (r : Rc Layout Global) (f : Bool) (cs : List (Option (List Val))) (c : Option (List Val)) → k < length rs → r ≡ get_or rs k r → length rs ≡ length flags → AreFound holds (take k (layouts_of rs)) (take k flags) cs → IsFound holds r.value (get_or flags k f) c → AreFound holds (take (k + 1) (layouts_of rs)) (take (k + 1) flags) (cs ++ c ∷ [])
+pub found_child : (holds : Option Store) (rs : List (Rc Layout Global)) (flags : List Bool) (k : ℕ) (r : Rc Layout Global) (f : Bool)
+    (cs : List (Option (List Val))) (c : Option (List Val)) → k < length rs → r ≡ get_or rs k r → length rs ≡ length flags
+    → AreFound holds (take k (layouts_of rs)) (take k flags) cs → IsFound holds r.value (get_or flags k f) c
+    → AreFound holds (take (k + 1) (layouts_of rs)) (take (k + 1) flags) (cs ++ c ∷ [])
 found_child holds rs flags k r f cs c lt e same h q =
     let n : length (layouts_of rs) ≡ length rs = nodes-length rs in
     found_more holds (layouts_of rs) flags k r.value f cs c (omega (arith, n)) (n ∙ same) h (rw (node_at rs k r lt e r.value) q)

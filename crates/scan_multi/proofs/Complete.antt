@@ -88,7 +88,9 @@ module _ {O S : Type 0} (opener : O → OpenerState) (source : S → SourceState
     go (fault.Opener place) at = absurd (some old _ at.there (λ f. (none place f at.there).0 (at.cause f)))
     go (fault.Source place id) at = absurd (some old _ at.there (λ f. (none place f at.there).1 ((at.cause f).0)))
     go (fault.Corrupt place id) at =
-        absurd (some old _ at.there (λ f. whole d q (opener (get_or old place f).opener).gives (source (get_or old place f).source).holds id (lawful.tells place f at.there).gives (lawful.tells place f at.there).holds ((at.cause f).0 (trusts place f at.there)) (told-at (IsSound d q) valid.sound place f at.there)))
+        absurd (some old _ at.there (λ f. whole d q (opener (get_or old place f).opener).gives (source (get_or old place f).source).holds id
+        (lawful.tells place f at.there).gives (lawful.tells place f at.there).holds ((at.cause f).0 (trusts place f at.there))
+        (told-at (IsSound d q) valid.sound place f at.there)))
     go (fault.DTypeMismatch place) at =
         absurd (some old _ at.there (λ f. of-type d q (opener (get_or old place f).opener).gives (lawful.tells place f at.there).gives ((at.cause f).0) (told-at (λ t. IsGood d q t.given) valid.good place f at.there)))
     go fault.Partitions h = absurd h
@@ -97,5 +99,7 @@ module _ {O S : Type 0} (opener : O → OpenerState) (source : S → SourceState
         absurd (some old _ at.there (λ f. formed d q g (opener (get_or old place f).opener).gives (lawful.tells place f at.there).gives ((at.cause f).0) (told-at (λ t. IsGood d q t.given) valid.good place f at.there)))
     go (fault.TooManyRows place) h = absurd h
     go (fault.Overflow place) at =
-        absurd (some old _ at.there (λ f. calm d q (opener (get_or old place f).opener).gives (source (get_or old place f).source).holds (lawful.tells place f at.there).gives (lawful.tells place f at.there).holds (at.cause f (trusts place f at.there)) (told-at (NeverOverflows d q) valid.no_overflow place f at.there)))
+        absurd (some old _ at.there (λ f. calm d q (opener (get_or old place f).opener).gives (source (get_or old place f).source).holds
+        (lawful.tells place f at.there).gives (lawful.tells place f at.there).holds (at.cause f (trusts place f at.there))
+        (told-at (NeverOverflows d q) valid.no_overflow place f at.there)))
     go fault.Concurrency h = absurd h

@@ -135,7 +135,10 @@ module _ (name wants : List ℕ) (c d e : Cache) (s t u v : SourceState) (held :
         (failed, contains id ids (h.all_asked id ∙ p.1))
 
 -- ---- on success
-come-all : (o : Option Store) (held : List Want) (before now : Came) (wants : List ℕ) → IfSome o (λ store. IsSound store before) → IfSome o (λ store. IsSound store before → TellsMore store held [] before now) → All (λ id. (has id (ids_of held) ≡ true) ⊎ IfSome o (λ store. store_of before id ≡ store id)) wants → IfSome o (λ store. All (λ id. store_of now id ≡ store id) wants)
+come-all : (o : Option Store) (held : List Want) (before now : Came) (wants : List ℕ) → IfSome o (λ store. IsSound store before)
+    → IfSome o (λ store. IsSound store before → TellsMore store held [] before now)
+    → All (λ id. (has id (ids_of held) ≡ true) ⊎ IfSome o (λ store. store_of before id ≡ store id)) wants
+    → IfSome o (λ store. All (λ id. store_of now id ≡ store id) wants)
 come-all None held before now wants sound more each = tt
 come-all (Some store) held before now wants sound more each = All-weaker _ _ go wants each where
   last : (id : ℕ) → (store_of now id ≡ store id) ⊎ (has id (ids_of []) ≡ true) → store_of now id ≡ store id
@@ -146,13 +149,17 @@ come-all (Some store) held before now wants sound more each = All-weaker _ _ go 
   go id (inl is) = last id ((more sound).each id is)
   go id (inr is) = (more sound).stays id is
 
-puts-all : (o : Option Store) (x y : Option ℕ) (held : List Want) (n : ℕ) → IfSome o (λ store. IfSome x (λ before. IfSome y (λ now. now < 2 ^ 64 - 1 → held_asks store held + before ≡ n + now + held_asks store []))) → IfSome (held_among o (asked_ids held)) (λ h. IfSome x (λ before. IfSome y (λ now. now < 2 ^ 64 - 1 → h + before ≡ n + now)))
+puts-all : (o : Option Store) (x y : Option ℕ) (held : List Want) (n : ℕ)
+    → IfSome o (λ store. IfSome x (λ before. IfSome y (λ now. now < 2 ^ 64 - 1 → held_asks store held + before ≡ n + now + held_asks store [])))
+    → IfSome (held_among o (asked_ids held)) (λ h. IfSome x (λ before. IfSome y (λ now. now < 2 ^ 64 - 1 → h + before ≡ n + now)))
 puts-all None x y held n p = tt
 puts-all (Some store) None y held n p = tt
 puts-all (Some store) (Some a) None held n p = tt
 puts-all (Some store) (Some a) (Some b) held n p = λ lt. let e = p lt in omega arith
 
-module _ (name wants : List ℕ) (c d e : Cache) (s t u v : SourceState) (held : List Want) (table last : TableEntries) (f g : Fetched) (asks : Asks [] u v) (h : HoldsAll name wants wants c d s t held table f) (r : ReceivesAll name held [] d e t u last f.segments.entries g.segments.entries) (same : g.report ≡ f.report) where
+module _ (name wants : List ℕ) (c d e : Cache) (s t u v : SourceState) (held : List Want) (table last : TableEntries) (f g : Fetched) (asks : Asks [] u v)
+    (h : HoldsAll name wants wants c d s t held table f) (r : ReceivesAll name held [] d e t u last f.segments.entries g.segments.entries)
+    (same : g.report ≡ f.report) where
   abbrev fetched : Fetches name wants c e s v
   fetched = fetches-all name wants c d e s t u v held table last asks h.holds r.receives
 
@@ -200,12 +207,17 @@ failed-early name wants c d s t held table h after asks = fetch-fault name wants
 pub not-begun : (name wants : List ℕ) (c : Cache) (s : SourceState) → s.live ≡ none_live → IsFetchFault name wants c c s s fault.NoMemory
 not-begun name wants c s idle = failed-early name wants c c s s [] [] (none-held name wants c s [] refl) s (record { holds = refl; asked = sym (append-nil s.asked); live = idle; faults = le_refl s.faults; turns = le_refl s.turns; can_fail = refl })
 
-pub failed-late : {U : Type 0} (r : Result U FetchFault) (name name' wants : List ℕ) (c d e : Cache) (s t u : SourceState) (held held' : List Want) (table last : TableEntries) → name' ≡ name → held' ≡ held → Holds name wants c d s t held table → OnErr r (Receives name' held' [] d e t u last) → IfErr r (IsReceiptFault held' t u) → IfErr r (λ x. Afterwards u (λ after. IsFetchFault name wants c e s after x))
+pub failed-late : {U : Type 0} (r : Result U FetchFault) (name name' wants : List ℕ) (c d e : Cache) (s t u : SourceState) (held held' : List Want)
+    (table last : TableEntries) → name' ≡ name → held' ≡ held → Holds name wants c d s t held table → OnErr r (Receives name' held' [] d e t u last)
+    → IfErr r (IsReceiptFault held' t u) → IfErr r (λ x. Afterwards u (λ after. IsFetchFault name wants c e s after x))
 failed-late (Ok x) name name' wants c d e s t u held held' table last p q h receives cause = tt
 failed-late (Err x) name name' wants c d e s t u held held' table last p q h receives cause = λ after asks.
     fetch-fault name wants c d e s t u after held table last asks h (subst (λ (z : List ℕ × List Want). Receives z.0 z.1 [] d e t u last) (λ i. (p i, q i)) receives) x (subst (λ ws. IsReceiptFault ws t u x) q cause)
 
-pub came-late : {U : Type 0} (r : Result U FetchFault) (name name' wants : List ℕ) (c d e : Cache) (s t u : SourceState) (held held' : List Want) (table last : TableEntries) (f g : Fetched) → name' ≡ name → held' ≡ held → HoldsAll name wants wants c d s t held table f → g.report ≡ f.report → OnOk r (ReceivesAll name' held' [] d e t u last f.segments.entries g.segments.entries) → OnOk r (Afterwards u (λ after. IsFetched name wants c e s after g))
+pub came-late : {U : Type 0} (r : Result U FetchFault) (name name' wants : List ℕ) (c d e : Cache) (s t u : SourceState) (held held' : List Want)
+    (table last : TableEntries) (f g : Fetched) → name' ≡ name → held' ≡ held → HoldsAll name wants wants c d s t held table f → g.report ≡ f.report
+    → OnOk r (ReceivesAll name' held' [] d e t u last f.segments.entries g.segments.entries)
+    → OnOk r (Afterwards u (λ after. IsFetched name wants c e s after g))
 came-late (Ok x) name name' wants c d e s t u held held' table last f g p q h same receives = λ after asks.
     fetched-all name wants c d e s t u after held table last f g asks h (subst (λ (z : List ℕ × List Want). ReceivesAll z.0 z.1 [] d e t u last f.segments.entries g.segments.entries) (λ i. (p i, q i)) receives) same
 came-late (Err x) name name' wants c d e s t u held held' table last f g p q h same receives = tt

@@ -99,12 +99,16 @@ module _ {O S : Type 0} (opener : O → OpenerState) (source : S → SourceState
     among = All-nil (λ id. IfTold (opener old.opener).gives (source old.source).holds (λ g store. Contains (named d request g store) id));
   }
 
-  may : (gives : Option Given) (holds : Option Store) (l : Layout) (ps : List Place) (id : ℕ) → IfSome gives (λ g. g ≡ layout_of l) → ((store : Store) (q : Place) → In q ps → Named' (named_places d request (layout_of l) store) q) → IsIdOf ps id → IfTold gives holds (λ g store. Contains (named d request g store) id)
+  may : (gives : Option Given) (holds : Option Store) (l : Layout) (ps : List Place) (id : ℕ) → IfSome gives (λ g. g ≡ layout_of l)
+      → ((store : Store) (q : Place) → In q ps → Named' (named_places d request (layout_of l) store) q) → IsIdOf ps id
+      → IfTold gives holds (λ g store. Contains (named d request g store) id)
   may None holds l ps id e h w = tt
   may (Some g) None l ps id e h w = tt
   may (Some g) (Some store) l ps id e h w = subst (λ z. Contains (named d request z store) id) (sym e) (id-named d request (layout_of l) store ps id (h store) w)
 
-  may-bad : (gives : Option Given) (holds : Option Store) (l : Layout) (ps : List Place) (id : ℕ) → IfSome gives (λ g. g ≡ layout_of l) → ((store : Store) (q : Place) → In q ps → Named' (named_places d request (layout_of l) store) q) → IfSome holds (λ store. HasBad store ps id) → IfTold gives holds (λ g store. HasBad store (named_places d request g store) id)
+  may-bad : (gives : Option Given) (holds : Option Store) (l : Layout) (ps : List Place) (id : ℕ) → IfSome gives (λ g. g ≡ layout_of l)
+      → ((store : Store) (q : Place) → In q ps → Named' (named_places d request (layout_of l) store) q) → IfSome holds (λ store. HasBad store ps id)
+      → IfTold gives holds (λ g store. HasBad store (named_places d request g store) id)
   may-bad None holds l ps id e h w = tt
   may-bad (Some g) None l ps id e h w = tt
   may-bad (Some g) (Some store) l ps id e h w = subst (λ z. HasBad store (named_places d request z store) id) (sym e) (bad-named d request (layout_of l) store ps id (h store) w)
@@ -113,7 +117,10 @@ module _ {O S : Type 0} (opener : O → OpenerState) (source : S → SourceState
   is-read None l e f = tt
   is-read (Some g) l e f = subst (IsRead d) (sym e) (well_typed l d f, f)
 
-  pub layout_moves : (old : ScanFile O S) (o : O) (s : S) (l : Layout) (name : List ℕ) (before after : CacheState SegmentKey) → Opens (opener old.opener) (opener o) → IfSome (opener old.opener).gives (λ g. g ≡ layout_of l) → first_fault l d ≡ None → (source old.source).live ≡ none_live → Fetches name (ids_of (chosen_in l chosen)) before after (source old.source) (source s) → FileMoves opener source d request old (record old { opener = o; source = s })
+  pub layout_moves : (old : ScanFile O S) (o : O) (s : S) (l : Layout) (name : List ℕ) (before after : CacheState SegmentKey)
+      → Opens (opener old.opener) (opener o) → IfSome (opener old.opener).gives (λ g. g ≡ layout_of l) → first_fault l d ≡ None
+      → (source old.source).live ≡ none_live → Fetches name (ids_of (chosen_in l chosen)) before after (source old.source) (source s)
+      → FileMoves opener source d request old (record old { opener = o; source = s })
   layout_moves old o s l name before after p e f idle r = record {
     source_id = refl;
     gives = p.gives;
@@ -156,14 +163,21 @@ module _ {O S : Type 0} (opener : O → OpenerState) (source : S → SourceState
     go None e p = cc
     go (Some g) e p = ap (part_of d request file (told_file opener source old).store) (sym e)
 
-  pub layout_given : (old : ScanFile O S) (l : Layout) (file : ℕ) (c : Option ChunkData) → IfSome (opener old.opener).gives (λ g. g ≡ layout_of l) → first_fault l d ≡ None → IsScanned (source old.source).holds l b file c → Tells opener source old → items_in c ≡ part_of d request file (told_file opener source old).store (told_file opener source old).given
+  pub layout_given : (old : ScanFile O S) (l : Layout) (file : ℕ) (c : Option ChunkData) → IfSome (opener old.opener).gives (λ g. g ≡ layout_of l)
+      → first_fault l d ≡ None → IsScanned (source old.source).holds l b file c → Tells opener source old
+      → items_in c ≡ part_of d request file (told_file opener source old).store (told_file opener source old).given
   layout_given old l file c e f w t = go (opener old.opener).gives (source old.source).holds e w.items t.gives t.holds where
-    go : (gives : Option Given) (holds : Option Store) → IfSome gives (λ g. g ≡ layout_of l) → IfSome holds (λ store. items_in c ≡ map (row_item b file l store) (range_with_len 0 (rows_of l))) → IsSome gives → IsSome holds → items_in c ≡ part_of d request file (unwrap_or holds (λ id. None)) (unwrap_or gives skip)
+    go : (gives : Option Given) (holds : Option Store) → IfSome gives (λ g. g ≡ layout_of l)
+        → IfSome holds (λ store. items_in c ≡ map (row_item b file l store) (range_with_len 0 (rows_of l))) → IsSome gives → IsSome holds
+        → items_in c ≡ part_of d request file (unwrap_or holds (λ id. None)) (unwrap_or gives skip)
     go None holds e h p q = cc
     go (Some g) None e h p q = cc
     go (Some g) (Some store) e h p q = h ∙ sym (part-is d request b places chosen l plan f file store) ∙ ap (part_of d request file store) (sym e)
 
-  pub layout_cause : (cache : CacheState SegmentKey) (old : ScanFile O S) (o : O) (s : S) (l : Layout) (file : ℕ) (x : ScanFault) → IfSome (opener old.opener).gives (λ g. g ≡ layout_of l) → first_fault l d ≡ None → IsLayoutFault file old.source_id (chosen_in l chosen) cache (source old.source) (source s) x → IsFileCause opener source d request cache old (record old { opener = o; source = s }) x
+  pub layout_cause : (cache : CacheState SegmentKey) (old : ScanFile O S) (o : O) (s : S) (l : Layout) (file : ℕ) (x : ScanFault)
+      → IfSome (opener old.opener).gives (λ g. g ≡ layout_of l) → first_fault l d ≡ None
+      → IsLayoutFault file old.source_id (chosen_in l chosen) cache (source old.source) (source s) x
+      → IsFileCause opener source d request cache old (record old { opener = o; source = s }) x
   layout_cause cache old o s l file fault.NoMemory e f w = tt
   layout_cause cache old o s l file (fault.Source place id) e f w = (w.1, record { read = is-read (opener old.opener).gives l e f; asked = w.2 })
   layout_cause cache old o s l file (fault.Corrupt place id) e f w = (

@@ -20,14 +20,18 @@ use Rattle.scan_multi.proofs.Built.{built-early}
 
 module _ {O S : Type 0} (opener : O → OpenerState) (source : S → SourceState) (d : DataType) (request : ScanRequest) (cache : CacheState SegmentKey) where
   -- a fault of the first file
-  fault-at : (workers : ℕ) (files : List (ScanFile O S)) (x y : ScanFile O S) (e : ScanFault) → early_fault workers (length files) d request ≡ None → 0 < length files → x ≡ get_or files 0 x → IsFileCause opener source d request cache x y e → FaultAt opener source workers d request cache files (set files 0 y) 0 e
+  fault-at : (workers : ℕ) (files : List (ScanFile O S)) (x y : ScanFile O S) (e : ScanFault) → early_fault workers (length files) d request ≡ None
+      → 0 < length files → x ≡ get_or files 0 x → IsFileCause opener source d request cache x y e
+      → FaultAt opener source workers d request cache files (set files 0 y) 0 e
   fault-at workers files x y e early lt at h = record {
     late = early;
     there = lt;
     cause = λ f. rw (get_or-set_same files 0 y f lt) (subst (λ (z : ScanFile O S). IsFileCause opener source d request cache z y e) (at ∙ get_or_default files 0 x f lt) h);
   }
 
-  pub file-cause : (workers : ℕ) (files : List (ScanFile O S)) (x y : ScanFile O S) (e : ScanFault) → early_fault workers (length files) d request ≡ None → 0 < length files → x ≡ get_or files 0 x → NamesFile 0 e → IsFileCause opener source d request cache x y e → HasCause opener source workers d request cache files (set files 0 y) e
+  pub file-cause : (workers : ℕ) (files : List (ScanFile O S)) (x y : ScanFile O S) (e : ScanFault) → early_fault workers (length files) d request ≡ None
+      → 0 < length files → x ≡ get_or files 0 x → NamesFile 0 e → IsFileCause opener source d request cache x y e
+      → HasCause opener source workers d request cache files (set files 0 y) e
   file-cause workers files x y fault.NoMemory early lt at n h = tt
   file-cause workers files x y (fault.Opener p) early lt at n h = rw n (fault-at workers files x y (fault.Opener 0) early lt at h)
   file-cause workers files x y (fault.Source p id) early lt at n h = rw n (fault-at workers files x y (fault.Source 0 id) early lt at h)

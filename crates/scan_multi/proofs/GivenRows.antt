@@ -67,7 +67,9 @@ module _ {O S : Type 0} (opener : O → OpenerState) (source : S → SourceState
     chunks = chunks;
     items = subst (λ o. IsGiven o request.limit (answer d request (told opener source files)) (given (option_to_list c))) (sym all.ordered)
         (subst (λ l. given (option_to_list c) ≡ limited l (answer d request (told opener source files))) (sym all.limit)
-        (given-one c ∙ items (subst (Tells opener source) (sym e) (lawful.tells 0 x (omega (arith, n)))) (subst (λ (z : ScanFile O S). Trusts z.source_id cache (source z.source)) (sym e) (record { tells = lawful.cache_tells; agrees = lawful.agrees 0 x (omega (arith, n)) })) ∙ sym (answer-one files x n e)));
+        (given-one c ∙ items (subst (Tells opener source) (sym e) (lawful.tells 0 x (omega (arith, n))))
+        (subst (λ (z : ScanFile O S). Trusts z.source_id cache (source z.source)) (sym e)
+        (record { tells = lawful.cache_tells; agrees = lawful.agrees 0 x (omega (arith, n)) })) ∙ sym (answer-one files x n e)));
   }
 
   pub all-read : (files : List (ScanFile O S)) (x : ScanFile O S) → length files ≡ 1 → x ≡ get_or files 0 x → IfSome (opener x.opener).gives (IsSkippedOrRead d) → All (ReadWhereTold opener source d) files

@@ -89,7 +89,9 @@ module _ (d : DataType) (request : ScanRequest) (b : Bound) (places : List ℕ) 
       (subst (λ z. fits (marked (row_of found z i)) g ≡ true) (sym p)
       (subst (λ z. fits (marked (row_of found places i)) z ≡ true) (sym q) (row-fits holds found i h (subst (λ z. i < z) m lt))))
 
-  pub whole-scan-of : (holds : Option Store) (found cs : List (Option (List Val))) (ps : List ℕ) (g : DataType) (n file : ℕ) (o : Option ChunkData) → AreFound holds (nodes_in (kids_of l)) chosen found → cs ≡ found → ps ≡ places → g ≡ infer b.scope b.expr → n ≡ rows_of l → IsWhole file n g (row_of cs ps) o → IsScanned holds l b file o
+  pub whole-scan-of : (holds : Option Store) (found cs : List (Option (List Val))) (ps : List ℕ) (g : DataType) (n file : ℕ) (o : Option ChunkData)
+      → AreFound holds (nodes_in (kids_of l)) chosen found → cs ≡ found → ps ≡ places → g ≡ infer b.scope b.expr → n ≡ rows_of l
+      → IsWhole file n g (row_of cs ps) o → IsScanned holds l b file o
   whole-scan-of holds found cs ps g n file o h c p q m w =
       whole-scan holds found file o h
       (subst (λ z. IsWhole file (rows_of l) (infer b.scope b.expr) (row_of found z) o) p

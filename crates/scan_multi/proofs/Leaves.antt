@@ -66,7 +66,9 @@ fits-at t (x ∷ xs) zero d h lt = and-left (fits (marked x) t) (fits_all (marke
 fits-at t (x ∷ xs) (suc i) d h lt = fits-at t xs i d (and-right (fits (marked x) t) (fits_all (marked_all (vals_of xs)) t) h) (omega arith)
 
 -- one more segment was read
-pub column_more : (store : Store) (t : DataType) (y : Spelling) (segments : List (ℕ × ℕ)) (i : ℕ) (s : ℕ × ℕ) (found more : List Val) → i < length segments → s ≡ get_or segments i s → IsColumn (Some store) t y (take i segments) found → IsColumn (Some store) t y (s ∷ []) more → IsColumn (Some store) t y (take (i + 1) segments) (found ++ more)
+pub column_more : (store : Store) (t : DataType) (y : Spelling) (segments : List (ℕ × ℕ)) (i : ℕ) (s : ℕ × ℕ) (found more : List Val) → i < length segments
+    → s ≡ get_or segments i s → IsColumn (Some store) t y (take i segments) found → IsColumn (Some store) t y (s ∷ []) more
+    → IsColumn (Some store) t y (take (i + 1) segments) (found ++ more)
 column_more store t y segments i s found more lt e p q = record {
   told = rw is (column-append store t y (take i segments) (s ∷ []) ∙ ap (λ o. both o (column store t y (s ∷ []))) p.told ∙ ap (both (Some found)) q.told);
   count = rw is (length-append found more ∙ counts ∙ sym (sum_by-append (λ (g : ℕ × ℕ). g.1) (take i segments) (s ∷ [])));

@@ -59,7 +59,9 @@ hit-before k b None y p h = tt
 hit-before k b (Some m) None p h = absurd p
 hit-before k b (Some m) (Some n) p h = p k b h
 
-hit-true : (k : ℕ → SegmentKey) (id : ℕ) (b : List ℕ) (entries : Option (Entries SegmentKey)) (holds : Option Store) → IsSome entries → IfSome entries (λ m. IfSome holds (λ store. (i : ℕ) → IfSome (m (k i)) (λ bytes. store i ≡ Some bytes))) → IfSome entries (λ m. m (k id) ≡ Some b) → IfSome holds (λ store. store id ≡ Some b)
+hit-true : (k : ℕ → SegmentKey) (id : ℕ) (b : List ℕ) (entries : Option (Entries SegmentKey)) (holds : Option Store) → IsSome entries
+    → IfSome entries (λ m. IfSome holds (λ store. (i : ℕ) → IfSome (m (k i)) (λ bytes. store i ≡ Some bytes))) → IfSome entries (λ m. m (k id) ≡ Some b)
+    → IfSome holds (λ store. store id ≡ Some b)
 hit-true k id b None holds tells agrees h = absurd (cc)
 hit-true k id b (Some m) None tells agrees h = tt
 hit-true k id b (Some m) (Some store) tells agrees h = subst (λ o. IfSome o (λ bytes. store id ≡ Some bytes)) h (agrees id)
@@ -99,7 +101,9 @@ module _ (name wants : List ℕ) (c d e : Cache) (s t u : SourceState) (i : ℕ)
   all-more : (P : ℕ → Type 0) → All P (take i wants) → P key.segment → All P (take (i + 1) wants)
   all-more P all here = All-more P wants i 0 lt all (subst P (sym at) here)
 
-  module _ (held : List Want) (table : TableEntries) (f g : Fetched) (bytes : List ℕ) (got : IfSome d.entries (λ m. m key ≡ Some bytes)) (looks : LooksUp d e) (one : looks.events ≡ Found key ∷ []) (came : Keeps key.segment bytes f.segments.entries g.segments.entries) (report : g.report ≡ with_hit f.report) (h : HoldsAll name wants (take i wants) c d s t held table f) where
+  module _ (held : List Want) (table : TableEntries) (f g : Fetched) (bytes : List ℕ) (got : IfSome d.entries (λ m. m key ≡ Some bytes)) (looks : LooksUp d e)
+      (one : looks.events ≡ Found key ∷ []) (came : Keeps key.segment bytes f.segments.entries g.segments.entries) (report : g.report ≡ with_hit f.report)
+      (h : HoldsAll name wants (take i wants) c d s t held table f) where
     told : Trusts name c s → IfSome s.holds (λ store. store key.segment ≡ Some bytes)
     told = hit-told name c d s key same h.holds.looks.moves.entries bytes got
 

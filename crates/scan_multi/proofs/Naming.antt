@@ -233,7 +233,9 @@ field-leaf (field n d fs) (suc k) p lt = or-true _ (is_field_leaf fs (to_field (
 name-there : (fs : Fields) (n : Name) → IsTrue (has_field n fs) → (bytes_eq n (nth_name fs (field_place fs n)) ≡ true) × (has_name n (field_names fs) ≡ true)
 name-there no_fields n h = absurd (cc h)
 name-there (field m d fs) n h = go (bytes_eq n m) refl h (name-there fs n) where
-  go : (b : Bool) → bytes_eq n m ≡ b → IsTrue (is_some (cond b (Some d) (dtype_named n fs))) → (IsTrue (has_field n fs) → (bytes_eq n (nth_name fs (field_place fs n)) ≡ true) × (has_name n (field_names fs) ≡ true)) → (bytes_eq n (nth_name (field m d fs) (cond b 0 (suc (field_place fs n)))) ≡ true) × ((b || has_name n (field_names fs)) ≡ true)
+  go : (b : Bool) → bytes_eq n m ≡ b → IsTrue (is_some (cond b (Some d) (dtype_named n fs)))
+      → (IsTrue (has_field n fs) → (bytes_eq n (nth_name fs (field_place fs n)) ≡ true) × (has_name n (field_names fs) ≡ true))
+      → (bytes_eq n (nth_name (field m d fs) (cond b 0 (suc (field_place fs n)))) ≡ true) × ((b || has_name n (field_names fs)) ≡ true)
   go true e h ih = (e, refl)
   go false e h ih = ih h
 
@@ -254,7 +256,8 @@ flag-back (p ∷ places) k h = go (p == k) refl h (flag-back places k) where
   go true e w ih = inl (grind (arith, nat_tests))
   go false e w ih = inr (ih w)
 
-pub chosen-needed : (fs : Fields) (e : Expr) (k : ℕ) → are_plain fs ≡ true → Chooses e → bind_fault (struct_type fs NonNullable) e ≡ None → k < field_count fs → get_or (flags_of (field_count fs) (places_of fs e)) k false ≡ true → needed (struct_type fs NonNullable) e (to_field (nth_name fs k) ∷ []) ≡ true
+pub chosen-needed : (fs : Fields) (e : Expr) (k : ℕ) → are_plain fs ≡ true → Chooses e → bind_fault (struct_type fs NonNullable) e ≡ None → k < field_count fs
+    → get_or (flags_of (field_count fs) (places_of fs e)) k false ≡ true → needed (struct_type fs NonNullable) e (to_field (nth_name fs k) ∷ []) ≡ true
 chosen-needed fs e k p (inl is) typed lt flag = subst (λ z. needed (struct_type fs NonNullable) z (to_field (nth_name fs k) ∷ []) ≡ true) (sym is) (field-leaf fs k p lt)
 chosen-needed fs e k p (inr (names, is)) typed lt flag =
     let m : In k (places_of fs e) = flag-back (places_of fs e) k (sym (flag-at (field_count fs) (places_of fs e) k lt) ∙ flag) in
@@ -281,7 +284,10 @@ pub record Named' (places : List Place) (q : Place) : Type 0 where
   pub spelling : place.spelling ≡ q.spelling
   pub rows : place.rows ≡ q.rows
 
-pub chosen-named : (fs : Fields) (request : ScanRequest) (l : Layout) (store : Store) → are_plain fs ≡ true → Chooses request.projection → bind_fault (struct_type fs NonNullable) request.projection ≡ None → AllRows request → first_fault l (struct_type fs NonNullable) ≡ None → PlainForm fs l → (q : Place) → In q (chosen_places (nodes_in (kids_of l)) (flags_of (field_count fs) (places_of fs request.projection))) → Named' (named_places (struct_type fs NonNullable) request (layout_of l) store) q
+pub chosen-named : (fs : Fields) (request : ScanRequest) (l : Layout) (store : Store) → are_plain fs ≡ true → Chooses request.projection
+    → bind_fault (struct_type fs NonNullable) request.projection ≡ None → AllRows request → first_fault l (struct_type fs NonNullable) ≡ None → PlainForm fs l
+    → (q : Place) → In q (chosen_places (nodes_in (kids_of l)) (flags_of (field_count fs) (places_of fs request.projection)))
+    → Named' (named_places (struct_type fs NonNullable) request (layout_of l) store) q
 unfolding places_in
 chosen-named fs request l store p choose typed all fault form q m =
     let d : DataType = struct_type fs NonNullable in

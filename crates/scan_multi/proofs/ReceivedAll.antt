@@ -101,7 +101,9 @@ module _ (name : List ℕ) (ws : List Want) (c d e : Cache) (s t u : SourceState
     offered-more : (k : SegmentKey) → times k (h.keys ++ puts.more) + times k (map (key_of name) (asked_ids left)) ≤ times k (map (key_of name) (asked_ids ws))
     offered-more k =
         let p = h.offered k in
-        let r : times k (map (key_of name) (asked_ids rest)) ≡ times k (map (key_of name) (only_if w.asked w.holder.id)) + times k (map (key_of name) (asked_ids left)) = ap (λ (xs : List Want). times k (map (key_of name) (asked_ids xs))) first ∙ times-ids k name (only_if w.asked w.holder.id) (asked_ids left) in
+        let r : times k (map (key_of name) (asked_ids rest)) ≡ times k (map (key_of name) (only_if w.asked w.holder.id)) + times k
+        (map (key_of name) (asked_ids left)) = ap (λ (xs : List Want). times k (map (key_of name) (asked_ids xs))) first
+        ∙ times-ids k name (only_if w.asked w.holder.id) (asked_ids left) in
         let f = puts.few k in
         omega (arith, times-append k h.keys puts.more, few-key k name key w.asked w.holder.id (key-at name key w.holder.id same at))
 
@@ -209,7 +211,9 @@ module _ (name : List ℕ) (ws : List Want) (c d e : Cache) (s t u : SourceState
           }
 
 -- a segment that is missing
-module _ (name : List ℕ) (ws : List Want) (c d : Cache) (s t u : SourceState) (old new : TableEntries) (polls : PollsHeld t u old new) (w : Want) (rest left : List Want) (first : rest ≡ w ∷ left) (key : SegmentKey) (same : key.source_id ≡ name) (at : key.segment ≡ w.holder.id) (i : ℕ) (lt : i < length ws) (here : w ≡ get_or ws i w) (begun came : Came) (h : ReceivesAll name ws rest c d s t old begun came) where
+module _ (name : List ℕ) (ws : List Want) (c d : Cache) (s t u : SourceState) (old new : TableEntries) (polls : PollsHeld t u old new) (w : Want)
+    (rest left : List Want) (first : rest ≡ w ∷ left) (key : SegmentKey) (same : key.source_id ≡ name) (at : key.segment ≡ w.holder.id) (i : ℕ)
+    (lt : i < length ws) (here : w ≡ get_or ws i w) (begun came : Came) (h : ReceivesAll name ws rest c d s t old begun came) where
   nothing-held : (store : Store) (b : Bool) → store w.holder.id ≡ None → length (filter (λ id. is_some (store id)) (only_if b w.holder.id)) ≡ 0
   nothing-held store true is = rw is refl
   nothing-held store false is = refl
@@ -234,7 +238,9 @@ module _ (name : List ℕ) (ws : List Want) (c d : Cache) (s t u : SourceState) 
       }
 
 -- the want is taken
-module _ (name : List ℕ) (ws : List Want) (c d e : Cache) (s t u : SourceState) (old new : TableEntries) (polls : PollsHeld t u old new) (w : Want) (rest left : List Want) (first : rest ≡ w ∷ left) (key : SegmentKey) (same : key.source_id ≡ name) (at : key.segment ≡ w.holder.id) (i : ℕ) (lt : i < length ws) (here : w ≡ get_or ws i w) (begun came now : Came) (h : ReceivesAll name ws rest c d s t old begun came) where
+module _ (name : List ℕ) (ws : List Want) (c d e : Cache) (s t u : SourceState) (old new : TableEntries) (polls : PollsHeld t u old new) (w : Want)
+    (rest left : List Want) (first : rest ≡ w ∷ left) (key : SegmentKey) (same : key.source_id ≡ name) (at : key.segment ≡ w.holder.id) (i : ℕ)
+    (lt : i < length ws) (here : w ≡ get_or ws i w) (begun came now : Came) (h : ReceivesAll name ws rest c d s t old begun came) where
   takes-answer : (a : Option SharedAnswer) → answer_of (entry_at new w.holder.id) ≡ a → Takes w.asked key d e came now a → ReceivesAll name ws left c e s u new begun now
   takes-answer None is k = absurd k
   takes-answer (Some (answer.Bytes bytes)) is k =

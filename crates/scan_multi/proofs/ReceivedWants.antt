@@ -53,7 +53,9 @@ counts-short (Some a) None p = absurd p
 counts-short (Some a) (Some b) p = let least = p.least in let most = p.most in λ h. omega arith
 
 -- so much was put before, and so much now
-pub counts-on : (all rest left much put more puts : ℕ) (x y z : Option ℕ) → Grows x y → Grows y z → IfSome x (λ before. IfSome y (λ now. now < 2 ^ 64 - 1 → all + before ≡ put + now + rest)) → Counts much more y z → rest ≡ much + left → puts ≡ put + more → IfSome x (λ before. IfSome z (λ now. now < 2 ^ 64 - 1 → all + before ≡ puts + now + left))
+pub counts-on : (all rest left much put more puts : ℕ) (x y z : Option ℕ) → Grows x y → Grows y z
+    → IfSome x (λ before. IfSome y (λ now. now < 2 ^ 64 - 1 → all + before ≡ put + now + rest)) → Counts much more y z → rest ≡ much + left → puts ≡ put + more
+    → IfSome x (λ before. IfSome z (λ now. now < 2 ^ 64 - 1 → all + before ≡ puts + now + left))
 counts-on all rest left much put more puts None y z p q h k e f = tt
 counts-on all rest left much put more puts (Some a) None z p q h k e f = absurd p
 counts-on all rest left much put more puts (Some a) (Some b) None p q h k e f = tt

@@ -58,7 +58,9 @@ pub record RowFacts (holds : Option Store) (fs : Fields) (e : Expr) (l : Layout)
   pub told : IfSome holds (λ store. eval (struct_type fs NonNullable) e (row_value l store i) i ≡ marked (row_of found (places_of fs e) i))
 
 -- each chosen cell
-cells : (holds : Option Store) (fs : Fields) (l : Layout) (places : List ℕ) (found : List (Option (List Val))) (i : ℕ) → PlainForm fs l → AreFound holds (nodes_in (kids_of l)) (flags_of (field_count fs) places) found → i < rows_of l → (p : ℕ) → In p places → p < field_count fs → (d : Layout) → CellFacts holds (nth_type fs p) (get_or (nodes_in (kids_of l)) p d) found i p
+cells : (holds : Option Store) (fs : Fields) (l : Layout) (places : List ℕ) (found : List (Option (List Val))) (i : ℕ) → PlainForm fs l
+    → AreFound holds (nodes_in (kids_of l)) (flags_of (field_count fs) places) found → i < rows_of l → (p : ℕ) → In p places → p < field_count fs → (d : Layout)
+    → CellFacts holds (nth_type fs p) (get_or (nodes_in (kids_of l)) p d) found i p
 cells holds fs l places found i form h lt p m below d =
     let n : length (nodes_in (kids_of l)) ≡ field_count fs = kids-length fs (rows_of l) (nodes_in (kids_of l)) form.each in
     let flag : get_or (flags_of (field_count fs) places) p false ≡ true = flag-at (field_count fs) places p below ∙ flag-chosen places p m in
@@ -82,7 +84,9 @@ root-facts holds fs l found i form h lt = record {
       ∙ ap struct (all-values (kids_of l) store i 0 (cell_of found i) (λ j d below. f j (omega (arith, n)) d ∙ ap (λ k. marked (cell_of found i k)) (omega arith)))
       ∙ ap (λ k. struct (marked_all (vals_of (map (cell_of found i) (range_with_len 0 k))))) n
 
-select-facts : (holds : Option Store) (fs : Fields) (names : List Name) (l : Layout) (found : List (Option (List Val))) (i : ℕ) → have_fields names fs ≡ true → PlainForm fs l → AreFound holds (nodes_in (kids_of l)) (flags_of (field_count fs) (places_of fs (unary (Select names) root))) found → i < rows_of l → RowFacts holds fs (unary (Select names) root) l found i
+select-facts : (holds : Option Store) (fs : Fields) (names : List Name) (l : Layout) (found : List (Option (List Val))) (i : ℕ) → have_fields names fs ≡ true
+    → PlainForm fs l → AreFound holds (nodes_in (kids_of l)) (flags_of (field_count fs) (places_of fs (unary (Select names) root))) found → i < rows_of l
+    → RowFacts holds fs (unary (Select names) root) l found i
 select-facts holds fs names l found i have form h lt = record {
   there = λ p m. let r = In-map-back (field_place fs) p names m in subst (λ k. HasRow (get_or found k None) i) (sym r.2) (facts r.0 r.1 l).there;
   fit = some-fit names fs (cell_of found i) (λ n m. subst (λ t. fits (marked (cell_of found i (field_place fs n))) t ≡ true) (sym (type-there fs n (have-each names fs have n m))) (facts n m l).fit);
@@ -91,13 +95,18 @@ select-facts holds fs names l found i have form h lt = record {
   facts : (n : Name) → In n names → (d : Layout) → CellFacts holds (nth_type fs (field_place fs n)) (get_or (nodes_in (kids_of l)) (field_place fs n) d) found i (field_place fs n)
   facts n m d = cells holds fs l (map (field_place fs) names) found i form h lt (field_place fs n) (In-map (field_place fs) n names m) (place-below fs n (have-each names fs have n m)) d
 
-  go : (holds : Option Store) → ((n : Name) → In n names → (d : Layout) → IfSome holds (λ store. row_value (get_or (nodes_in (kids_of l)) (field_place fs n) d) store i ≡ marked (cell_of found i (field_place fs n)))) → IfSome holds (λ store. eval (struct_type fs NonNullable) (unary (Select names) root) (row_value l store i) i ≡ marked (row_of found (map (field_place fs) names) i))
+  go : (holds : Option Store) → ((n : Name) → In n names → (d : Layout)
+      → IfSome holds (λ store. row_value (get_or (nodes_in (kids_of l)) (field_place fs n) d) store i ≡ marked (cell_of found i (field_place fs n))))
+      → IfSome holds (λ store. eval (struct_type fs NonNullable) (unary (Select names) root) (row_value l store i) i ≡ marked
+      (row_of found (map (field_place fs) names) i))
   go None f = tt
   go (Some store) f =
       ap (λ z. eval (struct_type fs NonNullable) (unary (Select names) root) (row_value z store i) i) form.is
       ∙ ap struct (some-values names fs (row_values (kids_of l) store i) (cell_of found i) (λ n m. pick-at fs (kids_of l) (rows_of l) n store i l form.each (have-each names fs have n m) ∙ f n m l))
 
-pub row-facts : (holds : Option Store) (fs : Fields) (e : Expr) (l : Layout) (found : List (Option (List Val))) (i : ℕ) → Chooses e → bind_fault (struct_type fs NonNullable) e ≡ None → PlainForm fs l → AreFound holds (nodes_in (kids_of l)) (flags_of (field_count fs) (places_of fs e)) found → i < rows_of l → RowFacts holds fs e l found i
+pub row-facts : (holds : Option Store) (fs : Fields) (e : Expr) (l : Layout) (found : List (Option (List Val))) (i : ℕ) → Chooses e
+    → bind_fault (struct_type fs NonNullable) e ≡ None → PlainForm fs l
+    → AreFound holds (nodes_in (kids_of l)) (flags_of (field_count fs) (places_of fs e)) found → i < rows_of l → RowFacts holds fs e l found i
 row-facts holds fs e l found i (inl is) typed form h lt =
     subst (λ z. RowFacts holds fs z l found i) (sym is) (root-facts holds fs l found i form (subst (λ z. AreFound holds (nodes_in (kids_of l)) (flags_of (field_count fs) (places_of fs z)) found) is h) lt)
 row-facts holds fs e l found i (inr (names, is)) typed form h lt =
@@ -142,7 +151,9 @@ whole-chunks file count d value (Some chunk) h = λ k e lt. one k e lt where
   one zero e lt = is
   one (suc k) e lt = absurd (omega arith)
 
-pub scanned : (holds : Option Store) (l : Layout) (fs : Fields) (b : Bound) (file : ℕ) (value : ℕ → Val) (c : Option ChunkData) → IsWhole file (rows_of l) (infer b.scope b.expr) value c → ((i : ℕ) → i < rows_of l → IfSome holds (λ store. eval b.scope b.expr (row_value l store i) i ≡ marked (value i))) → IsScanned holds l b file c
+pub scanned : (holds : Option Store) (l : Layout) (fs : Fields) (b : Bound) (file : ℕ) (value : ℕ → Val) (c : Option ChunkData)
+    → IsWhole file (rows_of l) (infer b.scope b.expr) value c
+    → ((i : ℕ) → i < rows_of l → IfSome holds (λ store. eval b.scope b.expr (row_value l store i) i ≡ marked (value i))) → IsScanned holds l b file c
 scanned holds l fs b file value c w h = record { items = go holds h; chunks = whole-chunks file (rows_of l) (infer b.scope b.expr) value c w } where
   go : (holds : Option Store) → ((i : ℕ) → i < rows_of l → IfSome holds (λ store. eval b.scope b.expr (row_value l store i) i ≡ marked (value i))) → IfSome holds (λ store. items_in c ≡ map (row_item b file l store) (range_with_len 0 (rows_of l)))
   go None h = tt

@@ -39,7 +39,9 @@ greatest-below (e ∷ es) n y i h w = go (λ m q r. greatest-below es m y i q r)
   step (inl p) = ((λ q. omega arith), inl p)
   step (inr (p, q)) = let b = between i y e es p q in (b.here, inr (p, b.rest))
 
-  go : ((m : ℕ) → m ≤ i → (y ≤ i) ⊎ ((i ≤ y) × (split_of es i ≡ split_of es y)) → greatest m (filter (λ e. nat_le e y) es) ≤ i) → (x : Bool) → nat_le e y ≡ x → (e ≤ y → e ≤ i) × ((y ≤ i) ⊎ ((i ≤ y) × (split_of es i ≡ split_of es y))) → greatest n (if x then e ∷ filter (λ e. nat_le e y) es else filter (λ e. nat_le e y) es) ≤ i
+  go : ((m : ℕ) → m ≤ i → (y ≤ i) ⊎ ((i ≤ y) × (split_of es i ≡ split_of es y)) → greatest m (filter (λ e. nat_le e y) es) ≤ i) → (x : Bool) → nat_le e y ≡ x
+      → (e ≤ y → e ≤ i) × ((y ≤ i) ⊎ ((i ≤ y) × (split_of es i ≡ split_of es y)))
+      → greatest n (if x then e ∷ filter (λ e. nat_le e y) es else filter (λ e. nat_le e y) es) ≤ i
   go ih true p (here, rest) = let le : e ≤ y = grind (arith, nat_tests) in let f : e ≤ i = here le in ih (max n e) (omega arith) rest
   go ih false p (here, rest) = ih n h rest
 
@@ -53,7 +55,9 @@ least-above (e ∷ es) n y i h w = go (λ m q r. least-above es m y i q r) (nat_
     above f lt (inl r) = r
     above f lt (inr r) = let g : e ≤ y = f r in absurd (omega arith)
 
-  go : ((m : ℕ) → i < m → (i ≤ y) ⊎ ((y ≤ i) × (split_of es y ≡ split_of es i)) → i < least m (filter (λ e. nat_lt y e) es)) → (x : Bool) → nat_lt y e ≡ x → (y < e → i < e) × ((i ≤ y) ⊎ ((y ≤ i) × (split_of es y ≡ split_of es i))) → i < least n (if x then e ∷ filter (λ e. nat_lt y e) es else filter (λ e. nat_lt y e) es)
+  go : ((m : ℕ) → i < m → (i ≤ y) ⊎ ((y ≤ i) × (split_of es y ≡ split_of es i)) → i < least m (filter (λ e. nat_lt y e) es)) → (x : Bool) → nat_lt y e ≡ x
+      → (y < e → i < e) × ((i ≤ y) ⊎ ((y ≤ i) × (split_of es y ≡ split_of es i)))
+      → i < least n (if x then e ∷ filter (λ e. nat_lt y e) es else filter (λ e. nat_lt y e) es)
   go ih true p (here, rest) = let lt : y < e = grind (arith, nat_tests) in let f : i < e = here lt in ih (min n e) (omega arith) rest
   go ih false p (here, rest) = ih n h rest
 

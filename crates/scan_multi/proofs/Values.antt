@@ -39,7 +39,9 @@ segment-read store t y s i xs lt e = go (s.1 == 0) refl e where
 pub leaf-column : (store : Store) (t : DataType) (y : Spelling) (segments : List (ℕ × ℕ)) (values : List Val) → column store t y segments ≡ Some values → (i : ℕ) → i < length values → leaf_value t store (places_of t y segments) i ≡ marked (get_or values i null_val)
 leaf-column store t y [] values e i lt = let none : [] ≡ values = cc in absurd (subst (λ cs. i < length cs → ⊥) none (λ h. omega arith) lt)
 leaf-column store t y (s ∷ rest) values e i lt = go (leaf-column store t y rest) (both-parts (segment_values store t y s) (column store t y rest) values e) where
-  go : ((ys : List Val) → column store t y rest ≡ Some ys → (j : ℕ) → j < length ys → leaf_value t store (places_of t y rest) j ≡ marked (get_or ys j null_val)) → ((xs : List Val) × (ys : List Val) × (segment_values store t y s ≡ Some xs) × (column store t y rest ≡ Some ys) × (values ≡ xs ++ ys)) → leaf_value t store (places_of t y (s ∷ rest)) i ≡ marked (get_or values i null_val)
+  go : ((ys : List Val) → column store t y rest ≡ Some ys → (j : ℕ) → j < length ys → leaf_value t store (places_of t y rest) j ≡ marked (get_or ys j null_val))
+      → ((xs : List Val) × (ys : List Val) × (segment_values store t y s ≡ Some xs) × (column store t y rest ≡ Some ys) × (values ≡ xs ++ ys))
+      → leaf_value t store (places_of t y (s ∷ rest)) i ≡ marked (get_or values i null_val)
   go ih (xs, ys, p, q, r) = cases (nat_lt i s.1) refl where
     n : length xs ≡ s.1
     n = segment-length store t y s xs p

@@ -12,7 +12,8 @@ use Rattle.scan_multi.specs.FileScan.{ids_of, chosen_in}
 abbrev rest : List (Rc Layout Global) → List Bool → ℕ → List Place
 rest rs flags k = chosen_places (layouts_of (drop k rs)) (drop k flags)
 
-taken : (rs : List (Rc Layout Global)) (flags : List Bool) (k : ℕ) (r : Rc Layout Global) → k < length rs → length rs ≡ length flags → r ≡ get_or rs k r → get_or flags k false ≡ true → rest rs flags k ≡ leaf_places (dtype_of r.value) (spelling_of r.value) (segments_of r.value) ++ rest rs flags (suc k)
+taken : (rs : List (Rc Layout Global)) (flags : List Bool) (k : ℕ) (r : Rc Layout Global) → k < length rs → length rs ≡ length flags → r ≡ get_or rs k r
+    → get_or flags k false ≡ true → rest rs flags k ≡ leaf_places (dtype_of r.value) (spelling_of r.value) (segments_of r.value) ++ rest rs flags (suc k)
 taken [] flags k r lt e is t = absurd (omega arith)
 taken (x ∷ rs) [] k r lt e is t = absurd (omega arith)
 taken (x ∷ rs) (true ∷ flags) zero r lt e is t = ap (λ (z : Rc Layout Global). leaf_places (dtype_of z.value) (spelling_of z.value) (segments_of z.value) ++ chosen_places (layouts_of rs) flags) (sym is)

@@ -12,5 +12,8 @@ read_dtype_within-returns-in-None t c =
 pub read_fields-loop-json-preserved : goal.read_fields-loop-json-preserved
 read_fields-loop-json-preserved t c = record {
   lengths = let a = c.in_ok-push.ensures.len in let b = c.in_ok-push-2.ensures.len in let e = c.loop-json.invariant.lengths in search (rules, e);
-  found = pairs_more (field_in (dtype_within c.args.levels)) c.args.list.now c.loop-json.names.items _ c.loop-json.dtypes.items _ c.loop-json.json-index c.json-item.result c.in_ok-name.name c.in_ok-name.dtype (omega arith) c.json-item.is c.loop-json.invariant.lengths c.in_ok-push.ensures.items c.in_ok-push-2.ensures.items c.loop-json.invariant.found c.in_ok-name.ensures;
+  found = pairs_more (field_in (dtype_within c.args.levels)) c.args.list.now c.loop-json.names.items _ c.loop-json.dtypes.items _ c.loop-json.json-index
+      c.json-item.result c.in_ok-name.name c.in_ok-name.dtype
+      (omega arith) c.json-item.is c.loop-json.invariant.lengths c.in_ok-push.ensures.items c.in_ok-push-2.ensures.items c.loop-json.invariant.found
+      c.in_ok-name.ensures;
 }

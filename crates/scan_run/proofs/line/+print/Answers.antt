@@ -44,7 +44,9 @@ push_value-returns-in_err-push_struct-in-Struct-clause-front t c =
 pub push_value-returns-in_ok-push_struct-in-Struct-clause-front : goal.push_value-returns-in_ok-push_struct-in-Struct-clause-front
 push_value-returns-in_ok-push_struct-in-Struct-clause-front t c =
     subst (λ text. OnErr c.push_bytes-in-Struct-2.result (AppendsFront text c.args.out.now.items c.push_bytes-in-Struct-2.new.out.items)) (struct_is c.args.value.now c.in-Struct.values c.as_slice-in-Struct.result.now c.args.dtype.now c.in-Struct.is c.as_slice-in-Struct.ensures)
-    (err_then _ (codes "{") _ _ _ _ c.in_ok-push_bytes-in-Struct.ensures.ok (err_then _ (fields_text true (vals_of (map val_of c.as_slice-in-Struct.result.now)) (fields_in c.args.dtype.now)) _ _ _ _ c.in_ok-push_struct-in-Struct.ensures.ok (err_none _ (codes "}") _ _ c.push_bytes-in-Struct-2.ensures.err)))
+    (err_then _ (codes "{") _ _ _ _ c.in_ok-push_bytes-in-Struct.ensures.ok (err_then _
+    (fields_text true (vals_of (map val_of c.as_slice-in-Struct.result.now)) (fields_in c.args.dtype.now)) _ _ _ _ c.in_ok-push_struct-in-Struct.ensures.ok
+    (err_none _ (codes "}") _ _ c.push_bytes-in-Struct-2.ensures.err)))
 
 pub push_elements-push_value-requires : goal.push_elements-push_value-requires
 push_elements-push_value-requires t c = (let e = one_size c.args.values.now c.loop-i.i c.index-values-i.result (omega arith) c.index-values-i.is in omega arith, tt)
@@ -58,10 +60,14 @@ push_elements-returns-in_err-push_comma-clause-front t c = on_err _ _ (front_kep
 pub push_elements-returns-in_err-push_value-clause-front : goal.push_elements-returns-in_err-push_value-clause-front
 push_elements-returns-in_err-push_value-clause-front t c =
     let step = elements_step c.args.values.now c.loop-i.i c.index-values-i.result (c.loop-i.i == 0) c.args.element.now (omega arith) c.index-values-i.is in
-    on_err _ _ (front_next _ (comma (c.loop-i.i == 0) ++ value_text (val_of c.index-values-i.result) c.args.element.now) _ _ c.loop-i.out.items _ (c.loop-i.invariant.0 ∙ ap (λ xs. c.loop-i.out.items ++ xs) step) c.loop-i.invariant.1 (front_then (comma (c.loop-i.i == 0)) _ _ _ _ c.in_ok-push_comma.ensures.ok c.in_err-push_value.ensures.front))
+    on_err _ _ (front_next _ (comma (c.loop-i.i == 0) ++ value_text (val_of c.index-values-i.result) c.args.element.now) _ _ c.loop-i.out.items _
+    (c.loop-i.invariant.0 ∙ ap (λ xs. c.loop-i.out.items ++ xs) step) c.loop-i.invariant.1
+    (front_then (comma (c.loop-i.i == 0)) _ _ _ _ c.in_ok-push_comma.ensures.ok c.in_err-push_value.ensures.front))
 
 pub push_elements-loop-i-preserved : goal.push_elements-loop-i-preserved
-push_elements-loop-i-preserved t c = elements_more c.args.values.now c.loop-i.i c.index-values-i.result c.args.element.now _ _ c.push_comma.new.out.items c.push_value.new.out.items c.loop-i.out.items (omega arith) c.index-values-i.is c.loop-i.invariant.0 c.loop-i.invariant.1 c.in_ok-push_comma.ensures.ok c.in_ok-push_value.ensures.ok
+push_elements-loop-i-preserved t c = elements_more c.args.values.now c.loop-i.i c.index-values-i.result c.args.element.now _ _ c.push_comma.new.out.items
+    c.push_value.new.out.items c.loop-i.out.items
+    (omega arith) c.index-values-i.is c.loop-i.invariant.0 c.loop-i.invariant.1 c.in_ok-push_comma.ensures.ok c.in_ok-push_value.ensures.ok
 
 pub push_field-returns-in_err-push_comma-clause-front : goal.push_field-returns-in_err-push_comma-clause-front
 push_field-returns-in_err-push_comma-clause-front t c = on_err _ _ (front_none _ _ _ c.in_err-push_comma.ensures.err)

@@ -18,7 +18,9 @@ returns-in_err-push_byte-clause-front c = on_err _ _ (front_kept _ _ _ _ _ c.run
 
 pub runs-preserved-then-n-eq0 : goal.runs-preserved-then-n-eq0
 runs-preserved-then-n-eq0 c =
-    let next = next_piece (quoted c.args.text.now) (flat_map escaped (drop (c.runs.start + 1) c.args.text.now)) (codes "\"") c.args.out.now.items c.runs.out.items c.push_byte.new.out.items _ _ (byte_piece c.args.text.now c.runs.start (omega arith)) c.runs.invariant.0 c.runs.invariant.1 c.in_ok-push_byte.ensures.ok in
+    let next = next_piece (quoted c.args.text.now) (flat_map escaped (drop (c.runs.start + 1) c.args.text.now))
+    (codes "\"") c.args.out.now.items c.runs.out.items c.push_byte.new.out.items _ _
+    (byte_piece c.args.text.now c.runs.start (omega arith)) c.runs.invariant.0 c.runs.invariant.1 c.in_ok-push_byte.ensures.ok in
     (next.0, next.1, omega arith)
 
 pub returns-in_err-push_bytes-2-clause-front : goal.returns-in_err-push_bytes-2-clause-front
@@ -26,7 +28,10 @@ returns-in_err-push_bytes-2-clause-front c = on_err _ _ (front_kept _ _ _ _ _ c.
 
 pub runs-preserved : goal.runs-preserved
 runs-preserved c =
-    let next = next_piece (quoted c.args.text.now) (flat_map escaped (drop (c.runs.start + c.plain_length-n.result) c.args.text.now)) (codes "\"") c.args.out.now.items c.runs.out.items c.push_bytes-else-n-eq0.new.out.items _ _ (run_piece c.args.text.now _ c.runs.start c.plain_length-n.result (rest_is c.args.text.now c.runs.start) c.plain_length-n.ensures.plain) c.runs.invariant.0 c.runs.invariant.1 c.in_ok-push_bytes-2.ensures.ok in
+    let next = next_piece (quoted c.args.text.now) (flat_map escaped (drop (c.runs.start + c.plain_length-n.result) c.args.text.now))
+    (codes "\"") c.args.out.now.items c.runs.out.items c.push_bytes-else-n-eq0.new.out.items _ _
+    (run_piece c.args.text.now _ c.runs.start c.plain_length-n.result (rest_is c.args.text.now c.runs.start) c.plain_length-n.ensures.plain)
+    c.runs.invariant.0 c.runs.invariant.1 c.in_ok-push_bytes-2.ensures.ok in
     (next.0, next.1, omega arith)
 
 pub returns-clause-ok : goal.returns-clause-ok

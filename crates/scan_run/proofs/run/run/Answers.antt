@@ -37,7 +37,9 @@ pub returns-then-not-is_scan-clause-statuses : goal.returns-then-not-is_scan-cla
 returns-then-not-is_scan-clause-statuses g c = omega arith
 
 pub returns-in-Ok-write_all-clause-done : goal.returns-in-Ok-write_all-clause-done
-returns-in-Ok-write_all-clause-done g c = λ e. ready_done c.in-Ok.text.items c.as_slice.result.now (g.I.Input.input c.args.input.now) (g.I.Input.input c.take_text.new.input) (g.O.Output.output c.args.output.now) (g.O.Output.output c.write_all.new.output) c.as_slice.ensures.value c.in-Ok.ensures.ok c.in-Ok-write_all.ensures.ok
+returns-in-Ok-write_all-clause-done g c = λ e. ready_done c.in-Ok.text.items c.as_slice.result.now (g.I.Input.input c.args.input.now)
+    (g.I.Input.input c.take_text.new.input) (g.O.Output.output c.args.output.now)
+    (g.O.Output.output c.write_all.new.output) c.as_slice.ensures.value c.in-Ok.ensures.ok c.in-Ok-write_all.ensures.ok
 
 pub returns-in-Ok-write_all-clause-words : goal.returns-in-Ok-write_all-clause-words
 returns-in-Ok-write_all-clause-words g c = (λ e. absurd (omega arith), λ h. cc (c.is_scan.ensures, c.if-not-is_scan.false))
@@ -64,7 +66,9 @@ pub returns-in-Ok-write_all-clause-unwritten : goal.returns-in-Ok-write_all-clau
 returns-in-Ok-write_all-clause-unwritten g c = λ e. absurd (omega arith)
 
 pub returns-in-Ok-write_all-clause-front : goal.returns-in-Ok-write_all-clause-front
-returns-in-Ok-write_all-clause-front g c = ready_front c.in-Ok.text.items c.as_slice.result.now (g.I.Input.input c.args.input.now) (g.I.Input.input c.take_text.new.input) (g.O.Output.output c.args.output.now) (g.O.Output.output c.write_all.new.output) c.as_slice.ensures.value c.in-Ok.ensures.ok c.write_all.ensures.front
+returns-in-Ok-write_all-clause-front g c = ready_front c.in-Ok.text.items c.as_slice.result.now (g.I.Input.input c.args.input.now)
+    (g.I.Input.input c.take_text.new.input) (g.O.Output.output c.args.output.now)
+    (g.O.Output.output c.write_all.new.output) c.as_slice.ensures.value c.in-Ok.ensures.ok c.write_all.ensures.front
 
 pub returns-in-Ok-write_all-clause-statuses : goal.returns-in-Ok-write_all-clause-statuses
 returns-in-Ok-write_all-clause-statuses g c = omega arith
@@ -97,7 +101,9 @@ pub returns-in-Err-Failed-clause-unwritten : goal.returns-in-Err-Failed-clause-u
 returns-in-Err-Failed-clause-unwritten g c = λ e. inl (c.in-Err-Failed.ensures.failed (ap Err c.in-Err-Failed.field-0-is))
 
 pub returns-in-Err-Failed-clause-front : goal.returns-in-Err-Failed-clause-front
-returns-in-Err-Failed-clause-front g c = ready_front c.in-Ok.text.items c.as_slice.result.now (g.I.Input.input c.args.input.now) (g.I.Input.input c.take_text.new.input) (g.O.Output.output c.args.output.now) (g.O.Output.output c.write_all.new.output) c.as_slice.ensures.value c.in-Ok.ensures.ok c.write_all.ensures.front
+returns-in-Err-Failed-clause-front g c = ready_front c.in-Ok.text.items c.as_slice.result.now (g.I.Input.input c.args.input.now)
+    (g.I.Input.input c.take_text.new.input) (g.O.Output.output c.args.output.now)
+    (g.O.Output.output c.write_all.new.output) c.as_slice.ensures.value c.in-Ok.ensures.ok c.write_all.ensures.front
 
 pub returns-in-Err-Failed-clause-statuses : goal.returns-in-Err-Failed-clause-statuses
 returns-in-Err-Failed-clause-statuses g c = omega arith
@@ -130,7 +136,8 @@ pub returns-in-Ok-clause-unwritten : goal.returns-in-Ok-clause-unwritten
 returns-in-Ok-clause-unwritten g c = λ e. absurd (omega arith)
 
 pub returns-in-Ok-clause-front : goal.returns-in-Ok-clause-front
-returns-in-Ok-clause-front g c = ready_front c.in-Ok.text.items c.as_slice.result.now (g.I.Input.input c.args.input.now) (g.I.Input.input c.take_text.new.input) (g.O.Output.output c.args.output.now) (g.O.Output.output c.write_all.new.output) c.as_slice.ensures.value c.in-Ok.ensures.ok c.write_all.ensures.front
+returns-in-Ok-clause-front g c = ready_front c.in-Ok.text.items c.as_slice.result.now (g.I.Input.input c.args.input.now) (g.I.Input.input c.take_text.new.input)
+    (g.O.Output.output c.args.output.now) (g.O.Output.output c.write_all.new.output) c.as_slice.ensures.value c.in-Ok.ensures.ok c.write_all.ensures.front
 
 pub returns-in-Ok-clause-statuses : goal.returns-in-Ok-clause-statuses
 returns-in-Ok-clause-statuses g c = omega arith

@@ -11,7 +11,10 @@ wants-preserved g c =
     record {
       held = held-less c.pop.new.self.items c.in-Some.want c.wants.requests.table c.drop_holder.new.self held c.drop_holder.ensures.step;
       agree = c.drop_holder.ensures.agree;
-      asks = asks-on [] [] (g.S.SegmentSource.state c.args.source.now) (g.S.SegmentSource.state c.wants.source) (g.S.SegmentSource.state c.drop_holder.new.source) c.wants.invariant.asks (asks-drops c.in-Some.want.holder.id (g.S.SegmentSource.state c.wants.source) (g.S.SegmentSource.state c.drop_holder.new.source) c.drop_holder.ensures.source);
+      asks = asks-on [] [] (g.S.SegmentSource.state c.args.source.now) (g.S.SegmentSource.state c.wants.source)
+          (g.S.SegmentSource.state c.drop_holder.new.source) c.wants.invariant.asks
+          (asks-drops c.in-Some.want.holder.id (g.S.SegmentSource.state c.wants.source)
+          (g.S.SegmentSource.state c.drop_holder.new.source) c.drop_holder.ensures.source);
     }
 
 pub returns : goal.returns

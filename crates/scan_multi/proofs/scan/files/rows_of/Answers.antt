@@ -22,14 +22,19 @@ chunk_of-requires-clause-rows c =
     let k : layouts_of c.as_slice-children.result.now ≡ nodes_in (kids_of c.args.layout.now) = c.as_slice-children.ensures ∙ sym (nodes-in c.layout.inside.children) ∙ ap (λ l. nodes_in (kids_of l)) c.layout.view_is in
     let n : c.layout.inside.row_count ≡ rows_of c.args.layout.now = ap rows_of c.layout.view_is in
     let h : AreFound (Some (store_of c.args.came.now.entries)) (nodes_in (kids_of c.args.layout.now)) c.args.plan.now.chosen.items c.in-Ok.columns.items = rw (k, c.as_slice.ensures.value) at c.in-Ok.ensures.ok in
-    rw (n, c.as_slice-in-Ok.ensures.value, c.as_slice-in-Ok-2.ensures.value) (λ i lt. rows-there c.args.plan.now.projection.scope c.args.plan.now.request.now c.args.plan.now.projection c.args.plan.now.places.items c.args.plan.now.chosen.items c.args.layout.now c.requires.plan c.requires.form (Some (store_of c.args.came.now.entries)) c.in-Ok.columns.items i h lt)
+    rw (n, c.as_slice-in-Ok.ensures.value, c.as_slice-in-Ok-2.ensures.value)
+    (λ i lt. rows-there c.args.plan.now.projection.scope c.args.plan.now.request.now c.args.plan.now.projection c.args.plan.now.places.items
+    c.args.plan.now.chosen.items c.args.layout.now c.requires.plan c.requires.form (Some (store_of c.args.came.now.entries)) c.in-Ok.columns.items i h lt)
 
 pub chunk_of-requires-clause-fit : goal.chunk_of-requires-clause-fit
 chunk_of-requires-clause-fit c =
     let k : layouts_of c.as_slice-children.result.now ≡ nodes_in (kids_of c.args.layout.now) = c.as_slice-children.ensures ∙ sym (nodes-in c.layout.inside.children) ∙ ap (λ l. nodes_in (kids_of l)) c.layout.view_is in
     let n : c.layout.inside.row_count ≡ rows_of c.args.layout.now = ap rows_of c.layout.view_is in
     let h : AreFound (Some (store_of c.args.came.now.entries)) (nodes_in (kids_of c.args.layout.now)) c.args.plan.now.chosen.items c.in-Ok.columns.items = rw (k, c.as_slice.ensures.value) at c.in-Ok.ensures.ok in
-    λ i lt. row-fits-of c.args.plan.now.projection.scope c.args.plan.now.request.now c.args.plan.now.projection c.args.plan.now.places.items c.args.plan.now.chosen.items c.args.layout.now c.requires.plan c.requires.form (Some (store_of c.args.came.now.entries)) c.in-Ok.columns.items c.as_slice-in-Ok.result.now c.as_slice-in-Ok-2.result.now c.dtype-given.result.now c.layout.inside.row_count i h c.as_slice-in-Ok.ensures.value c.as_slice-in-Ok-2.ensures.value c.dtype-given.ensures.dtype n lt
+    λ i lt. row-fits-of c.args.plan.now.projection.scope c.args.plan.now.request.now c.args.plan.now.projection c.args.plan.now.places.items
+    c.args.plan.now.chosen.items c.args.layout.now c.requires.plan c.requires.form
+    (Some (store_of c.args.came.now.entries)) c.in-Ok.columns.items c.as_slice-in-Ok.result.now c.as_slice-in-Ok-2.result.now c.dtype-given.result.now
+    c.layout.inside.row_count i h c.as_slice-in-Ok.ensures.value c.as_slice-in-Ok-2.ensures.value c.dtype-given.ensures.dtype n lt
 
 pub returns-in-Err-clause-err : goal.returns-in-Err-clause-err
 returns-in-Err-clause-err c =
@@ -41,5 +46,7 @@ returns-in_ok-chunk_of-in-Ok-clause-ok c =
     let k : layouts_of c.as_slice-children.result.now ≡ nodes_in (kids_of c.args.layout.now) = c.as_slice-children.ensures ∙ sym (nodes-in c.layout.inside.children) ∙ ap (λ l. nodes_in (kids_of l)) c.layout.view_is in
     let n : c.layout.inside.row_count ≡ rows_of c.args.layout.now = ap rows_of c.layout.view_is in
     let h : AreFound (Some (store_of c.args.came.now.entries)) (nodes_in (kids_of c.args.layout.now)) c.args.plan.now.chosen.items c.in-Ok.columns.items = rw (k, c.as_slice.ensures.value) at c.in-Ok.ensures.ok in
-    λ holds same. whole-scan-of c.args.plan.now.projection.scope c.args.plan.now.request.now c.args.plan.now.projection c.args.plan.now.places.items c.args.plan.now.chosen.items c.args.layout.now c.requires.plan c.requires.form holds c.in-Ok.columns.items c.as_slice-in-Ok.result.now c.as_slice-in-Ok-2.result.now c.dtype-given.result.now c.layout.inside.row_count c.args.file _
+    λ holds same. whole-scan-of c.args.plan.now.projection.scope c.args.plan.now.request.now c.args.plan.now.projection c.args.plan.now.places.items
+    c.args.plan.now.chosen.items c.args.layout.now c.requires.plan c.requires.form holds c.in-Ok.columns.items c.as_slice-in-Ok.result.now
+    c.as_slice-in-Ok-2.result.now c.dtype-given.result.now c.layout.inside.row_count c.args.file _
     (found_as_held (store_of c.args.came.now.entries) holds (nodes_in (kids_of c.args.layout.now)) c.args.plan.now.chosen.items c.in-Ok.columns.items same h) c.as_slice-in-Ok.ensures.value c.as_slice-in-Ok-2.ensures.value c.dtype-given.ensures.dtype n c.in_ok-chunk_of-in-Ok.ensures

@@ -15,12 +15,19 @@ returns-in-Some-clause-moves g c =
 
 pub returns-in-Some-clause-cause : goal.returns-in-Some-clause-cause
 returns-in-Some-clause-cause g c =
-    let h : IsChecked c.args.place c.args.plan.now.projection.scope c.in-Layout.layout.value (Some c.in-Some.fault) = subst (λ z. IsChecked c.args.place z c.in-Layout.layout.value (Some c.in-Some.fault)) c.scope.ensures (subst (λ z. IsChecked c.args.place c.scope.result.now z (Some c.in-Some.fault)) c.deref.ensures c.in-Some.ensures) in
-    fault-cause g.O.LayoutReaderFactory.opener g.S.SegmentSource.state c.args.plan.now.projection.scope c.args.plan.now.request.now c.args.plan.now.projection c.args.plan.now.places.items c.args.plan.now.chosen.items c.requires.plan (g.C.KeyedSegmentCache.cache c.args.cache.now) c.args.file.now c.open_file.new.opener c.in-Layout.layout.value c.args.place c.in-Some.fault c.in-Layout.ensures.1 h
+    let h : IsChecked c.args.place c.args.plan.now.projection.scope c.in-Layout.layout.value (Some c.in-Some.fault) =
+    subst (λ z. IsChecked c.args.place z c.in-Layout.layout.value (Some c.in-Some.fault)) c.scope.ensures
+    (subst (λ z. IsChecked c.args.place c.scope.result.now z (Some c.in-Some.fault)) c.deref.ensures c.in-Some.ensures) in
+    fault-cause g.O.LayoutReaderFactory.opener g.S.SegmentSource.state c.args.plan.now.projection.scope c.args.plan.now.request.now c.args.plan.now.projection
+    c.args.plan.now.places.items c.args.plan.now.chosen.items c.requires.plan
+    (g.C.KeyedSegmentCache.cache c.args.cache.now) c.args.file.now c.open_file.new.opener c.in-Layout.layout.value c.args.place c.in-Some.fault
+    c.in-Layout.ensures.1 h
 
 pub returns-in-Some-clause-named : goal.returns-in-Some-clause-named
 returns-in-Some-clause-named g c =
-    let h : IsChecked c.args.place c.args.plan.now.projection.scope c.in-Layout.layout.value (Some c.in-Some.fault) = subst (λ z. IsChecked c.args.place z c.in-Layout.layout.value (Some c.in-Some.fault)) c.scope.ensures (subst (λ z. IsChecked c.args.place c.scope.result.now z (Some c.in-Some.fault)) c.deref.ensures c.in-Some.ensures) in
+    let h : IsChecked c.args.place c.args.plan.now.projection.scope c.in-Layout.layout.value (Some c.in-Some.fault) =
+    subst (λ z. IsChecked c.args.place z c.in-Layout.layout.value (Some c.in-Some.fault)) c.scope.ensures
+    (subst (λ z. IsChecked c.args.place c.scope.result.now z (Some c.in-Some.fault)) c.deref.ensures c.in-Some.ensures) in
     fault-names c.args.plan.now.projection.scope c.in-Layout.layout.value c.args.place c.in-Some.fault h
 
 pub scan_opened-requires-clause-idle : goal.scan_opened-requires-clause-idle
@@ -39,17 +46,24 @@ scan_opened-requires-clause-form g c =
 pub returns-in-Layout-clause-moves : goal.returns-in-Layout-clause-moves
 returns-in-Layout-clause-moves g c =
     let form : first_fault c.in-Layout.layout.value c.args.plan.now.projection.scope ≡ None = rw (c.deref.ensures, c.scope.ensures) at c.in-None.ensures in
-    layout_moves g.O.LayoutReaderFactory.opener g.S.SegmentSource.state c.args.plan.now.projection.scope c.args.plan.now.request.now c.args.plan.now.projection c.args.plan.now.places.items c.args.plan.now.chosen.items c.requires.plan c.args.file.now _ _ c.in-Layout.layout.value c.args.file.now.source_id (g.C.KeyedSegmentCache.cache c.args.cache.now) (g.C.KeyedSegmentCache.cache c.scan_opened.new.cache) c.in-Layout.ensures.0 c.in-Layout.ensures.1 form c.requires.idle (rw c.deref-in-None.ensures at c.scan_opened.ensures.fetches)
+    layout_moves g.O.LayoutReaderFactory.opener g.S.SegmentSource.state c.args.plan.now.projection.scope c.args.plan.now.request.now c.args.plan.now.projection
+    c.args.plan.now.places.items c.args.plan.now.chosen.items c.requires.plan c.args.file.now _ _ c.in-Layout.layout.value c.args.file.now.source_id
+    (g.C.KeyedSegmentCache.cache c.args.cache.now) (g.C.KeyedSegmentCache.cache c.scan_opened.new.cache) c.in-Layout.ensures.0 c.in-Layout.ensures.1 form
+    c.requires.idle (rw c.deref-in-None.ensures at c.scan_opened.ensures.fetches)
 
 pub returns-in-Layout-clause-read : goal.returns-in-Layout-clause-read
 returns-in-Layout-clause-read g c =
     let form : first_fault c.in-Layout.layout.value c.args.plan.now.projection.scope ≡ None = rw (c.deref.ensures, c.scope.ensures) at c.in-None.ensures in
-    ok_always c.scan_opened.result (IfSome (g.O.LayoutReaderFactory.opener c.args.file.now.opener).gives (IsSkippedOrRead c.args.plan.now.projection.scope)) (read-layout c.args.plan.now.projection.scope (g.O.LayoutReaderFactory.opener c.args.file.now.opener).gives c.in-Layout.layout.value c.in-Layout.ensures.1 form)
+    ok_always c.scan_opened.result (IfSome (g.O.LayoutReaderFactory.opener c.args.file.now.opener).gives (IsSkippedOrRead c.args.plan.now.projection.scope))
+    (read-layout c.args.plan.now.projection.scope
+    (g.O.LayoutReaderFactory.opener c.args.file.now.opener).gives c.in-Layout.layout.value c.in-Layout.ensures.1 form)
 
 pub returns-in-Layout-clause-ok : goal.returns-in-Layout-clause-ok
 returns-in-Layout-clause-ok g c =
     let form : first_fault c.in-Layout.layout.value c.args.plan.now.projection.scope ≡ None = rw (c.deref.ensures, c.scope.ensures) at c.in-None.ensures in
-    IfOk-weaker c.scan_opened.result _ _ (λ r h told trust. layout_given g.O.LayoutReaderFactory.opener g.S.SegmentSource.state c.args.plan.now.projection.scope c.args.plan.now.request.now c.args.plan.now.projection c.args.plan.now.places.items c.args.plan.now.chosen.items c.requires.plan c.args.file.now c.in-Layout.layout.value c.args.place r.chunk c.in-Layout.ensures.1 form (h trust) told) (rw c.deref-in-None.ensures at c.scan_opened.ensures.ok)
+    IfOk-weaker c.scan_opened.result _ _ (λ r h told trust. layout_given g.O.LayoutReaderFactory.opener g.S.SegmentSource.state c.args.plan.now.projection.scope
+    c.args.plan.now.request.now c.args.plan.now.projection c.args.plan.now.places.items c.args.plan.now.chosen.items c.requires.plan c.args.file.now
+    c.in-Layout.layout.value c.args.place r.chunk c.in-Layout.ensures.1 form (h trust) told) (rw c.deref-in-None.ensures at c.scan_opened.ensures.ok)
 
 pub returns-in-Layout-clause-chunks : goal.returns-in-Layout-clause-chunks
 returns-in-Layout-clause-chunks g c =
@@ -58,7 +72,10 @@ returns-in-Layout-clause-chunks g c =
 pub returns-in-Layout-clause-cause : goal.returns-in-Layout-clause-cause
 returns-in-Layout-clause-cause g c =
     let form : first_fault c.in-Layout.layout.value c.args.plan.now.projection.scope ≡ None = rw (c.deref.ensures, c.scope.ensures) at c.in-None.ensures in
-    IfErr-weaker c.scan_opened.result _ _ (λ e h. layout_cause g.O.LayoutReaderFactory.opener g.S.SegmentSource.state c.args.plan.now.projection.scope c.args.plan.now.request.now c.args.plan.now.projection c.args.plan.now.places.items c.args.plan.now.chosen.items c.requires.plan (g.C.KeyedSegmentCache.cache c.args.cache.now) c.args.file.now _ _ c.in-Layout.layout.value c.args.place e c.in-Layout.ensures.1 form h) (rw c.deref-in-None.ensures at c.scan_opened.ensures.err)
+    IfErr-weaker c.scan_opened.result _ _ (λ e h. layout_cause g.O.LayoutReaderFactory.opener g.S.SegmentSource.state c.args.plan.now.projection.scope
+    c.args.plan.now.request.now c.args.plan.now.projection c.args.plan.now.places.items c.args.plan.now.chosen.items c.requires.plan
+    (g.C.KeyedSegmentCache.cache c.args.cache.now) c.args.file.now _ _ c.in-Layout.layout.value c.args.place e c.in-Layout.ensures.1 form h)
+    (rw c.deref-in-None.ensures at c.scan_opened.ensures.err)
 
 pub returns-in-Layout-clause-named : goal.returns-in-Layout-clause-named
 returns-in-Layout-clause-named g c =
@@ -74,7 +91,9 @@ returns-in-Skipped-clause-read g c =
 
 pub returns-in-Skipped-clause-ok : goal.returns-in-Skipped-clause-ok
 returns-in-Skipped-clause-ok g c =
-    λ told trust. skip_given g.O.LayoutReaderFactory.opener g.S.SegmentSource.state c.args.plan.now.projection.scope c.args.plan.now.request.now c.args.plan.now.projection c.args.plan.now.places.items c.args.plan.now.chosen.items c.requires.plan c.args.file.now c.args.place c.in-Skipped.ensures.1 told
+    λ told trust. skip_given g.O.LayoutReaderFactory.opener g.S.SegmentSource.state c.args.plan.now.projection.scope c.args.plan.now.request.now
+    c.args.plan.now.projection c.args.plan.now.places.items c.args.plan.now.chosen.items c.requires.plan c.args.file.now c.args.place c.in-Skipped.ensures.1
+    told
 
 pub returns-in-Skipped-clause-chunks : goal.returns-in-Skipped-clause-chunks
 returns-in-Skipped-clause-chunks g c =

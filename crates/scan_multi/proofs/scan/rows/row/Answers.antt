@@ -7,4 +7,6 @@ use Rattle.scan_multi.proofs.scan.rows.row.Goals as goal
 pub loop-place-preserved : goal.loop-place-preserved
 loop-place-preserved c =
     rw (c.in_ok-push.ensures.items, map-append)
-    (mapped-more (cell_of c.args.columns.now c.args.row) c.args.places.now c.loop-place.place-index (get_or c.args.places.now c.loop-place.place-index 0) _ _ c.loop-place-test.true (get_or_default c.args.places.now c.loop-place.place-index 0 _ c.loop-place-test.true) c.loop-place.invariant c.in_ok-value.ensures)
+    (mapped-more (cell_of c.args.columns.now c.args.row) c.args.places.now c.loop-place.place-index
+    (get_or c.args.places.now c.loop-place.place-index 0) _ _ c.loop-place-test.true
+    (get_or_default c.args.places.now c.loop-place.place-index 0 _ c.loop-place-test.true) c.loop-place.invariant c.in_ok-value.ensures)
