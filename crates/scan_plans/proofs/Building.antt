@@ -18,7 +18,7 @@ use Rattle.scan_plans.specs.PlanTree.{leaf}
 use Rattle.scan_plans.specs.Came.{Came, arrived}
 use Rattle.scan_plans.specs.Meaning.{true_rows}
 use Rattle.scan_plans.specs.Wants.{leaf_wanted, part_of}
-use Rattle.scan_plans.specs.Reads.{fails, ReadsSegment, AddsSegment, AreValues, Reads}
+use Rattle.scan_plans.specs.Reads.{fails, AllDecode, ReadsSegment, AddsSegment, AreValues, Reads}
 use Rattle.scan_plans.specs.declared.fault.ReadFault.{ReadFault}
 use Rattle.scan_plans.specs.declared.fault.ReadFault.TheVariants.{Corrupt, Overflow, NoMemory}
 use Rattle.scan_plans.proofs.RowLemmas.{rows_part}
@@ -29,13 +29,21 @@ use Rattle.scan_plans.proofs.LeafWalk.{Segment, to_want, to_give, want_part, giv
 pub fails_append : (ps qs : List Place) (store : Store) (id : ℕ) → fails (ps ++ qs) store id ≡ (fails ps store id || fails qs store id)
 fails_append ps qs store id = list_any-append (λ (p : Place). (p.id == id) && is_none (decoded store p)) ps qs
 
-or_true : (b : Bool) → (b || true) ≡ true
-or_true true = refl
-or_true false = refl
-
 -- one place that fails
 pub fails_one : (p : Place) (store : Store) (id : ℕ) → id ≡ p.id → decoded store p ≡ None → fails (p ∷ []) store id ≡ true
 fails_one p store id e d = rw (e, eq-eqb p.id p.id refl, d) refl
+
+-- one place that decodes
+pub found_one : (p : Place) (store : Store) (b : Bool) → is_none (decoded store p) ≡ false → AllDecode (if b then p ∷ [] else []) store
+found_one p store b n = λ id. by b id
+  where
+    off : (c : Bool) → ((c && false) || false) ≡ false
+    off true = refl
+    off false = refl
+
+    by : (b : Bool) (id : ℕ) → fails (if b then p ∷ [] else []) store id ≡ false
+    by true id = ap (λ c. ((p.id == id) && c) || false) n ∙ off (p.id == id)
+    by false id = refl
 
 -- no row is true
 pub no_rows : (k : ℕ) (bits : List Bool) → list_any (λ b. b) bits ≡ false → true_rows k bits ≡ []
@@ -49,7 +57,11 @@ some_rows (b ∷ bits) h = omega arith
 
 -- ---- with a segment
 pub adds_none : (store : Store) (p : Place) (skip : ℕ) (bits : List Bool) (a : ArrayData) → a.dtype ≡ p.dtype → list_any (λ b. b) bits ≡ false → AddsSegment store p skip bits a (Ok a)
-adds_none store p skip bits a d none = (d, sym (append-nil (map marked a.items)) ∙ ap (λ is. map marked a.items ++ map (segment_value store p) is) (sym (no_rows skip bits none)))
+adds_none store p skip bits a d none = (
+  d,
+  sym (append-nil (map marked a.items)) ∙ ap (λ is. map marked a.items ++ map (segment_value store p) is) (sym (no_rows skip bits none)),
+  λ id. ap (λ b. fails (if b then p ∷ [] else []) store id) none,
+)
 
 pub adds_fault : (store : Store) (p : Place) (skip : ℕ) (bits : List Bool) (a : ArrayData) (f : ReadFault) → list_any (λ b. b) bits ≡ true → ReadsSegment store p skip bits (Err f) → AddsSegment store p skip bits a (Err f)
 adds_fault store p skip bits a (Corrupt id) some h = rw some (fails_one p store id h.0 h.1)
@@ -57,19 +69,23 @@ adds_fault store p skip bits a Overflow some h = h
 adds_fault store p skip bits a NoMemory some h = tt
 
 pub adds_some : (store : Store) (p : Place) (skip : ℕ) (bits : List Bool) (a b c : ArrayData) → a.dtype ≡ p.dtype → ReadsSegment store p skip bits (Ok b) → c ≡ of_parts a.dtype (a.items ++ b.items) → AddsSegment store p skip bits a (Ok c)
-adds_some store p skip bits a b c d h e = (ap (λ (x : ArrayData). x.dtype) e ∙ d, ap (λ (x : ArrayData). map marked x.items) e ∙ map-append marked a.items b.items ∙ ap (λ xs. map marked a.items ++ xs) h.1)
+adds_some store p skip bits a b c d h e = (
+  ap (λ (x : ArrayData). x.dtype) e ∙ d,
+  ap (λ (x : ArrayData). map marked x.items) e ∙ map-append marked a.items b.items ∙ ap (λ xs. map marked a.items ++ xs) h.1,
+  found_one p store (list_any (λ b. b) bits) h.2,
+)
 
 -- ---- a leaf, so far
 pub record Built (t : DataType) (a : ArrayData) (rest all : List Marked) (want wanted : List Place) (store : Store) : Type 0 where
   pub dtype : a.dtype ≡ t
   pub items : map marked a.items ++ rest ≡ all
-  pub failing : (id : ℕ) → fails want store id ≡ true → fails wanted store id ≡ true
+  pub same : (id : ℕ) → fails want store id ≡ fails wanted store id
 
 pub built_start : (t : DataType) (a : ArrayData) (rest all : List Marked) (want wanted : List Place) (store : Store) → a ≡ of_parts t [] → rest ≡ all → want ≡ wanted → Built t a rest all want wanted store
 built_start t a rest all want wanted store e r w = record {
   dtype = ap (λ (x : ArrayData). x.dtype) e;
   items = ap (λ (x : ArrayData). map marked x.items ++ rest) e ∙ r;
-  failing = λ id h. ap (λ ps. fails ps store id) (sym w) ∙ h;
+  same = λ id. ap (λ ps. fails ps store id) w;
 }
 
 -- the part of a segment
@@ -88,7 +104,9 @@ built_next d sp store gs first bits k o part from to all wanted a b h x y e l r 
       ∙ ap (λ xs. map marked a.items ++ (xs ++ to_give d sp store gs first bits (k + 1))) moved
       ∙ ap (λ xs. map marked a.items ++ xs) (sym (give_next d sp store gs first bits k o h))
       ∙ l.items;
-  failing = λ id f. l.failing id (ap (λ ps. fails ps store id) (want_part d sp gs first bits k o part from to h x y e) ∙ fails_append (if list_any (λ b. b) part then p ∷ [] else []) (to_want d sp gs first bits (k + 1)) store id ∙ rw f (or_true (fails (if list_any (λ b. b) part then p ∷ [] else []) store id)));
+  same = λ id.
+      sym (ap (λ ps. fails ps store id) (want_part d sp gs first bits k o part from to h x y e) ∙ fails_append (if list_any (λ b. b) part then p ∷ [] else []) (to_want d sp gs first bits (k + 1)) store id ∙ ap (λ b. b || fails (to_want d sp gs first bits (k + 1)) store id) (r.2 id))
+      ∙ l.same id;
 }
   where
     p : Place
@@ -105,7 +123,7 @@ pub built_fault : (d : DataType) (sp : Spelling) (here : Came) (gs : List Segmen
     → AddsSegment (arrived here) (place_of d sp (get_or gs k o)) (first - from) part a (Err f)
     → Reads (leaf d sp gs) here (true_rows first bits) (Err f)
 built_fault d sp here gs first bits k o part from to a (Corrupt id) h x y e l r = λ w. fails_spoils (leaf_wanted 0 (places_of d sp gs) (true_rows first bits)) here id (w id)
-    (l.failing id (ap (λ ps. fails ps (arrived here) id) (want_part d sp gs first bits k o part from to h x y e) ∙ fails_append (if list_any (λ b. b) part then place_of d sp (get_or gs k o) ∷ [] else []) (to_want d sp gs first bits (k + 1)) (arrived here) id ∙ rw r refl))
+    (sym (l.same id) ∙ ap (λ ps. fails ps (arrived here) id) (want_part d sp gs first bits k o part from to h x y e) ∙ fails_append (if list_any (λ b. b) part then place_of d sp (get_or gs k o) ∷ [] else []) (to_want d sp gs first bits (k + 1)) (arrived here) id ∙ rw r refl)
 built_fault d sp here gs first bits k o part from to a Overflow h x y e l r = absurd r
 built_fault d sp here gs first bits k o part from to a NoMemory h x y e l r = tt
 
@@ -113,12 +131,13 @@ never : (is : List ℕ) → list_any (λ i. false) is ≡ false
 never [] = refl
 never (i ∷ is) = never is
 
-pub built_end : (d : DataType) (sp : Spelling) (here : Came) (gs : List Segment) (is : List ℕ) (a : ArrayData) (rest : List Marked) (want wanted : List Place)
-    → Built d a rest (map (leaf_value d (arrived here) (places_of d sp gs)) is) want wanted (arrived here) → rest ≡ [] → AreValues (leaf d sp gs) here is a
-built_end d sp here gs is a rest want wanted l e = record {
+pub built_end : (d : DataType) (sp : Spelling) (here : Came) (gs : List Segment) (is : List ℕ) (a : ArrayData) (rest : List Marked) (want : List Place)
+    → Built d a rest (map (leaf_value d (arrived here) (places_of d sp gs)) is) want (leaf_wanted 0 (places_of d sp gs) is) (arrived here) → rest ≡ [] → want ≡ [] → AreValues (leaf d sp gs) here is a
+built_end d sp here gs is a rest want l e w = record {
   dtype = l.dtype;
   items = sym (append-nil (map marked a.items)) ∙ ap (λ xs. map marked a.items ++ xs) (sym e) ∙ l.items;
   within = never is;
+  found = λ id. sym (l.same id) ∙ ap (λ ps. fails ps (arrived here) id) w;
 }
 
 pub moved_adds : (store : Store) (p q : Place) (skip other : ℕ) (bits : List Bool) (a : ArrayData) (r : Result ArrayData ReadFault) → p ≡ q → skip ≡ other → AddsSegment store p skip bits a r → AddsSegment store q other bits a r

@@ -57,7 +57,8 @@ filled_next k ps here is cs p c h e f v = record {
   spilling = λ x. f.spilling (ap (λ xs. any_overflow_on (plans xs) (arrived here) is) (plans_next k ps p h e) ∙ rw x (or_true (overflow_on p (arrived here) is)));
 }
 
-pub filled_fault : {A : Type 0} (items : A → List ArrayData) (k : ℕ) (ps : List PlanTree) (here : Came) (is : List ℕ) (cs : List ArrayData) (p : PlanTree) (f : ReadFault) → k < length ps → p ≡ get_or ps k p → Filled k ps here is cs → Reads p here is (Err f) → ReadsAll items (plans ps) here is (Err f)
+pub filled_fault : {A : Type 0} (items : A → List ArrayData) (k : ℕ) (ps : List PlanTree) (here : Came) (is : List ℕ) (cs : List ArrayData) (p : PlanTree)
+    (f : ReadFault) → k < length ps → p ≡ get_or ps k p → Filled k ps here is cs → Reads p here is (Err f) → ReadsAll items (plans ps) here is (Err f)
 filled_fault items k ps here is cs p (Corrupt id) h e l r = λ w.
     let own = complete_left (wanted p here is) (all_wanted (plans (drop (k + 1) ps)) here is) here (subst (λ (xs : List PlanTree). Complete (all_wanted (plans xs) here is) here) (plans_next k ps p h e) (l.complete w)) in
     l.failing id (ap (λ (xs : List PlanTree). any_spoiled (plans xs) here is id) (plans_next k ps p h e) ∙ rw (r own) refl)

@@ -10,16 +10,18 @@ use Rattle.scan_values.specs.Selections.{is_among}
 use Rattle.scan_values.specs.Val.{Val, marked}
 use Rattle.scan_segments.specs.Source.{Store}
 use Rattle.scan_layout.specs.Places.{Place}
+use Rattle.scan_splits.specs.Wanted.{is_any}
 use Rattle.scan_plans.specs.PlanTree.{PlanTree}
 use Rattle.scan_plans.specs.Came.{Came, arrived, Holds}
 use Rattle.scan_plans.specs.Given.{AreLacking}
 use Rattle.scan_plans.specs.Masks.{Filter, kept, filtered, spilled, filters_wanted, filters_spoiled, filters_may, AreFilters}
 use Rattle.scan_plans.specs.Meaning.{value_at, overflow_on, true_rows}
-use Rattle.scan_plans.specs.Wants.{wanted, may, are_here, names_id, lacks, Complete, spoiled}
+use Rattle.scan_plans.specs.Wants.{wanted, may, are_here, names_id, lacks, Complete, spoils, spoiled}
 use Rattle.scan_plans.specs.Knowing.{RunsWell, Reaches, Spills}
 use Rattle.scan_plans.specs.Reads.{AreValues}
 use Rattle.scan_plans.proofs.Columns.{count_rows}
-use Rattle.scan_plans.proofs.Collecting.{lacks_append}
+use Rattle.scan_plans.proofs.Collecting.{lacks_append, spoils_append}
+use Rattle.scan_plans.proofs.Giving.{decodes_good}
 use Rattle.scan_plans.proofs.Transfer.{complete_here, items_same, overflow_on_same}
 
 or_false : (b : Bool) → (b || false) ≡ b
@@ -89,6 +91,15 @@ reach_lacks here bits (f ∷ fs) (suc n) new id r =
     lacks_append ws (if are_here ws here then filters_wanted here (kept f.0 (arrived here) f.1 bits) fs else []) here id
     ∙ rw ((r.0).0 id, complete_here ws here (r.0).0) (reach_lacks here (kept f.0 (arrived here) f.1 bits) fs n new id r.1)
 
+-- and of which nothing is bad
+pub reach_bad : (here : Came) (bits : List Bool) (fs : List Filter) (n : ℕ) (new : List Bool) (id : ℕ) → Reaches here bits fs n new → spoils (filters_wanted here bits fs) here id ≡ spoils (filters_wanted here new (drop n fs)) here id
+reach_bad here bits fs zero new id r = ap (λ (m : List Bool). spoils (filters_wanted here m fs) here id) (sym r)
+reach_bad here bits [] (suc n) new id r = absurd r
+reach_bad here bits (f ∷ fs) (suc n) new id r =
+    let ws = wanted f.0 here (true_rows f.1 bits) in
+    spoils_append ws (if are_here ws here then filters_wanted here (kept f.0 (arrived here) f.1 bits) fs else []) here id
+    ∙ rw ((r.0).2 id, complete_here ws here (r.0).0) (reach_bad here (kept f.0 (arrived here) f.1 bits) fs n new id r.1)
+
 pub reach_spoils : (here : Came) (bits : List Bool) (fs : List Filter) (n : ℕ) (new : List Bool) (id : ℕ) → Reaches here bits fs n new → filters_spoiled here new (drop n fs) id ≡ true → filters_spoiled here bits fs id ≡ true
 reach_spoils here bits fs zero new id r h = ap (λ (m : List Bool). filters_spoiled here m fs id) (sym r) ∙ h
 reach_spoils here bits [] (suc n) new id r h = absurd r
@@ -114,11 +125,11 @@ filters_drop (suc n) k [] a = a
 filters_drop (suc n) k (f ∷ fs) a = filters_drop n k fs a.1
 
 -- ---- one filter that lacks, or is no good, or overflows
-pub not_here : (ps : List Place) (here : Came) (ids : List ℕ) → AreLacking ps here ids → are_here ps here ≡ true → ⊥
-not_here ps here [] a h = let z = a.some in absurd cc
-not_here ps here (id ∷ ids) a h =
+pub not_here : (ps : List Place) (here : Came) (ids : List ℕ) → is_any ids ≡ true → ((id : ℕ) → is_among ids id ≡ lacks ps here id) → are_here ps here ≡ true → ⊥
+not_here ps here [] some exact h = absurd cc
+not_here ps here (id ∷ ids) some exact h =
     let there : is_among (id ∷ ids) id ≡ true = rw (eq-eqb id id refl) refl in
-    let lack : lacks ps here id ≡ true = sym (a.exact id) ∙ there in
+    let lack : lacks ps here id ≡ true = sym (exact id) ∙ there in
     let none = here_lacks ps here id h in
     let z : true ≡ false = sym lack ∙ none in absurd cc
   where
@@ -146,8 +157,12 @@ pub first_lacks : (here : Came) (bits : List Bool) (f : Filter) (fs : List Filte
 first_lacks here bits f fs ids a = by (are_here (wanted f.0 here (true_rows f.1 bits)) here) refl
   where
     by : (b : Bool) → are_here (wanted f.0 here (true_rows f.1 bits)) here ≡ b → AreLacking (wanted f.0 here (true_rows f.1 bits) ++ (if b then filters_wanted here (kept f.0 (arrived here) f.1 bits) fs else [])) here ids
-    by true e = absurd (not_here (wanted f.0 here (true_rows f.1 bits)) here ids a e)
-    by false e = record { some = a.some; exact = λ id. a.exact id ∙ sym (lacks_append (wanted f.0 here (true_rows f.1 bits)) [] here id ∙ or_false (lacks (wanted f.0 here (true_rows f.1 bits)) here id)) }
+    by true e = absurd (not_here (wanted f.0 here (true_rows f.1 bits)) here ids a.some a.exact e)
+    by false e = record {
+      some = a.some;
+      exact = λ id. a.exact id ∙ sym (lacks_append (wanted f.0 here (true_rows f.1 bits)) [] here id ∙ or_false (lacks (wanted f.0 here (true_rows f.1 bits)) here id));
+      good = λ id. spoils_append (wanted f.0 here (true_rows f.1 bits)) [] here id ∙ rw (a.good id) refl;
+    }
 
 pub first_spoils : (here : Came) (bits : List Bool) (f : Filter) (fs : List Filter) (id : ℕ) → spoiled f.0 here (true_rows f.1 bits) id ≡ true → filters_spoiled here bits (f ∷ fs) id ≡ true
 first_spoils here bits f fs id h = rw h refl
@@ -162,5 +177,7 @@ length-map f (x ∷ xs) = ap suc (length-map f xs)
 pub values_long : (p : PlanTree) (here : Came) (k : ℕ) (bits : List Bool) (a : ArrayData) → AreValues p here (true_rows k bits) a → length a.items ≡ true_count bits
 values_long p here k bits a v = sym (length-map marked a.items) ∙ ap length v.items ∙ length-map (value_at p (arrived here)) (true_rows k bits) ∙ sym (count_rows k bits)
 
-pub ran_well : (p : PlanTree) (here : Came) (k : ℕ) (bits : List Bool) (a : ArrayData) (new : List Bool) → Complete (wanted p here (true_rows k bits)) here → AreValues p here (true_rows k bits) a → new ≡ by_rank bits (map (λ v. is_true (marked v)) a.items) → RunsWell here bits (p, k) × (new ≡ kept p (arrived here) k bits)
-ran_well p here k bits a new c v e = ((c, v.within), e ∙ kept_read p (arrived here) k bits a.items v.items)
+pub ran_well : (p : PlanTree) (here : Came) (k : ℕ) (bits : List Bool) (a : ArrayData) (new : List Bool) → Complete (wanted p here (true_rows k bits)) here
+    → AreValues p here (true_rows k bits) a → new ≡ by_rank bits (map (λ v. is_true (marked v)) a.items)
+    → RunsWell here bits (p, k) × (new ≡ kept p (arrived here) k bits)
+ran_well p here k bits a new c v e = ((c, v.within, decodes_good (wanted p here (true_rows k bits)) here v.found), e ∙ kept_read p (arrived here) k bits a.items v.items)

@@ -39,7 +39,9 @@ gathers_next old now new rest p more all here is x e k c = record {
 pub gathers_end : {A : Type 0} (old now : List ℕ) (rest all : PlanTrees) (here : Came) (is : List ℕ) (x : A) → rest ≡ no_plans → Gathers old now rest all here is → CollectsAll old now all here is (Ok x)
 gathers_end old now rest all here is x e k = λ id. sym (or_false (is_among now id)) ∙ ap (λ (ps : PlanTrees). is_among now id || lacks (all_wanted ps here is) here id) (sym e) ∙ k.lacking id
 
-pub gathers_fault : (A B : Type 0) (old now new last : List ℕ) (rest : PlanTrees) (p : PlanTree) (more all : PlanTrees) (here : Came) (is : List ℕ) (f : ReadFault) → rest ≡ plan p more → Gathers old now rest all here is → CollectsPlan {A = A} now new p here is (Err f) → CollectsAll {A = B} old last all here is (Err f)
+pub gathers_fault : (A B : Type 0) (old now new last : List ℕ) (rest : PlanTrees) (p : PlanTree) (more all : PlanTrees) (here : Came) (is : List ℕ)
+    (f : ReadFault) → rest ≡ plan p more → Gathers old now rest all here is → CollectsPlan {A = A} now new p here is (Err f)
+    → CollectsAll {A = B} old last all here is (Err f)
 gathers_fault A B old now new last rest p more all here is (Corrupt id) e k c = k.bad id (ap (λ (ps : PlanTrees). any_spoiled ps here is id) e ∙ rw c refl)
 gathers_fault A B old now new last rest p more all here is Overflow e k c = c
 gathers_fault A B old now new last rest p more all here is NoMemory e k c = tt

@@ -9,6 +9,7 @@ pub mod Parts
 pub mod Collecting
 pub mod Gathering
 pub mod Building
+pub mod NoRows
 pub mod Spanning
 pub mod OffsetSegments
 pub mod OffsetChecks
@@ -20,6 +21,7 @@ pub mod Numbering
 pub mod OverLengths
 pub mod Columns
 pub mod Giving
+pub mod Checked
 pub mod Filtering
 pub mod ListWants
 pub mod Progressing

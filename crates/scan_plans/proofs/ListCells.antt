@@ -24,13 +24,15 @@ use Rattle.scan_plans.specs.Lists.{rows_on, elements_from, span_elements, elemen
 use Rattle.scan_plans.specs.Meaning.{value_at, overflow_on, true_rows}
 use Rattle.scan_plans.specs.OffsetReads.{Climbs, AreOffsets, IsCut, Cuts, CutsWhole, ListsOf, NoneOf}
 use Rattle.scan_plans.specs.OffsetsData.{OffsetsData, offset_at, offset_marked}
-use Rattle.scan_plans.specs.Reads.{AreValues, Reads}
+use Rattle.scan_plans.specs.Reads.{AreValues, AllDecode, fails, Reads}
 use Rattle.scan_plans.specs.Wants.{wanted, offsets_wanted, knows_elements, offsets_spoiled, Complete}
 use Rattle.scan_plans.specs.declared.fault.ReadFault.{ReadFault}
 use Rattle.scan_plans.specs.declared.fault.ReadFault.TheVariants.{Corrupt, Overflow, NoMemory}
 use Rattle.scan_plans.specs.declared.lists.Cut.{Cut}
+use Rattle.scan_plans.proofs.Building.{fails_append}
 use Rattle.scan_plans.proofs.OffsetChecks.{rows_long}
-use Rattle.scan_plans.proofs.ListRows.{kept_rows}
+use Rattle.scan_plans.proofs.ListRows.{kept_rows, cut_found}
+use Rattle.scan_plans.proofs.NoRows.{nothing_found}
 use Rattle.scan_plans.proofs.Transfer.{complete_left, complete_right, knows_here}
 
 or_true : (b : Bool) → (b || true) ≡ true
@@ -158,17 +160,24 @@ cut_rows o store is c k = (k.span).elements o store ∙ (whole o store c.first (
 
 pub lists_ok : (d : DataType) (p : PlanTree) (o : OffsetsData) (here : Came) (is : List ℕ) (c : Cut) (a b : ArrayData) → IsCut o (arrived here) is c
     → map marked a.items ≡ map (value_at p (arrived here)) (rows_on (first_in c.offsets.items) (last_in c.offsets.items - first_in c.offsets.items))
+    → AllDecode (wanted p here (element_rows o (arrived here) is)) (arrived here)
     → b ≡ of_parts d (items_where_true c.mask (typed list_of (cuts (sizes_in c.offsets.items) a.items) (replicate (length c.mask) true))) → AreValues (lists d p o) here is b
-lists_ok d p o here is c a b k own e = record {
+lists_ok d p o here is c a b k own f e = record {
   dtype = ap (λ (x : ArrayData). x.dtype) e;
   items = ap (λ (x : ArrayData). map marked x.items) e
       ∙ kept_rows (value_at (lists d p o) (arrived here)) (typed list_of (cuts (sizes_in c.offsets.items) a.items) (replicate (length c.mask) true)) c.first c.mask (lists_at d p o (arrived here) c.first (length c.mask) c.offsets.items a.items k.offsets own)
       ∙ ap (map (value_at (lists d p o) (arrived here))) (sym (k.span).rows);
   within = never is;
+  found = λ id. fails_append (offsets_wanted o is) (if knows_elements o here is then wanted p here (element_rows o (arrived here) is) else []) (arrived here) id ∙ rw (cut_found o here is c k id) (by (knows_elements o here is) id);
 }
+  where
+    by : (b : Bool) (id : ℕ) → fails (if b then wanted p here (element_rows o (arrived here) is) else []) (arrived here) id ≡ false
+    by true id = f id
+    by false id = refl
 
 pub lists_none : (d : DataType) (p : PlanTree) (o : OffsetsData) (here : Came) (is : List ℕ) (b : ArrayData) → is ≡ [] → b ≡ of_parts d [] → AreValues (lists d p o) here is b
-lists_none d p o here is b n e = subst (λ (js : List ℕ). AreValues (lists d p o) here js b) (sym n) (record { dtype = ap (λ (x : ArrayData). x.dtype) e; items = ap (λ (x : ArrayData). map marked x.items) e; within = refl })
+lists_none d p o here is b n e =
+    subst (λ (js : List ℕ). AreValues (lists d p o) here js b) (sym n) (record { dtype = ap (λ (x : ArrayData). x.dtype) e; items = ap (λ (x : ArrayData). map marked x.items) e; within = refl; found = nothing_found (lists d p o) here })
 
 -- ---- faults
 never_on : (p : PlanTree) (n : ℕ) (store : Store) (k : ℕ) (bits : List Bool) → NeverOverflows p n → k + length bits ≤ n → overflow_on p store (true_rows k bits) ≡ false
@@ -269,7 +278,9 @@ ends_long : (xs : List ℕ) (n : ℕ) → length xs ≡ n + 1 → length (sums 0
 ends_long [] n h = absurd (omega (arith, h))
 ends_long (x ∷ xs) n h = sums_long 0 (sizes x xs) ∙ sizes_long x xs ∙ omega (arith, h)
 
-pub lists_made : (d : DataType) (xs ends : List ℕ) (n : ℕ) (es : List Val) (a : ArrayData) → length xs ≡ n + 1 → ends ≡ sums 0 (sizes_in xs) → a ≡ of_parts d (typed list_of (cuts (sizes 0 ends) es) (replicate (length ends) true)) → a ≡ of_parts d (typed list_of (cuts (sizes_in xs) es) (replicate n true))
+pub lists_made : (d : DataType) (xs ends : List ℕ) (n : ℕ) (es : List Val) (a : ArrayData) → length xs ≡ n + 1 → ends ≡ sums 0 (sizes_in xs)
+    → a ≡ of_parts d (typed list_of (cuts (sizes 0 ends) es) (replicate (length ends) true))
+    → a ≡ of_parts d (typed list_of (cuts (sizes_in xs) es) (replicate n true))
 lists_made d xs ends n es a h e m =
     m ∙ ap (λ (ks : List ℕ). of_parts d (typed list_of (cuts (sizes 0 ks) es) (replicate (length ks) true))) e
     ∙ (λ i. of_parts d (typed list_of (cuts (sizes_sums 0 (sizes_in xs) i) es) (replicate (ends_long xs n h i) true)))
@@ -312,11 +323,11 @@ lengths_fault o here is NoMemory h = tt
 
 -- ---- what is made of the elements that were read
 pub lists_given : (d : DataType) (p : PlanTree) (o : OffsetsData) (here : Came) (is : List ℕ) (c : Cut) (a : ArrayData) (r : Result ArrayData ReadFault) → IsCut o (arrived here) is c
-    → map marked a.items ≡ map (value_at p (arrived here)) (rows_on (first_in c.offsets.items) (last_in c.offsets.items - first_in c.offsets.items)) → ListsOf d c a r → Reads (lists d p o) here is r
-lists_given d p o here is c a (Ok b) k v h = lists_ok d p o here is c a b k v h
-lists_given d p o here is c a (Err (Corrupt id)) k v h = absurd h
-lists_given d p o here is c a (Err Overflow) k v h = absurd h
-lists_given d p o here is c a (Err NoMemory) k v h = tt
+    → map marked a.items ≡ map (value_at p (arrived here)) (rows_on (first_in c.offsets.items) (last_in c.offsets.items - first_in c.offsets.items)) → AllDecode (wanted p here (element_rows o (arrived here) is)) (arrived here) → ListsOf d c a r → Reads (lists d p o) here is r
+lists_given d p o here is c a (Ok b) k v f h = lists_ok d p o here is c a b k v f h
+lists_given d p o here is c a (Err (Corrupt id)) k v f h = absurd h
+lists_given d p o here is c a (Err Overflow) k v f h = absurd h
+lists_given d p o here is c a (Err NoMemory) k v f h = tt
 
 pub none_given : (d : DataType) (p : PlanTree) (o : OffsetsData) (here : Came) (is : List ℕ) (r : Result ArrayData ReadFault) → is ≡ [] → NoneOf d r → Reads (lists d p o) here is r
 none_given d p o here is (Ok b) n h = lists_none d p o here is b n h

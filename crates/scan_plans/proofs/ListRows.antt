@@ -20,13 +20,15 @@ use Rattle.scan_plans.specs.ListItems.{length_val, sizes_in}
 use Rattle.scan_plans.specs.Lists.{rows_on}
 use Rattle.scan_plans.specs.Meaning.{value_at, overflow_at, overflow_on, true_rows}
 use Rattle.scan_plans.specs.OffsetReads.{Climbs, AreOffsets, IsCut}
-use Rattle.scan_plans.specs.OffsetsData.{OffsetsData, offset_at}
-use Rattle.scan_plans.specs.Reads.{AreValues, Reads, CollectsPlan}
-use Rattle.scan_plans.specs.Wants.{wanted, lacks, spoiled}
+use Rattle.scan_plans.specs.OffsetsData.{OffsetsData, offset_at, offset_places}
+use Rattle.scan_plans.specs.Reads.{AreValues, AllDecode, fails, Reads, CollectsPlan}
+use Rattle.scan_plans.specs.Wants.{leaf_wanted, offsets_wanted, wanted, lacks, spoiled}
 use Rattle.scan_plans.specs.declared.fault.ReadFault.{ReadFault}
 use Rattle.scan_plans.specs.declared.fault.ReadFault.TheVariants.{Corrupt, Overflow, NoMemory}
 use Rattle.scan_plans.specs.declared.lists.Cut.{Cut}
+use Rattle.scan_plans.proofs.Building.{fails_append}
 use Rattle.scan_plans.proofs.Collecting.{lacks_append}
+use Rattle.scan_plans.proofs.NoRows.{nothing_found}
 use Rattle.scan_plans.proofs.Parts.{any_or}
 use Rattle.scan_plans.proofs.Transfer.{complete_left, complete_right}
 use Rattle.scan_values.specs.Selections.{is_among}
@@ -79,6 +81,10 @@ lengths_at o store i n ns a = by ns (more n) a.climbs refl
         let d : Climbs o.elements 0 (m ∷ ms) = subst (λ (xs : List ℕ). Climbs o.elements 0 xs) s c in
         ap (λ xs. map marked (map length_val (sizes_in xs))) s ∙ lengths_on o store n i m ms x rest d.2
 
+-- the offsets of a cut were found
+pub cut_found : (o : OffsetsData) (here : Came) (is : List ℕ) (c : Cut) → IsCut o (arrived here) is c → AllDecode (offsets_wanted o is) (arrived here)
+cut_found o here is c k = λ id. ap (λ (js : List ℕ). fails (leaf_wanted 0 (offset_places o) js) (arrived here) id) (k.span).offsets ∙ (k.offsets).found id
+
 pub lengths_ok : (o : OffsetsData) (here : Came) (is : List ℕ) (c : Cut) (b : ArrayData) → IsCut o (arrived here) is c → b ≡ of_parts (int_type U64 NonNullable) (items_where_true c.mask (map length_val (sizes_in c.offsets.items))) → AreValues (lengths o) here is b
 lengths_ok o here is c b k e = record {
   dtype = ap (λ (x : ArrayData). x.dtype) e;
@@ -86,10 +92,11 @@ lengths_ok o here is c b k e = record {
       ∙ kept_rows (value_at (lengths o) (arrived here)) (map length_val (sizes_in c.offsets.items)) c.first c.mask (lengths_at o (arrived here) c.first (length c.mask) c.offsets.items k.offsets)
       ∙ ap (map (value_at (lengths o) (arrived here))) (sym (k.span).rows);
   within = never is;
+  found = cut_found o here is c k;
 }
 
 pub lengths_none : (o : OffsetsData) (here : Came) (is : List ℕ) (b : ArrayData) → is ≡ [] → b ≡ of_parts (int_type U64 NonNullable) [] → AreValues (lengths o) here is b
-lengths_none o here is b n e = subst (λ (js : List ℕ). AreValues (lengths o) here js b) (sym n) (record { dtype = ap (λ (x : ArrayData). x.dtype) e; items = ap (λ (x : ArrayData). map marked x.items) e; within = refl })
+lengths_none o here is b n e = subst (λ (js : List ℕ). AreValues (lengths o) here js b) (sym n) (record { dtype = ap (λ (x : ArrayData). x.dtype) e; items = ap (λ (x : ArrayData). map marked x.items) e; within = refl; found = nothing_found (lengths o) here })
 
 -- ---- validity
 and_left : (a b : Bool) → (a && b) ≡ true → a ≡ true
@@ -134,6 +141,7 @@ valid_ok p v here is a t b w h d f e = record {
   dtype = ap (λ (x : ArrayData). x.dtype) e ∙ ap (with_nullability Nullable) h.dtype;
   items = ap (λ (x : ArrayData). map marked x.items) e ∙ valid_on (value_at v (arrived here)) (value_at p (arrived here)) t.items a.items is (subst (λ (y : DataType). fits_all (marked_all (vals_of t.items)) y ≡ true) d f) w.items h.items;
   within = any_or (overflow_at v (arrived here)) (overflow_at p (arrived here)) is ∙ rw w.within h.within;
+  found = λ id. fails_append (wanted v here is) (wanted p here is) (arrived here) id ∙ rw (w.found id) (h.found id);
 }
 
 pub validity_fault : (p v : PlanTree) (here : Came) (is : List ℕ) (f : ReadFault) → Reads v here is (Err f) → Reads (valid p v) here is (Err f)

@@ -9,7 +9,6 @@ use Rattle.scan_values.specs.Selections.{is_among}
 use Rattle.scan_layout.specs.Places.{Place}
 use Rattle.scan_plans.specs.PlanTree.{PlanTree, leaf, rows, evaluate, over, constant, lists, lengths, valid, numbers, by_lengths, PlanTrees, no_plans, plan}
 use Rattle.scan_plans.specs.Came.{Came, arrived}
-use Rattle.scan_plans.specs.Given.{AreLacking}
 use Rattle.scan_plans.specs.Lists.{rows_on, is_whole, element_rows, IsSpan}
 use Rattle.scan_plans.specs.Meaning.{Within, AllWithin, true_rows}
 use Rattle.scan_plans.specs.OffsetReads.{AreRows, CutsWhole, WantsRows, ElementsOf, AddsOffsets, NextOf, AddsIds}
@@ -61,7 +60,8 @@ none_wanted : (base : ℕ) (ps : List Place) → leaf_wanted base ps [] ≡ []
 none_wanted base [] = refl
 none_wanted base (p ∷ ps) = none_wanted (base + p.rows) ps
 
-pub offsets_collected : {A : Type 0} (old new : List ℕ) (o : OffsetsData) (here : Came) (is : List ℕ) (i : ℕ) (mask : List Bool) (r : Result A ReadFault) → IsSpan is i mask → Collects old new (leaf_wanted 0 (offset_places o) (rows_on i (length mask + 1))) here r → CollectsPlan old new (lengths o) here is r
+pub offsets_collected : {A : Type 0} (old new : List ℕ) (o : OffsetsData) (here : Came) (is : List ℕ) (i : ℕ) (mask : List Bool) (r : Result A ReadFault)
+    → IsSpan is i mask → Collects old new (leaf_wanted 0 (offset_places o) (rows_on i (length mask + 1))) here r → CollectsPlan old new (lengths o) here is r
 offsets_collected old new o here is i mask (Ok x) s h = λ id. h id ∙ ap (λ (js : List ℕ). is_among old id || lacks (leaf_wanted 0 (offset_places o) js) here id) (sym s.offsets)
 offsets_collected old new o here is i mask (Err (Corrupt id)) s h = let z : spoils (offsets_wanted o is) here id ≡ true = ap (λ (js : List ℕ). spoils (leaf_wanted 0 (offset_places o) js) here id) s.offsets ∙ h in rw z refl
 offsets_collected old new o here is i mask (Err Overflow) s h = h
@@ -143,8 +143,8 @@ elements_stopped o here is NoMemory h c = tt
 pub offsets_lack : {A : Type 0} (old new found ids : List ℕ) (o : OffsetsData) (here : Came) (is : List ℕ) (x : A) → is_whole o is ≡ false → is_any ids ≡ true → AddsOffsets [] found o here is → ids ≡ found → AddsIds old ids new (Ok x) → NextOf old new o here is (Ok None)
 offsets_lack old new found ids o here is x e some c same h =
     let exact : (id : ℕ) → is_among ids id ≡ lacks (offsets_wanted o is) here id = λ id. ap (λ (xs : List ℕ). is_among xs id) same ∙ c id in
-    (λ id. h id ∙ ap (λ b. is_among old id || b) (exact id), ap (λ b. b || are_here (offsets_wanted o is) here) e ∙ by (are_here (offsets_wanted o is) here) refl (record { some = some; exact = exact }))
+    (λ id. h id ∙ ap (λ b. is_among old id || b) (exact id), ap (λ b. b || are_here (offsets_wanted o is) here) e ∙ by (are_here (offsets_wanted o is) here) refl exact)
   where
-    by : (b : Bool) → are_here (offsets_wanted o is) here ≡ b → AreLacking (offsets_wanted o is) here ids → b ≡ false
-    by true e a = absurd (not_here (offsets_wanted o is) here ids a e)
+    by : (b : Bool) → are_here (offsets_wanted o is) here ≡ b → ((id : ℕ) → is_among ids id ≡ lacks (offsets_wanted o is) here id) → b ≡ false
+    by true e a = absurd (not_here (offsets_wanted o is) here ids some a e)
     by false e a = refl

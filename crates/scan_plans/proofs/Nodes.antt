@@ -28,7 +28,7 @@ use Rattle.scan_plans.specs.Reads.{AreValues, AreColumns, Reads, ReadsAll}
 use Rattle.scan_plans.specs.declared.fault.ReadFault.{ReadFault}
 use Rattle.scan_plans.specs.declared.fault.ReadFault.TheVariants.{Corrupt, Overflow, NoMemory}
 use Rattle.scan_plans.proofs.Constants.{value_alike}
-use Rattle.scan_plans.proofs.Parts.{any_or, joined_items, joined_overflows, over_within, over_overflow}
+use Rattle.scan_plans.proofs.Parts.{any_or, joined_items, joined_overflows, over_within, over_overflow, columns_found}
 use Rattle.scan_plans.proofs.Segments.{slice_items}
 
 or_true : (b : Bool) → (b || true) ≡ true
@@ -57,9 +57,11 @@ evaluate_ok d e p here is a b t items within h = record {
   dtype = t;
   items = items ∙ map_map (λ m. eval d e m 0) marked a.items ∙ ap (map (λ m. eval d e m 0)) h.items ∙ sym (map_map (λ m. eval d e m 0) (value_at p (arrived here)) is);
   within = expr_overflow d e p here is a h ∙ within;
+  found = h.found;
 }
 
-pub evaluate_fault : (d : DataType) (e : Expr) (p : PlanTree) (here : Came) (is : List ℕ) (a : ArrayData) (r : Result ArrayData ApplyFault) (f : ApplyFault) → r ≡ Err f → (r ≡ Err apply.Overflow → overflows_on d e a.items ≡ true) → AreValues p here is a → Reads (evaluate d e p) here is (Err (read_fault f))
+pub evaluate_fault : (d : DataType) (e : Expr) (p : PlanTree) (here : Came) (is : List ℕ) (a : ArrayData) (r : Result ArrayData ApplyFault) (f : ApplyFault)
+    → r ≡ Err f → (r ≡ Err apply.Overflow → overflows_on d e a.items ≡ true) → AreValues p here is a → Reads (evaluate d e p) here is (Err (read_fault f))
 evaluate_fault d e p here is a r apply.Overflow w o h = expr_overflow d e p here is a h ∙ o w
 evaluate_fault d e p here is a r apply.NoMemory w o h = tt
 
@@ -79,17 +81,23 @@ rows_ok a here first mask b h e = record {
   dtype = ap (λ (x : ArrayData). x.dtype) e;
   items = ap (λ (x : ArrayData). map marked x.items) e ∙ slice_items a.items first mask h;
   within = never (true_rows first mask);
+  found = λ id. refl;
 }
 
 -- ---- an expression over structs of columns
-pub over_ok : (d : DataType) (e : Expr) (ps : PlanTrees) (here : Came) (is : List ℕ) (cs : List ArrayData) (n : ℕ) (b : ArrayData) → uses_row_index e ≡ false → b.dtype ≡ infer d e → map marked b.items ≡ map (joined_at (bound_of d e) cs) (range_with_len 0 n) → root_overflows (bound_of d e) cs n ≡ false → AreColumns ps here is cs → n ≡ length is → AreValues (over d e ps) here is b
+pub over_ok : (d : DataType) (e : Expr) (ps : PlanTrees) (here : Came) (is : List ℕ) (cs : List ArrayData) (n : ℕ) (b : ArrayData) → uses_row_index e ≡ false
+    → b.dtype ≡ infer d e → map marked b.items ≡ map (joined_at (bound_of d e) cs) (range_with_len 0 n) → root_overflows (bound_of d e) cs n ≡ false
+    → AreColumns ps here is cs → n ≡ length is → AreValues (over d e ps) here is b
 over_ok d e ps here is cs n b u t items within h l = record {
   dtype = t;
   items = items ∙ ap (λ k. map (joined_at (bound_of d e) cs) (range_with_len 0 k)) l ∙ joined_items d e ps here is cs u h;
   within = over_within d e ps here is cs h ∙ sym (joined_overflows d e ps here is cs u h) ∙ ap (root_overflows (bound_of d e) cs) (sym l) ∙ within;
+  found = columns_found ps here is cs h;
 }
 
-pub over_fault : (d : DataType) (e : Expr) (ps : PlanTrees) (here : Came) (is : List ℕ) (cs : List ArrayData) (n : ℕ) (r : Result ArrayData ApplyFault) (f : ApplyFault) → uses_row_index e ≡ false → r ≡ Err f → (r ≡ Err apply.Overflow → root_overflows (bound_of d e) cs n ≡ true) → AreColumns ps here is cs → n ≡ length is → Reads (over d e ps) here is (Err (read_fault f))
+pub over_fault : (d : DataType) (e : Expr) (ps : PlanTrees) (here : Came) (is : List ℕ) (cs : List ArrayData) (n : ℕ) (r : Result ArrayData ApplyFault)
+    (f : ApplyFault) → uses_row_index e ≡ false → r ≡ Err f → (r ≡ Err apply.Overflow → root_overflows (bound_of d e) cs n ≡ true) → AreColumns ps here is cs
+    → n ≡ length is → Reads (over d e ps) here is (Err (read_fault f))
 over_fault d e ps here is cs n r apply.Overflow u w o h l = over_within d e ps here is cs h ∙ sym (joined_overflows d e ps here is cs u h) ∙ ap (root_overflows (bound_of d e) cs) (sym l) ∙ o w
 over_fault d e ps here is cs n r apply.NoMemory u w o h l = tt
 
@@ -112,10 +120,11 @@ constant_ok d e here is n v t b same dtype value within l = record {
   dtype = ap (λ (x : ArrayData). x.dtype) same ∙ dtype;
   items = ap (λ (x : ArrayData). map marked x.items) same ∙ ap (λ k. map marked (replicate k v)) l ∙ all_alike (eval d e null 0) v is value;
   within = none_alike (overflows d e null 0) is within;
+  found = λ id. refl;
 }
 
 pub constant_none : (d : DataType) (e : Expr) (here : Came) (is : List ℕ) (t : DataType) (b : ArrayData) → b ≡ of_parts t [] → t ≡ infer d e → 0 ≡ length is → AreValues (constant d e) here is b
-constant_none d e here [] t b same dtype l = record { dtype = ap (λ (x : ArrayData). x.dtype) same ∙ dtype; items = ap (λ (x : ArrayData). map marked x.items) same; within = refl }
+constant_none d e here [] t b same dtype l = record { dtype = ap (λ (x : ArrayData). x.dtype) same ∙ dtype; items = ap (λ (x : ArrayData). map marked x.items) same; within = refl; found = λ id. refl }
 constant_none d e here (i ∷ is) t b same dtype l = let z : ⊥ = omega (arith, l) in absurd z
 
 pub constant_fault : (A : Type 0) (d : DataType) (e : Expr) (here : Came) (is : List ℕ) (n : ℕ) (r : Result A ApplyFault) (f : ApplyFault) → r ≡ Err f → (r ≡ Err apply.Overflow → overflows d e null 0 ≡ true) → 0 < n → n ≡ length is → Reads (constant d e) here is (Err (read_fault f))

@@ -35,9 +35,10 @@ numbers_ok k first from here bits b f e = record {
   dtype = ap (λ (x : ArrayData). x.dtype) e;
   items = ap (λ (x : ArrayData). map marked x.items) e ∙ ap (λ n. map marked (items_where_true bits (numbers_from n (length bits)))) f ∙ numbers_taken (arrived here) k first bits;
   within = never (true_rows first bits);
+  found = λ id. refl;
 }
 
 -- past the last number there is no row
 pub numbers_none : (k first : ℕ) (here : Came) (bits : List Bool) (b : ArrayData) → 2 ^ 64 ≤ k + first → k + (first + length bits) ≤ 2 ^ 64 → b ≡ of_parts (int_type U64 NonNullable) [] → AreValues (numbers k) here (true_rows first bits) b
-numbers_none k first here [] b far within e = record { dtype = ap (λ (x : ArrayData). x.dtype) e; items = ap (λ (x : ArrayData). map marked x.items) e; within = refl }
+numbers_none k first here [] b far within e = record { dtype = ap (λ (x : ArrayData). x.dtype) e; items = ap (λ (x : ArrayData). map marked x.items) e; within = refl; found = λ id. refl }
 numbers_none k first here (c ∷ bits) b far within e = let z : ⊥ = omega (arith, far, within) in absurd z

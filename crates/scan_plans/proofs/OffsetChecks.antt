@@ -83,7 +83,9 @@ check_next o i zs k before made z n h e g l =
         let later : bad_in o (row_at z) (i + k + 1) (drop (k + 1) zs) id ≡ true = ap (λ x. bad_in o (row_at x) (i + k + 1) (drop (k + 1) zs) id) s ∙ ap (λ j. bad_in o n j (drop (k + 1) zs) id) (sym y) ∙ w in
         rw later (or_true (is_none (good_offset o.elements before z) && names_id id (leaf_wanted 0 (offset_places o) ((i + k) ∷ []))))
 
-pub check_fault : (o : OffsetsData) (i : ℕ) (zs : List ℤ) (k before : ℕ) (made : List ℕ) (z : ℤ) (id : ℕ) → k < length zs → z ≡ get_or zs k z → good_offset o.elements before z ≡ None → names_id id (leaf_wanted 0 (offset_places o) ((i + k) ∷ [])) ≡ true → Checking o i zs k before made → bad_in o 0 i zs id ≡ true
+pub check_fault : (o : OffsetsData) (i : ℕ) (zs : List ℤ) (k before : ℕ) (made : List ℕ) (z : ℤ) (id : ℕ) → k < length zs → z ≡ get_or zs k z
+    → good_offset o.elements before z ≡ None → names_id id (leaf_wanted 0 (offset_places o) ((i + k) ∷ [])) ≡ true → Checking o i zs k before made
+    → bad_in o 0 i zs id ≡ true
 check_fault o i zs k before made z id h e g w l = l.bad id (ap (λ (xs : List ℤ). bad_in o before (i + k) xs id) (next_item k zs z h e) ∙ rw (g, w) refl)
 
 pub check_end : (o : OffsetsData) (i : ℕ) (zs : List ℤ) (k before : ℕ) (made : List ℕ) → length zs ≤ k → Checking o i zs k before made → (map pos made ≡ zs) × Climbs o.elements 0 made
@@ -148,10 +150,12 @@ some_pos : (ns : List ℕ) → map (λ z. Some z) (map pos ns) ≡ map (λ k. So
 some_pos [] = refl
 some_pos (n ∷ ns) = ap (λ xs. Some (pos n) ∷ xs) (some_pos ns)
 
-pub reads_offsets : {A : Type 0} (items : A → List ℕ) (o : OffsetsData) (here : Came) (i n : ℕ) (a : ArrayData) (zs : List ℤ) (r : Result A ReadFault) → AreValues (leaf o.dtype o.spelling o.segments) here (rows_on i n) a → map int_val zs ≡ a.items → Checks items o i zs r → ReadsOffsets items o here i n r
+pub reads_offsets : {A : Type 0} (items : A → List ℕ) (o : OffsetsData) (here : Came) (i n : ℕ) (a : ArrayData) (zs : List ℤ) (r : Result A ReadFault)
+    → AreValues (leaf o.dtype o.spelling o.segments) here (rows_on i n) a → map int_val zs ≡ a.items → Checks items o i zs r → ReadsOffsets items o here i n r
 reads_offsets items o here i n a zs (Ok v) w e c = record {
   at = offsets_there o here (rows_on i n) a zs w e ∙ ap (λ (xs : List ℤ). map (λ z. Some z) xs) (sym c.0) ∙ some_pos (items v);
   climbs = c.1;
+  found = w.found;
 }
 reads_offsets items o here i n a zs (Err (Corrupt id)) w e c = λ complete.
     let there = offsets_there o here (rows_on i n) a zs w e in

@@ -16,10 +16,10 @@ use Rattle.scan_plans.specs.Knowing.{Knows}
 use Rattle.scan_plans.specs.MaskLists.{nulled, under, dtype_under, masks_overflow, masks_wanted, masks_spoiled, SameMasks}
 use Rattle.scan_plans.specs.Masks.{MaskData, mask_of, mask_overflow, mask_wanted, mask_spoiled, SameMask}
 use Rattle.scan_plans.specs.Projecting.{AreKnown, AreComplete, KnowsAll, IsUnder, under_known, padded}
-use Rattle.scan_plans.specs.Wants.{are_here, lacks, Complete}
+use Rattle.scan_plans.specs.Wants.{are_here, lacks, Complete, NoneBad, spoils}
 use Rattle.scan_plans.specs.declared.fault.ReadFault.{ReadFault}
 use Rattle.scan_plans.specs.declared.fault.ReadFault.TheVariants.{Corrupt, Overflow, NoMemory}
-use Rattle.scan_plans.proofs.Collecting.{lacks_append}
+use Rattle.scan_plans.proofs.Collecting.{lacks_append, spoils_append}
 use Rattle.scan_plans.proofs.Filtering.{not_here}
 use Rattle.scan_plans.proofs.Futures.{known_mask, known_within}
 use Rattle.scan_plans.proofs.Progressing.{stays_same}
@@ -40,8 +40,12 @@ pub waits_then : (ps qs : List Place) (here : Came) (ids : List ℕ) → AreLack
 waits_then ps qs here ids a = by (are_here ps here) refl
   where
     by : (b : Bool) → are_here ps here ≡ b → AreLacking (ps ++ (if b then qs else [])) here ids
-    by true e = absurd (not_here ps here ids a e)
-    by false e = record { some = a.some; exact = λ id. a.exact id ∙ sym (lacks_append ps [] here id ∙ or_false (lacks ps here id)) }
+    by true e = absurd (not_here ps here ids a.some a.exact e)
+    by false e = record {
+      some = a.some;
+      exact = λ id. a.exact id ∙ sym (lacks_append ps [] here id ∙ or_false (lacks ps here id));
+      good = λ id. spoils_append ps [] here id ∙ rw (a.good id) refl;
+    }
 
 spoils_then : (m : MaskData) (ms : List MaskData) (here : Came) (id : ℕ) (rest : Bool) → mask_spoiled m here id ≡ true → masks_spoiled (m ∷ ms) here id rest ≡ true
 spoils_then m ms here id rest h = rw h refl
@@ -49,20 +53,23 @@ spoils_then m ms here id rest h = rw h refl
 pub past_lacks : (ps qs : List Place) (here : Came) (id : ℕ) → Complete ps here → lacks (ps ++ (if are_here ps here then qs else [])) here id ≡ lacks qs here id
 past_lacks ps qs here id c = lacks_append ps (if are_here ps here then qs else []) here id ∙ rw (c id, complete_here ps here c) refl
 
-pub past_waits : (ps qs : List Place) (here : Came) (ids : List ℕ) → Complete ps here → AreLacking qs here ids → AreLacking (ps ++ (if are_here ps here then qs else [])) here ids
-past_waits ps qs here ids c a = record { some = a.some; exact = λ id. a.exact id ∙ sym (past_lacks ps qs here id c) }
+past_bad : (ps qs : List Place) (here : Came) (id : ℕ) → Complete ps here → NoneBad ps here → spoils (ps ++ (if are_here ps here then qs else [])) here id ≡ spoils qs here id
+past_bad ps qs here id c g = spoils_append ps (if are_here ps here then qs else []) here id ∙ rw (g id, complete_here ps here c) refl
+
+pub past_waits : (ps qs : List Place) (here : Came) (ids : List ℕ) → Complete ps here → NoneBad ps here → AreLacking qs here ids → AreLacking (ps ++ (if are_here ps here then qs else [])) here ids
+past_waits ps qs here ids c g a = record { some = a.some; exact = λ id. a.exact id ∙ sym (past_lacks ps qs here id c); good = λ id. past_bad ps qs here id c g ∙ a.good id }
 
 past_spoils : (m : MaskData) (ms : List MaskData) (here : Came) (id : ℕ) (rest : Bool) → Complete (mask_wanted m here) here → masks_spoiled ms here id rest ≡ true → masks_spoiled (m ∷ ms) here id rest ≡ true
 past_spoils m ms here id rest c h = rw (complete_here (mask_wanted m here) here c, h) (or_true (mask_spoiled m here id))
 
 -- ---- a walk over masks
--- so many are known and lack nothing, and the others are as they were
+-- so many are known, lack nothing, and have nothing bad, and the others are as they were
 abbrev pub Walked : ℕ → Came → List MaskData → List MaskData → Type 0
 Walked zero here now old = now ≡ old
 Walked (suc k) here [] [] = Unit {0}
 Walked (suc k) here [] (m ∷ ms) = ⊥
 Walked (suc k) here (n ∷ ns) [] = ⊥
-Walked (suc k) here (n ∷ ns) (m ∷ ms) = (SameMask here n m × (n.filters ≡ []) × Complete (mask_wanted m here) here) × Walked k here ns ms
+Walked (suc k) here (n ∷ ns) (m ∷ ms) = (SameMask here n m × (n.filters ≡ []) × Complete (mask_wanted m here) here × NoneBad (mask_wanted m here) here) × Walked k here ns ms
 
 pub same_itself : (here : Came) (ms : List MaskData) → SameMasks here ms ms
 same_itself here [] = tt
@@ -81,7 +88,7 @@ walk_known zero here (n ∷ ns) old w h = let z : ⊥ = omega (arith, h) in absu
 walk_known (suc k) here [] [] w h = (tt, tt)
 walk_known (suc k) here [] (m ∷ ms) w h = absurd w
 walk_known (suc k) here (n ∷ ns) [] w h = absurd w
-walk_known (suc k) here (n ∷ ns) (m ∷ ms) w h = let z = walk_known k here ns ms w.1 (omega (arith, h)) in (((w.0).1, z.0), ((w.0).2, z.1))
+walk_known (suc k) here (n ∷ ns) (m ∷ ms) w h = let z = walk_known k here ns ms w.1 (omega (arith, h)) in (((w.0).1, z.0), ((w.0).2, (w.0).3, z.1))
 
 -- the next one is as it was, and becomes another
 pub walk_set : (k : ℕ) (here : Came) (now old : List MaskData) (m new : MaskData) → Walked k here now old → k < length now → m ≡ get_or now k m → SameMask here new m → SameMasks here (set now k new) old
@@ -91,16 +98,16 @@ walk_set (suc k) here [] old m new w h e s = let z : ⊥ = omega (arith, h) in a
 walk_set (suc k) here (n ∷ ns) [] m new w h e s = absurd w
 walk_set (suc k) here (n ∷ ns) (x ∷ ms) m new w h e s = ((w.0).0, walk_set k here ns ms m new w.1 (omega (arith, h)) e s)
 
-walk_step : (k : ℕ) (here : Came) (now old : List MaskData) (m new : MaskData) → Walked k here now old → k < length now → m ≡ get_or now k m → SameMask here new m → new.filters ≡ [] → Complete (mask_wanted m here) here → Walked (suc k) here (set now k new) old
-walk_step zero here [] old m new w h e s f c = let z : ⊥ = omega (arith, h) in absurd z
-walk_step zero here (n ∷ ns) old m new w h e s f c =
-    subst (λ (ms : List MaskData). Walked 1 here (new ∷ ns) ms) w ((subst (λ (x : MaskData). SameMask here new x) e s, f, subst (λ (x : MaskData). Complete (mask_wanted x here) here) e c), refl)
-walk_step (suc k) here [] old m new w h e s f c = let z : ⊥ = omega (arith, h) in absurd z
-walk_step (suc k) here (n ∷ ns) [] m new w h e s f c = absurd w
-walk_step (suc k) here (n ∷ ns) (x ∷ ms) m new w h e s f c = (w.0, walk_step k here ns ms m new w.1 (omega (arith, h)) e s f c)
+walk_step : (k : ℕ) (here : Came) (now old : List MaskData) (m new : MaskData) → Walked k here now old → k < length now → m ≡ get_or now k m → SameMask here new m → new.filters ≡ [] → Complete (mask_wanted m here) here → NoneBad (mask_wanted m here) here → Walked (suc k) here (set now k new) old
+walk_step zero here [] old m new w h e s f c g = let z : ⊥ = omega (arith, h) in absurd z
+walk_step zero here (n ∷ ns) old m new w h e s f c g =
+    subst (λ (ms : List MaskData). Walked 1 here (new ∷ ns) ms) w ((subst (λ (x : MaskData). SameMask here new x) e s, f, subst (λ (x : MaskData). Complete (mask_wanted x here) here) e c, subst (λ (x : MaskData). NoneBad (mask_wanted x here) here) e g), refl)
+walk_step (suc k) here [] old m new w h e s f c g = let z : ⊥ = omega (arith, h) in absurd z
+walk_step (suc k) here (n ∷ ns) [] m new w h e s f c g = absurd w
+walk_step (suc k) here (n ∷ ns) (x ∷ ms) m new w h e s f c g = (w.0, walk_step k here ns ms m new w.1 (omega (arith, h)) e s f c g)
 
 pub walk_next : (k : ℕ) (here : Came) (now old : List MaskData) (m new : MaskData) → Walked k here now old → k < length now → m ≡ get_or now k m → SameMask here new m → Knows here m new (Ok None) → Walked (k + 1) here (set now k new) old
-walk_next k here now old m new w h e s a = let up : suc k ≡ k + 1 = omega arith in subst (λ (n : ℕ). Walked n here (set now k new) old) up (walk_step k here now old m new w h e s a.0 a.1)
+walk_next k here now old m new w h e s a = let up : suc k ≡ k + 1 = omega arith in subst (λ (n : ℕ). Walked n here (set now k new) old) up (walk_step k here now old m new w h e s a.0 a.1 a.2)
 
 pub walk_waits : (k : ℕ) (here : Came) (now old : List MaskData) (m : MaskData) (ids : List ℕ) (rest : List Place) → Walked k here now old → k < length now → m ≡ get_or now k m → AreLacking (mask_wanted m here) here ids → AreLacking (masks_wanted old here rest) here ids
 walk_waits zero here [] old m ids rest w h e a = let z : ⊥ = omega (arith, h) in absurd z
@@ -108,7 +115,7 @@ walk_waits zero here (n ∷ ns) old m ids rest w h e a =
     subst (λ (ms : List MaskData). AreLacking (masks_wanted ms here rest) here ids) w (waits_then (mask_wanted n here) (masks_wanted ns here rest) here ids (subst (λ (x : MaskData). AreLacking (mask_wanted x here) here ids) e a))
 walk_waits (suc k) here [] old m ids rest w h e a = let z : ⊥ = omega (arith, h) in absurd z
 walk_waits (suc k) here (n ∷ ns) [] m ids rest w h e a = absurd w
-walk_waits (suc k) here (n ∷ ns) (x ∷ ms) m ids rest w h e a = past_waits (mask_wanted x here) (masks_wanted ms here rest) here ids (w.0).2 (walk_waits k here ns ms m ids rest w.1 (omega (arith, h)) e a)
+walk_waits (suc k) here (n ∷ ns) (x ∷ ms) m ids rest w h e a = past_waits (mask_wanted x here) (masks_wanted ms here rest) here ids (w.0).2 (w.0).3 (walk_waits k here ns ms m ids rest w.1 (omega (arith, h)) e a)
 
 walk_spoils : (k : ℕ) (here : Came) (now old : List MaskData) (m : MaskData) (id : ℕ) (rest : Bool) → Walked k here now old → k < length now → m ≡ get_or now k m → mask_spoiled m here id ≡ true → masks_spoiled old here id rest ≡ true
 walk_spoils zero here [] old m id rest w h e a = let z : ⊥ = omega (arith, h) in absurd z
@@ -140,8 +147,8 @@ pub first_waits : (here : Came) (m new : MaskData) (ms after : List MaskData) (i
 first_waits here m new ms after ids k = λ rest. waits_then (mask_wanted m here) (masks_wanted ms here rest) here ids k
 
 pub then_others : (here : Came) (m new : MaskData) (ms news : List MaskData) (r : Result (Option (List ℕ)) ReadFault) → Knows here m new (Ok None) → KnowsAll here ms news r → KnowsAll here (m ∷ ms) (new ∷ news) r
-then_others here m new ms news (Ok None) k a = ((k.0, a.0), (k.1, a.1))
-then_others here m new ms news (Ok (Some ids)) k a = λ rest. past_waits (mask_wanted m here) (masks_wanted ms here rest) here ids k.1 (a rest)
+then_others here m new ms news (Ok None) k a = ((k.0, a.0), (k.1, k.2, a.1))
+then_others here m new ms news (Ok (Some ids)) k a = λ rest. past_waits (mask_wanted m here) (masks_wanted ms here rest) here ids k.1 k.2 (a rest)
 then_others here m new ms news (Err (Corrupt id)) k a = λ rest. past_spoils m ms here id rest k.1 (a rest)
 then_others here m new ms news (Err Overflow) k a = λ store held. ap (λ b. mask_overflow m store || b) (a store held) ∙ or_true (mask_overflow m store)
 then_others here m new ms news (Err NoMemory) k a = tt
@@ -149,11 +156,15 @@ then_others here m new ms news (Err NoMemory) k a = tt
 -- ---- where all are known
 pub all_lacks : (ms : List MaskData) (here : Came) (rest : List Place) (id : ℕ) → AreComplete ms here → lacks (masks_wanted ms here rest) here id ≡ lacks rest here id
 all_lacks [] here rest id c = refl
-all_lacks (m ∷ ms) here rest id c = past_lacks (mask_wanted m here) (masks_wanted ms here rest) here id c.0 ∙ all_lacks ms here rest id c.1
+all_lacks (m ∷ ms) here rest id c = past_lacks (mask_wanted m here) (masks_wanted ms here rest) here id c.0 ∙ all_lacks ms here rest id c.2
+
+pub all_bad : (ms : List MaskData) (here : Came) (rest : List Place) (id : ℕ) → AreComplete ms here → spoils (masks_wanted ms here rest) here id ≡ spoils rest here id
+all_bad [] here rest id c = refl
+all_bad (m ∷ ms) here rest id c = past_bad (mask_wanted m here) (masks_wanted ms here rest) here id c.0 c.1 ∙ all_bad ms here rest id c.2
 
 pub all_spoils : (ms : List MaskData) (here : Came) (rest : Bool) (id : ℕ) → AreComplete ms here → rest ≡ true → masks_spoiled ms here id rest ≡ true
 all_spoils [] here rest id c h = h
-all_spoils (m ∷ ms) here rest id c h = past_spoils m ms here id rest c.0 (all_spoils ms here rest id c.1 h)
+all_spoils (m ∷ ms) here rest id c h = past_spoils m ms here id rest c.0 (all_spoils ms here rest id c.2 h)
 
 pub all_within : (ns ms : List MaskData) (here : Came) (store : Store) → SameMasks here ns ms → AreKnown ns → Holds store here → masks_overflow ms store ≡ false
 all_within [] [] here store s k h = refl

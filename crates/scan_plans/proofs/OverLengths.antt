@@ -109,6 +109,7 @@ module _ (d : DataType) (e : Expr) (t : DataType) (f : Expr) (h : IsByLengths d 
     dtype = w.dtype ∙ h.dtype;
     items = w.items ∙ (rows_same p (arrived here) a.items is l g v.items).0;
     within = overflow_same p here is a l g v ∙ w.within;
+    found = w.found;
   }
   by_lengths_reads p here is a (Err (Corrupt id)) l g v w = w
   by_lengths_reads p here is a (Err Overflow) l g v w = overflow_same p here is a l g v ∙ w

@@ -17,7 +17,9 @@ use Rattle.scan_columns.specs.Joined.{AreAsLong, IsScopeOf, row_at, joined_at, r
 use Rattle.scan_plans.specs.PlanTree.{over, PlanTrees, no_plans, plan}
 use Rattle.scan_plans.specs.Came.{Came, arrived}
 use Rattle.scan_plans.specs.Meaning.{value_at, values_at, overflow_at, overflow_in, overflow_on, AreFields}
-use Rattle.scan_plans.specs.Reads.{AreColumns, any_overflow_on}
+use Rattle.scan_plans.specs.Reads.{AreColumns, AllDecode, any_overflow_on}
+use Rattle.scan_plans.specs.Wants.{wanted, all_wanted}
+use Rattle.scan_plans.proofs.Building.{fails_append}
 
 -- ---- lengths
 length-map : {A B : Type 0} (f : A → B) (xs : List A) → length (map f xs) ≡ length xs
@@ -141,6 +143,13 @@ columns_within no_plans here is [] h = refl
 columns_within no_plans here is (a ∷ cs) h = absurd h
 columns_within (plan p ps) here is [] h = absurd h
 columns_within (plan p ps) here is (a ∷ cs) h = rw ((h.0).within) (columns_within ps here is cs h.1)
+
+-- what the plans want was found
+pub columns_found : (ps : PlanTrees) (here : Came) (is : List ℕ) (cs : List ArrayData) → AreColumns ps here is cs → AllDecode (all_wanted ps here is) (arrived here)
+columns_found no_plans here is [] h = λ id. refl
+columns_found no_plans here is (a ∷ cs) h = absurd h
+columns_found (plan p ps) here is [] h = absurd h
+columns_found (plan p ps) here is (a ∷ cs) h = λ id. fails_append (wanted p here is) (all_wanted ps here is) (arrived here) id ∙ rw ((h.0).found id) (columns_found ps here is cs h.1 id)
 
 -- with columns of its parts a plan overflows where its expression does
 pub over_within : (d : DataType) (e : Expr) (ps : PlanTrees) (here : Came) (is : List ℕ) (cs : List ArrayData) → AreColumns ps here is cs → overflow_on (over d e ps) (arrived here) is ≡ list_any (own_overflow d e ps (arrived here)) is

@@ -8,13 +8,13 @@ use Rattle.scan_plans.specs.Masks.{Filter as Seen, MaskData, mask_data, AreFilte
 use Rattle.scan_plans.specs.Meaning.{Within, plan_dtype}
 use Rattle.scan_plans.specs.MaskView.{filter_of, filters_of}
 use Rattle.scan_plans.specs.Knowing.{Reaches, Runs, RunsAll, Lacking, Knows}
-use Rattle.scan_plans.specs.Wants.{lacks}
+use Rattle.scan_plans.specs.Wants.{lacks, spoils}
 use Rattle.scan_plans.specs.declared.fault.ReadFault.{ReadFault}
 use Rattle.scan_plans.specs.declared.fault.ReadFault.TheVariants.{Corrupt, Overflow, NoMemory}
 use Rattle.scan_plans.specs.declared.mask.Filter.{Filter}
 use Rattle.scan_plans.specs.declared.mask.Ran.TheVariants.{Known, Pending}
 use Rattle.scan_plans.proofs.RowLemmas.{drop_twice}
-use Rattle.scan_plans.proofs.Filtering.{reach_next, reach_length, reach_spoils, reach_spilled, reach_mask, reach_may, reach_lacks, filters_drop, filters_at, first_lacks, first_spoils, first_spills}
+use Rattle.scan_plans.proofs.Filtering.{reach_next, reach_length, reach_spoils, reach_spilled, reach_mask, reach_may, reach_lacks, reach_bad, filters_drop, filters_at, first_lacks, first_spoils, first_spills}
 
 seen_at : (k : ℕ) (fs : List Filter) (f : Filter) → k < length fs → f ≡ get_or fs k f → filter_of f ≡ get_or (filters_of fs) k (filter_of f)
 seen_at zero [] f h e = let z : ⊥ = omega (arith, h) in absurd z
@@ -49,7 +49,9 @@ runs_fault here bits mid fs k f Overflow r h e w = λ store holds.
     sym (reach_spilled here bits (filters_of fs) k mid store r holds) ∙ ap (λ (gs : List Seen). spilled store mid gs) next ∙ first_spills here mid (filter_of f) (drop (suc k) (filters_of fs)) w.0 w.1 store holds
 runs_fault here bits mid fs k f NoMemory r h e w = tt
 
-pub runs_pending : (here : Came) (bits mid : List Bool) (fs : List Filter) (k : ℕ) (f : Filter) (ids : List ℕ) → Reaches here bits (filters_of fs) k mid → k < length fs → f ≡ get_or fs k f → Runs here mid (filter_of f) (Ok (Pending ids)) → AreLacking (filters_wanted here mid (drop k (filters_of fs))) here ids
+pub runs_pending : (here : Came) (bits mid : List Bool) (fs : List Filter) (k : ℕ) (f : Filter) (ids : List ℕ) → Reaches here bits (filters_of fs) k mid
+    → k < length fs → f ≡ get_or fs k f → Runs here mid (filter_of f) (Ok (Pending ids))
+    → AreLacking (filters_wanted here mid (drop k (filters_of fs))) here ids
 runs_pending here bits mid fs k f ids r h e w =
     let next = seen_drop k (filters_of fs) (filter_of f) (seen_long k fs h) (seen_at k fs f h e) in
     subst (λ (gs : List Seen). AreLacking (filters_wanted here mid gs) here ids) (sym next) (first_lacks here mid (filter_of f) (drop (suc k) (filters_of fs)) ids w)
@@ -117,8 +119,16 @@ none_lacks here id = refl
 
 pub goes_answer : (here : Came) (bits mid : List Bool) (fs : List Filter) (ran n : ℕ) (o : Option (List ℕ)) → Reaches here bits (filters_of (drop ran fs)) n mid → Lacking here mid (drop n (filters_of (drop ran fs))) o
     → Knows here (mask_data bits (filters_of (drop ran fs))) (mask_data mid (filters_of (drop (ran + n) fs))) (Ok o)
-goes_answer here bits mid fs ran n None r l = (rest_moved fs ran n ∙ l, λ id. reach_lacks here bits (filters_of (drop ran fs)) n mid id r ∙ ap (λ (gs : List Seen). lacks (filters_wanted here mid gs) here id) l)
-goes_answer here bits mid fs ran n (Some ids) r l = record { some = l.some; exact = λ id. l.exact id ∙ sym (reach_lacks here bits (filters_of (drop ran fs)) n mid id r) }
+goes_answer here bits mid fs ran n None r l = (
+  rest_moved fs ran n ∙ l,
+  λ id. reach_lacks here bits (filters_of (drop ran fs)) n mid id r ∙ ap (λ (gs : List Seen). lacks (filters_wanted here mid gs) here id) l,
+  λ id. reach_bad here bits (filters_of (drop ran fs)) n mid id r ∙ ap (λ (gs : List Seen). spoils (filters_wanted here mid gs) here id) l,
+)
+goes_answer here bits mid fs ran n (Some ids) r l = record {
+  some = l.some;
+  exact = λ id. l.exact id ∙ sym (reach_lacks here bits (filters_of (drop ran fs)) n mid id r);
+  good = λ id. reach_bad here bits (filters_of (drop ran fs)) n mid id r ∙ l.good id;
+}
 
 pub stops_answer : (here : Came) (bits : List Bool) (fs : List Seen) (m : MaskData) (x : ReadFault) → RunsAll here bits fs (Err x) → Knows here (mask_data bits fs) m (Err x)
 stops_answer here bits fs m (Corrupt id) h = h

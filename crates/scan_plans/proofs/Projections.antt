@@ -12,13 +12,13 @@ use Rattle.scan_plans.specs.MaskLists.{under, dtype_under, masks_overflow}
 use Rattle.scan_plans.specs.Meaning.{value_at, overflow_on, plan_dtype, true_rows, Within}
 use Rattle.scan_plans.specs.PlanTree.{rows}
 use Rattle.scan_plans.specs.Projecting.{KnowsAll, IsUnder, under_known, Projects}
-use Rattle.scan_plans.specs.Wants.{wanted, lacks, Complete, spoiled}
+use Rattle.scan_plans.specs.Wants.{wanted, lacks, Complete, spoils, spoiled}
 use Rattle.scan_plans.specs.declared.fault.ReadFault.{ReadFault}
 use Rattle.scan_plans.specs.declared.fault.ReadFault.TheVariants.{Corrupt, Overflow, NoMemory}
 use Rattle.scan_plans.specs.declared.given.Given.TheVariants as given
 use Rattle.scan_plans.specs.declared.future.Items.TheVariants.{Ready, Pending}
 use Rattle.scan_plans.proofs.Futures.{holds_itself, known_mask}
-use Rattle.scan_plans.proofs.Outer.{all_lacks, all_spoils, all_within, all_under, all_dtype}
+use Rattle.scan_plans.proofs.Outer.{all_lacks, all_bad, all_spoils, all_within, all_under, all_dtype}
 use Rattle.scan_plans.proofs.Segments.{next_drop, at_drop}
 use Rattle.scan_plans.proofs.Transfer.{items_same, overflow_on_same}
 
@@ -48,6 +48,7 @@ array_gives here a b e = (
     dtype = ap (λ (x : ArrayData). x.dtype) e;
     items = ap (λ (x : ArrayData). map marked x.items) e ∙ sym (all_rows a.dtype a.items (arrived here));
     within = none_over a.dtype a.items (arrived here) (true_rows 0 (replicate (length a.items) true));
+    found = λ id. refl;
   },
 )
 
@@ -79,6 +80,7 @@ module _ (here : Came) (new old : FutureData) (s : SameFuture here new old) (k :
   values_wait ids g = record {
     some = g.some;
     exact = λ id. g.exact id ∙ ap (λ ps. lacks ps here id) wants_same ∙ sym (all_lacks (masks_in old) here (wanted old.tree here (rows_of old (arrived here))) id k.1);
+    good = λ id. all_bad (masks_in old) here (wanted old.tree here (rows_of old (arrived here))) id k.1 ∙ ap (λ ps. spoils ps here id) (sym wants_same) ∙ g.good id;
   }
 
   pub values_fault : (x : ReadFault) → Gives new.tree here rows_now (Err x) → Projects here old (Err x)

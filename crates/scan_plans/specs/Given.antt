@@ -6,17 +6,18 @@ use Rattle.scan_splits.specs.Wanted.{is_any}
 use Rattle.scan_plans.specs.PlanTree.{PlanTree}
 use Rattle.scan_plans.specs.Came.{Came, arrived}
 use Rattle.scan_plans.specs.Meaning.{overflow_on}
-use Rattle.scan_plans.specs.Wants.{wanted, lacks, Complete, spoiled}
+use Rattle.scan_plans.specs.Wants.{wanted, lacks, Complete, NoneBad, spoiled}
 use Rattle.scan_plans.specs.Reads.{AreValues}
 use Rattle.scan_plans.specs.declared.fault.ReadFault.{ReadFault}
 use Rattle.scan_plans.specs.declared.fault.ReadFault.TheVariants.{Corrupt, Overflow, NoMemory}
 use Rattle.scan_plans.specs.declared.given.Given.{Given}
 use Rattle.scan_plans.specs.declared.given.Given.TheVariants.{Ready, Pending}
 
--- these ids, at least one, and no others lack
+-- these ids, at least one, and no others lack, and whatever has arrived is good
 pub record AreLacking (places : List Place) (here : Came) (ids : List ℕ) : Type 0 where
   pub some : is_any ids ≡ true
   pub exact : (id : ℕ) → is_among ids id ≡ lacks places here id
+  pub good : NoneBad places here
 
 -- the ids that lack, if any, or one that is no good
 abbrev pub Lacks : PlanTree → Came → List ℕ → Result (Option (List ℕ)) ReadFault → Type 0

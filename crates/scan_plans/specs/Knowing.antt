@@ -8,7 +8,7 @@ use Rattle.scan_plans.specs.Came.{Came, arrived, Holds}
 use Rattle.scan_plans.specs.Given.{AreLacking}
 use Rattle.scan_plans.specs.Masks.{MaskData, Filter, kept, filters_wanted, filters_spoiled, mask_wanted, mask_spoiled, mask_overflow, spilled}
 use Rattle.scan_plans.specs.Meaning.{overflow_on, true_rows}
-use Rattle.scan_plans.specs.Wants.{wanted, Complete, spoiled}
+use Rattle.scan_plans.specs.Wants.{wanted, Complete, NoneBad, spoiled}
 use Rattle.scan_plans.specs.declared.fault.ReadFault.{ReadFault}
 use Rattle.scan_plans.specs.declared.fault.ReadFault.TheVariants.{Corrupt, Overflow, NoMemory}
 use Rattle.scan_plans.specs.declared.mask.Ran.{Ran}
@@ -19,9 +19,10 @@ use Rattle.scan_plans.specs.declared.mask.Progress.{Progress}
 abbrev pub KeepsRows : List Bool → List Val → List Bool → Type 0
 KeepsRows bits items new = new ≡ by_rank bits (map (λ v. is_true (marked v)) items)
 
--- nothing lacks for a filter over a mask, and it does not overflow
+-- nothing lacks for a filter over a mask, it does not overflow, and nothing that it wants is bad
 abbrev pub RunsWell : Came → List Bool → Filter → Type 0
-RunsWell here bits f = Complete (wanted f.0 here (true_rows f.1 bits)) here × (overflow_on f.0 (arrived here) (true_rows f.1 bits) ≡ false)
+RunsWell here bits f =
+    Complete (wanted f.0 here (true_rows f.1 bits)) here × (overflow_on f.0 (arrived here) (true_rows f.1 bits) ≡ false) × NoneBad (wanted f.0 here (true_rows f.1 bits)) here
 
 -- a filter over a mask: the mask after it, the ids that lack, one that is no good, or an overflow
 abbrev pub Runs : Came → List Bool → Filter → Result Ran ReadFault → Type 0
@@ -54,7 +55,7 @@ RunsAll here bits fs (Err NoMemory) = Unit {0}
 
 -- the ids that lack of a mask future, none where it is known from then on, a segment that is no good, or an overflow
 abbrev pub Knows : Came → MaskData → MaskData → Result (Option (List ℕ)) ReadFault → Type 0
-Knows here old new (Ok None) = (new.filters ≡ []) × Complete (mask_wanted old here) here
+Knows here old new (Ok None) = (new.filters ≡ []) × Complete (mask_wanted old here) here × NoneBad (mask_wanted old here) here
 Knows here old new (Ok (Some ids)) = AreLacking (mask_wanted old here) here ids
 Knows here old new (Err (Corrupt id)) = mask_spoiled old here id ≡ true
 Knows here old new (Err Overflow) = (store : Store) → Holds store here → mask_overflow old store ≡ true

@@ -15,6 +15,7 @@ pub mod Reads
 pub mod Masks
 pub mod Given
 pub mod OffsetReads
+pub mod Checking
 pub mod PlanData
 pub mod MaskView
 pub mod Knowing

@@ -13,6 +13,7 @@ use Rattle.scan_plans.specs.Came.{Came, arrived}
 use Rattle.scan_plans.specs.Meaning.{true_rows}
 use Rattle.scan_plans.specs.Lists.{rows_on, IsSpan, is_whole, element_rows, good_offset}
 use Rattle.scan_plans.specs.ListItems.{sizes_in, first_in, last_in}
+use Rattle.scan_plans.specs.Reads.{AllDecode}
 use Rattle.scan_plans.specs.Wants.{leaf_wanted, offsets_wanted, knows_elements, lacks, names_id, offsets_spoiled, spoils, any_bad, Complete}
 use Rattle.scan_plans.specs.declared.fault.ReadFault.{ReadFault}
 use Rattle.scan_plans.specs.declared.fault.ReadFault.TheVariants.{Corrupt, Overflow, NoMemory}
@@ -30,10 +31,11 @@ abbrev pub Climbs : ℕ → ℕ → List ℕ → Type 0
 Climbs most before [] = Unit {0}
 Climbs most before (n ∷ ns) = (before ≤ n) × (n ≤ most) × Climbs most n ns
 
--- these are the offsets of so many rows from one on, and all are good
+-- these are the offsets of so many rows from one on, all are good, and each segment of them decodes
 pub record AreOffsets (o : OffsetsData) (store : Store) (i n : ℕ) (ns : List ℕ) : Type 0 where
   pub at : map (offset_at o store) (rows_on i n) ≡ map (λ k. Some (pos k)) ns
   pub climbs : Climbs o.elements 0 ns
+  pub found : AllDecode (leaf_wanted 0 (offset_places o) (rows_on i n)) store
 
 -- one of these numbers is no good as the offset of its row, of which the segment of this id has the offset
 abbrev pub bad_in : OffsetsData → ℕ → ℕ → List ℤ → ℕ → Bool

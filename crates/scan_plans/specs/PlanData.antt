@@ -1,6 +1,8 @@
 -- What a contract sees of a plan: the expression that it was made of, and the tree of its nodes.
-use Rattle.std.specs.Prelude.{◌≡◌, refl}
+use Rattle.std.specs.Prelude.{◌≡◌, List, [], ◌∷◌, map, refl}
 use Rattle.std.specs.Coded.{Coded, code_by, coded×}
+use Rattle.std.specs.declared.alloc.Global.{Global}
+use Rattle.std.specs.declared.sync.Arc.{Arc}
 use Rattle.scan_expr.specs.Bound.{Bound, bound_code}
 use Rattle.scan_expr.specs.Infer.{infer}
 use Rattle.scan_plans.specs.PlanTree.{PlanTree}
@@ -20,3 +22,12 @@ plan_data e p = record { expr = e; tree = p }
 -- the values have the expression's dtype
 abbrev pub IsPlan : PlanData → Type 0
 IsPlan a = plan_dtype a.tree ≡ infer (a.expr).scope (a.expr).expr
+
+-- a fact of each of several plans
+abbrev pub EachPlan : (PlanData → Type 0) → List PlanData → Type 0
+EachPlan P [] = Unit {0}
+EachPlan P (p ∷ ps) = P p × EachPlan P ps
+
+-- what shared plans are
+abbrev pub plans_of : List (Arc PlanData Global) → List PlanData
+plans_of rs = map (λ r. r.value) rs

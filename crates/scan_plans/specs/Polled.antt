@@ -9,8 +9,9 @@ use Rattle.scan_plans.specs.Futures.{FutureData, GivesItems, future_wanted, futu
 use Rattle.scan_plans.specs.Given.{AreLacking}
 use Rattle.scan_plans.specs.Masks.{MaskData, mask_of, mask_overflow, mask_wanted, mask_spoiled}
 
--- Of an array: the values whatever holds what has arrived; exactly the ids that lack of what is wanted next; a wanted
--- segment that arrived as missing or is not spelled as its leaf has it; or an overflow.
+-- Of an array: the values whatever holds what has arrived; exactly the ids that lack of what is wanted next, where nothing
+-- of that which has arrived is bad; a wanted segment that arrived as missing or is not spelled as its leaf has it; or an
+-- overflow.
 abbrev pub Polls : Came → FutureData → Poll ArrayData → Type 0
 Polls here f (Ready a) = GivesItems here f a
 Polls here f (Pending ids) = AreLacking (future_wanted f here) here ids

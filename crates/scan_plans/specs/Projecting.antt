@@ -10,7 +10,7 @@ use Rattle.scan_plans.specs.Futures.{FutureData, GivesItems, future_wanted, futu
 use Rattle.scan_plans.specs.Given.{AreLacking}
 use Rattle.scan_plans.specs.MaskLists.{nulled, dtype_under, masks_overflow, masks_wanted, masks_spoiled}
 use Rattle.scan_plans.specs.Masks.{MaskData, mask_wanted}
-use Rattle.scan_plans.specs.Wants.{Complete}
+use Rattle.scan_plans.specs.Wants.{Complete, NoneBad}
 use Rattle.scan_plans.specs.declared.fault.ReadFault.{ReadFault}
 use Rattle.scan_plans.specs.declared.fault.ReadFault.TheVariants.{Corrupt, Overflow, NoMemory}
 use Rattle.scan_plans.specs.declared.given.Given.{Given}
@@ -23,10 +23,10 @@ abbrev pub AreKnown : List MaskData → Type 0
 AreKnown [] = Unit {0}
 AreKnown (m ∷ ms) = (m.filters ≡ []) × AreKnown ms
 
--- nothing lacks for any
+-- nothing lacks for any, and nothing is bad
 abbrev pub AreComplete : List MaskData → Came → Type 0
 AreComplete [] here = Unit {0}
-AreComplete (m ∷ ms) here = Complete (mask_wanted m here) here × AreComplete ms here
+AreComplete (m ∷ ms) here = Complete (mask_wanted m here) here × NoneBad (mask_wanted m here) here × AreComplete ms here
 
 -- the ids that lack of several masks, none where they are known from then on, a segment that is no good, or an overflow
 abbrev pub KnowsAll : Came → List MaskData → List MaskData → Result (Option (List ℕ)) ReadFault → Type 0

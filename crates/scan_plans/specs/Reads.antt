@@ -18,6 +18,10 @@ use Rattle.scan_plans.specs.declared.fault.ReadFault.TheVariants.{Corrupt, Overf
 abbrev pub fails : List Place → Store → ℕ → Bool
 fails places store id = list_any (λ (p : Place). (p.id == id) && is_none (decoded store p)) places
 
+-- a store has each of the segments, as it is spelled there
+abbrev pub AllDecode : List Place → Store → Type 0
+AllDecode places store = (id : ℕ) → fails places store id ≡ false
+
 -- ids are added: exactly those that lack, each named by a segment; or one is no good
 abbrev pub CollectsBy : {A : Type 0} → List ℕ → List ℕ → List Place → (ℕ → Bool) → Came → Result A ReadFault → Type 0
 CollectsBy old new places bad here (Ok x) = (id : ℕ) → is_among new id ≡ (is_among old id || lacks places here id)
@@ -35,11 +39,12 @@ CollectsPlan old new p here is r = CollectsBy old new (wanted p here is) (spoile
 abbrev pub CollectsAll : {A : Type 0} → List ℕ → List ℕ → PlanTrees → Came → List ℕ → Result A ReadFault → Type 0
 CollectsAll old new ps here is r = CollectsBy old new (all_wanted ps here is) (any_spoiled ps here is) here r
 
--- these are the values of rows, by what has arrived, and none of them overflows
+-- these are the values of rows, by what has arrived, none of them overflows, and each segment that they want decodes
 pub record AreValues (p : PlanTree) (here : Came) (is : List ℕ) (a : ArrayData) : Type 0 where
   pub dtype : a.dtype ≡ plan_dtype p
   pub items : map marked a.items ≡ map (value_at p (arrived here)) is
   pub within : overflow_on p (arrived here) is ≡ false
+  pub found : AllDecode (wanted p here is) (arrived here)
 
 -- the values of rows, an overflow at one of the rows, or, where nothing lacks, a segment that is no good
 abbrev pub Reads : PlanTree → Came → List ℕ → Result ArrayData ReadFault → Type 0
@@ -60,16 +65,17 @@ abbrev pub any_overflow_on : PlanTrees → Store → List ℕ → Bool
 any_overflow_on no_plans store is = false
 any_overflow_on (plan p ps) store is = overflow_on p store is || any_overflow_on ps store is
 
--- rows of a segment that begin at one, under a mask
+-- rows of a segment that begin at one, under a mask: the segment decodes
 abbrev pub ReadsSegment : Store → Place → ℕ → List Bool → Result ArrayData ReadFault → Type 0
-ReadsSegment store p skip bits (Ok a) = (a.dtype ≡ p.dtype) × (map marked a.items ≡ map (segment_value store p) (true_rows skip bits))
+ReadsSegment store p skip bits (Ok a) = (a.dtype ≡ p.dtype) × (map marked a.items ≡ map (segment_value store p) (true_rows skip bits)) × (is_none (decoded store p) ≡ false)
 ReadsSegment store p skip bits (Err (Corrupt id)) = (id ≡ p.id) × (decoded store p ≡ None)
 ReadsSegment store p skip bits (Err Overflow) = ⊥
 ReadsSegment store p skip bits (Err NoMemory) = Unit {0}
 
 -- the same after other values, where a row is true
 abbrev pub AddsSegment : Store → Place → ℕ → List Bool → ArrayData → Result ArrayData ReadFault → Type 0
-AddsSegment store p skip bits before (Ok a) = (a.dtype ≡ p.dtype) × (map marked a.items ≡ map marked before.items ++ map (segment_value store p) (true_rows skip bits))
+AddsSegment store p skip bits before (Ok a) =
+    (a.dtype ≡ p.dtype) × (map marked a.items ≡ map marked before.items ++ map (segment_value store p) (true_rows skip bits)) × AllDecode (if list_any (λ b. b) bits then p ∷ [] else []) store
 AddsSegment store p skip bits before (Err (Corrupt id)) = fails (if list_any (λ b. b) bits then p ∷ [] else []) store id ≡ true
 AddsSegment store p skip bits before (Err Overflow) = ⊥
 AddsSegment store p skip bits before (Err NoMemory) = Unit {0}

@@ -89,6 +89,10 @@ is_bad p (Some (Some bytes)) = is_none (decode p.spelling p.dtype p.rows bytes)
 abbrev pub spoils : List Place → Came → ℕ → Bool
 spoils places came id = list_any (λ (p : Place). (p.id == id) && is_bad p (came id)) places
 
+-- whatever has arrived of these segments is spelled as its place has it
+abbrev pub NoneBad : List Place → Came → Type 0
+NoneBad places came = (id : ℕ) → spoils places came id ≡ false
+
 -- one of these rows has an offset that is no good, which stands in the segment of this id
 abbrev pub any_bad : OffsetsData → Store → ℕ → List ℕ → ℕ → Bool
 any_bad o store before [] id = false

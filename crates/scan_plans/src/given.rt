@@ -18,7 +18,8 @@ pub enum Given {
     Pending(WantedIds),
 }
 
-/// The ids of the segments that true rows want next and that have not arrived, if any.
+/// The ids of the segments that true rows want next and that have not arrived, if any. Where there are some, what has
+/// arrived is looked at: a segment that is no good is told before others are waited for.
 fn lacking(
     alloc: Global,
     node: &PlanNode,
@@ -34,6 +35,7 @@ fn lacking(
     match wants.into_wanted() {
         Some(ids) => {
             let _some = ids.as_slice();
+            node.check(alloc, first, mask, inbox)?;
             Ok(Some(ids))
         }
         None => Ok(None),

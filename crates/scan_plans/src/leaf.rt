@@ -23,7 +23,7 @@ use std::alloc::Global;
 use std::sync::Arc;
 
 /// Whether a row is true.
-fn any_true(bits: &[bool]) -> bool
+pub(crate) fn any_true(bits: &[bool]) -> bool
     ensures { result ≡ list_any (λ b. b) bits.now }
 {
     for bit in bits {
@@ -35,7 +35,7 @@ fn any_true(bits: &[bool]) -> bool
 }
 
 /// Of the bits of the rows from `first` on, those of the rows from `start` up to `end`.
-fn part_of<'a>(bits: &'a [bool], first: u64, start: u64, end: u64) -> &'a [bool]
+pub(crate) fn part_of<'a>(bits: &'a [bool], first: u64, start: u64, end: u64) -> &'a [bool]
     requires { start ≤ end }
     ensures { result.now ≡ part_of first start end bits.entry.now }
 {
@@ -52,7 +52,7 @@ fn within(bits: &[bool], n: u64) -> usize
 }
 
 /// Whether rows from `first` on end before a row.
-fn ends_before(first: u64, bits: &[bool], row: u64) -> bool
+pub(crate) fn ends_before(first: u64, bits: &[bool], row: u64) -> bool
     ensures { result ≡ nat_le (length bits.now) (row - first) }
 {
     bits.len() as u64 <= row.saturating_sub(first)

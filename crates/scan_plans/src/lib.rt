@@ -1,6 +1,7 @@
 //! Plans: what a reader makes of an expression, what rows of it want of the segments, and what they give.
 #![tactic(auto)]
 
+mod checking;
 mod copying;
 mod fault;
 mod future;

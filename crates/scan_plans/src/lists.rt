@@ -56,7 +56,7 @@ pub struct Whole {
 }
 
 /// The true rows of the rows from `first` on, without those before and after them.
-fn span_of(alloc: Global, first: u64, mask: &Mask) -> Result<Option<Span>, NoMemory>
+pub(crate) fn span_of(alloc: Global, first: u64, mask: &Mask) -> Result<Option<Span>, NoMemory>
     requires { first + length mask.now < 2 ^ 64 }
     ensures { IfOk result (λ s. Spans first mask.now s) }
 {

@@ -56,6 +56,48 @@ fn a_missing_segment_is_no_good(rt: HostRuntime) -> Result<(), Fail> {
     Ok(())
 }
 
+/// All rows of the leaf, which stand in the segments 0 and 1.
+fn all_rows(alloc: Global) -> Result<ArrayFuture, Fail> {
+    let plan = plan_of_leaf(alloc)?;
+    project_all(alloc, &plan)
+}
+
+#[test]
+fn a_first_segment_that_is_no_good_is_told_before_the_second_has_come(
+    rt: HostRuntime,
+) -> Result<(), Fail> {
+    let alloc = rt.alloc();
+    let mut inbox = Inbox::new(alloc);
+    let mut future = all_rows(alloc)?;
+    deliver(alloc, &mut inbox, 0, &[1, 0, 0])?;
+    assert!(rt; refuses(alloc, &mut future, &inbox, 0));
+    Ok(())
+}
+
+#[test]
+fn a_second_segment_that_is_no_good_is_told_before_the_first_has_come(
+    rt: HostRuntime,
+) -> Result<(), Fail> {
+    let alloc = rt.alloc();
+    let mut inbox = Inbox::new(alloc);
+    let mut future = all_rows(alloc)?;
+    deliver(alloc, &mut inbox, 1, &[3])?;
+    assert!(rt; refuses(alloc, &mut future, &inbox, 1));
+    Ok(())
+}
+
+#[test]
+fn a_good_segment_waits_for_the_other(rt: HostRuntime) -> Result<(), Fail> {
+    let alloc = rt.alloc();
+    let mut inbox = Inbox::new(alloc);
+    let mut future = all_rows(alloc)?;
+    deliver(alloc, &mut inbox, 0, &[1, 0, 0, 0, 2, 0, 0, 0])?;
+    assert!(rt; waits(alloc, &mut future, &inbox, 1));
+    deliver(alloc, &mut inbox, 1, &[3, 0, 0, 0])?;
+    assert!(rt; gives(alloc, &mut future, &inbox, &[1, 2, 3]));
+    Ok(())
+}
+
 /// Which of the first two rows of the leaf are above 1.
 fn above_one(alloc: Global) -> Result<MaskFuture, Fail> {
     let plan = plan_above_one(alloc)?;
@@ -83,6 +125,25 @@ fn a_filter_keeps_the_true_rows_above_one(rt: HostRuntime) -> Result<(), Fail> {
     deliver(alloc, &mut inbox, 0, &[1, 0, 0, 0, 2, 0, 0, 0])?;
     deliver(alloc, &mut inbox, 1, &[3, 0, 0, 0])?;
     assert!(rt; is_mask(alloc, &mut mask, &inbox, &[false, true, false]));
+    Ok(())
+}
+
+/// Whether the next poll of a mask finds a segment no good.
+fn refuses_mask(alloc: Global, mask: &mut MaskFuture, inbox: &Inbox, id: u32) -> bool {
+    let poll = mask.poll(alloc, inbox);
+    spoils(&poll, id)
+}
+
+#[test]
+fn a_filter_tells_a_segment_that_is_no_good_before_the_other_has_come(
+    rt: HostRuntime,
+) -> Result<(), Fail> {
+    let alloc = rt.alloc();
+    let mut inbox = Inbox::new(alloc);
+    let plan = plan_above_one(alloc)?;
+    let mut mask = filter(alloc, &plan, [true, true, true])?;
+    deliver(alloc, &mut inbox, 0, &[1, 0, 0])?;
+    assert!(rt; refuses_mask(alloc, &mut mask, &inbox, 0));
     Ok(())
 }
 

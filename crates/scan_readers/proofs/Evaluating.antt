@@ -109,7 +109,9 @@ filter_means s p first end m is below l = record {
   size = refl;
   mask = λ store. filtered_last store m.known m.filters (p.tree, first) ∙ rows_kept s p.expr p.tree store (is.value store) first (mask_of m store) (within store);
   overflow = λ store. spilled_last store m.known m.filters (p.tree, first) ∙ ap (λ b. mask_overflow m store || b) (any_rows (overflow_at p.tree store) (overflows_at s p.expr store) first (mask_of m store) (λ i low high. is.overflow store i (under store i high)));
-  wants = λ store here id holds w. last_wants here id (may_want s p.expr store first (first + length m.known) id) (p.tree, first) (length m.known) m.known m.filters (λ bits same h. subst (λ n. may_want s p.expr store first (first + n) id ≡ true) same (is.wants store here first bits id holds (omega (arith, same, below, l)) h)) refl w;
+  wants = λ store here id holds w. last_wants here id (may_want s p.expr store first (first + length m.known) id) (p.tree, first)
+      (length m.known) m.known m.filters (λ bits same h. subst (λ n. may_want s p.expr store first (first + n) id ≡ true) same
+      (is.wants store here first bits id holds (omega (arith, same, below, l)) h)) refl w;
 }
   where
     within : (store : Store) → first + length (mask_of m store) ≤ s.rows
@@ -122,7 +124,9 @@ pub projection_means : (s : ReaderState) (p : PlanData) (first end : ℕ) (m : M
 projection_means s p first end m is below l = record {
   dtype = is.dtype;
   items = λ store. map_rows (value_at p.tree store) (value_of s p.expr store) first (mask_of m store) (λ i low high. is.value store i (under store i high));
-  overflow = λ store. ap (λ b. b || overflow_on p.tree store (true_rows first (mask_of m store))) (or_false (mask_overflow m store)) ∙ ap (λ b. mask_overflow m store || b) (any_rows (overflow_at p.tree store) (overflows_at s p.expr store) first (mask_of m store) (λ i low high. is.overflow store i (under store i high)));
+  overflow = λ store. ap (λ b. b || overflow_on p.tree store (true_rows first (mask_of m store))) (or_false (mask_overflow m store))
+      ∙ ap (λ b. mask_overflow m store || b) (any_rows (overflow_at p.tree store) (overflows_at s p.expr store) first (mask_of m store)
+      (λ i low high. is.overflow store i (under store i high)));
   wants = λ store here id holds w.
       let t = may_want s p.expr store first (first + length m.known) id in
       let ws = mask_wanted m here in

@@ -6,9 +6,9 @@ use Rattle.std.specs.declared.alloc.Global.{Global}
 use Rattle.std.specs.declared.sync.Arc.{Arc}
 use Rattle.scan_expr.specs.Bound.{Bound}
 use Rattle.scan_expr.specs.Same.{same_bound, same_bound-Decides}
-use Rattle.scan_plans.specs.PlanData.{PlanData}
+use Rattle.scan_plans.specs.PlanData.{PlanData, EachPlan, plans_of}
 use Rattle.scan_values.specs.declared.memory.NoMemory.{NoMemory}
-use Rattle.scan_readers.specs.Kept.{Kept, Stay, find_plan, EachPlan, plans_of, Makes}
+use Rattle.scan_readers.specs.Kept.{Kept, Stay, find_plan, Makes}
 use Rattle.scan_readers.specs.PlanOf.{IsPlanOf}
 use Rattle.scan_readers.specs.Readers.{ReaderState}
 

@@ -199,13 +199,16 @@ by_own e p t n rows q el sp gs ls o is h form =
 counted : (el : Layout) (c : ℕ) → Some (rows_of el) ≡ Some c → rows_of el ≡ c
 counted el c e = cc
 
-pub lengths_plan : {E : Type 0} (l : Layout) (e : Bound) (o : LeafReader) (c : ℕ) (r : Result PlanTree E) → IsList l → nth_kid (kids_of l) 1 ≡ Some (leaf_of o) → IsValidityOf l None → option_map rows_of (nth_kid (kids_of l) 0) ≡ Some c → e.scope ≡ dtype_of l → IfOk r (IsLengthsPlan e o c) → IfOk r (Plans l e)
+pub lengths_plan : {E : Type 0} (l : Layout) (e : Bound) (o : LeafReader) (c : ℕ) (r : Result PlanTree E) → IsList l → nth_kid (kids_of l) 1 ≡ Some (leaf_of o)
+    → IsValidityOf l None → option_map rows_of (nth_kid (kids_of l) 0) ≡ Some c → e.scope ≡ dtype_of l → IfOk r (IsLengthsPlan e o c) → IfOk r (Plans l e)
 lengths_plan l e o c (Ok p) list off own count scope h =
     for_lists (λ m. nth_kid (kids_of m) 1 ≡ Some (leaf_of o) → IsValidityOf m None → option_map rows_of (nth_kid (kids_of m) 0) ≡ Some c → e.scope ≡ dtype_of m → Plans m e p) (λ t n rows q el sp gs ls form is none some.
     with_none e p t n rows q el sp gs ls (λ s f. by_own e p t NonNullable rows q el sp gs ls o is (λ g name. h name t rows q el ls s (own_numbers t n rows q el sp gs ls o is) (counted el c some) g) f) form none) l list off own count scope
 lengths_plan l e o c (Err f) list off own count scope h = tt
 
-pub valid_lengths_plan : {E : Type 0} (l : Layout) (e : Bound) (o : LeafReader) (c : ℕ) (v : LeafReader) (r : Result PlanTree E) → IsList l → nth_kid (kids_of l) 1 ≡ Some (leaf_of o) → IsValidityOf l (Some v) → option_map rows_of (nth_kid (kids_of l) 0) ≡ Some c → e.scope ≡ dtype_of l → IfOk r (IsValidLengthsPlan e o c v) → IfOk r (Plans l e)
+pub valid_lengths_plan : {E : Type 0} (l : Layout) (e : Bound) (o : LeafReader) (c : ℕ) (v : LeafReader) (r : Result PlanTree E) → IsList l
+    → nth_kid (kids_of l) 1 ≡ Some (leaf_of o) → IsValidityOf l (Some v) → option_map rows_of (nth_kid (kids_of l) 0) ≡ Some c → e.scope ≡ dtype_of l
+    → IfOk r (IsValidLengthsPlan e o c v) → IfOk r (Plans l e)
 valid_lengths_plan l e o c v (Ok p) list off own count scope h =
     for_lists (λ m. nth_kid (kids_of m) 1 ≡ Some (leaf_of o) → IsValidityOf m (Some v) → option_map rows_of (nth_kid (kids_of m) 0) ≡ Some c → e.scope ≡ dtype_of m → Plans m e p) (λ t n rows q el sp gs ls form is there some.
     with_valid e p v t n rows q el sp gs ls (λ rest s f. by_own e p t Nullable rows q el sp gs (child (leaf_of v) rest) o is (λ g name. h name t rows q el rest s (own_numbers t n rows q el sp gs ls o is) (counted el c some) g) f) form there) l list off own count scope
@@ -216,16 +219,22 @@ element_plan t el kids k name part =
     let same : el ≡ part.layout = (let z : Some el ≡ Some part.layout = part.kid in cc) in
     subst (λ (x : Layout). IsPlanOf (layout_state name x) (bound_of t root) (plan_data (bound_of t root) k)) (sym same) (part.plan name)
 
-pub all_plan : {E : Type 0} (l : Layout) (e : Bound) (k : PlanTree) (o : LeafReader) (c : ℕ) (r : Result PlanTree E) → IsList l → IsPartPlan (kids_of l) (elements_part l) k → nth_kid (kids_of l) 1 ≡ Some (leaf_of o) → IsValidityOf l None → option_map rows_of (nth_kid (kids_of l) 0) ≡ Some c → e.scope ≡ dtype_of l → IfOk r (IsListsPlan e k o c) → IfOk r (Plans l e)
+pub all_plan : {E : Type 0} (l : Layout) (e : Bound) (k : PlanTree) (o : LeafReader) (c : ℕ) (r : Result PlanTree E) → IsList l
+    → IsPartPlan (kids_of l) (elements_part l) k → nth_kid (kids_of l) 1 ≡ Some (leaf_of o) → IsValidityOf l None
+    → option_map rows_of (nth_kid (kids_of l) 0) ≡ Some c → e.scope ≡ dtype_of l → IfOk r (IsListsPlan e k o c) → IfOk r (Plans l e)
 all_plan l e k o c (Ok p) list part off own count scope h =
     for_lists (λ m. IsPartPlan (kids_of m) (elements_part m) k → nth_kid (kids_of m) 1 ≡ Some (leaf_of o) → IsValidityOf m None → option_map rows_of (nth_kid (kids_of m) 0) ≡ Some c → e.scope ≡ dtype_of m → Plans m e p) (λ t n rows q el sp gs ls form each is none some.
     with_none e p t n rows q el sp gs ls (λ s f. by_own e p t NonNullable rows q el sp gs ls o is (λ g name. h name t rows q el ls s (own_numbers t n rows q el sp gs ls o is) (counted el c some) g (element_plan t el _ k name each)) f) form none) l list part off own count scope
 all_plan l e k o c (Err f) list part off own count scope h = tt
 
-pub valid_all_plan : {E : Type 0} (l : Layout) (e : Bound) (k : PlanTree) (o : LeafReader) (c : ℕ) (v : LeafReader) (r : Result PlanTree E) → IsList l → IsPartPlan (kids_of l) (elements_part l) k → nth_kid (kids_of l) 1 ≡ Some (leaf_of o) → IsValidityOf l (Some v) → option_map rows_of (nth_kid (kids_of l) 0) ≡ Some c → e.scope ≡ dtype_of l → IfOk r (IsValidListsPlan e k o c v) → IfOk r (Plans l e)
+pub valid_all_plan : {E : Type 0} (l : Layout) (e : Bound) (k : PlanTree) (o : LeafReader) (c : ℕ) (v : LeafReader) (r : Result PlanTree E) → IsList l
+    → IsPartPlan (kids_of l) (elements_part l) k → nth_kid (kids_of l) 1 ≡ Some (leaf_of o) → IsValidityOf l (Some v)
+    → option_map rows_of (nth_kid (kids_of l) 0) ≡ Some c → e.scope ≡ dtype_of l → IfOk r (IsValidListsPlan e k o c v) → IfOk r (Plans l e)
 valid_all_plan l e k o c v (Ok p) list part off own count scope h =
     for_lists (λ m. IsPartPlan (kids_of m) (elements_part m) k → nth_kid (kids_of m) 1 ≡ Some (leaf_of o) → IsValidityOf m (Some v) → option_map rows_of (nth_kid (kids_of m) 0) ≡ Some c → e.scope ≡ dtype_of m → Plans m e p) (λ t n rows q el sp gs ls form each is there some.
-    with_valid e p v t n rows q el sp gs ls (λ rest s f. by_own e p t Nullable rows q el sp gs (child (leaf_of v) rest) o is (λ g name. h name t rows q el rest s (own_numbers t n rows q el sp gs ls o is) (counted el c some) g (element_plan t el _ k name each)) f) form there) l list part off own count scope
+    with_valid e p v t n rows q el sp gs ls (λ rest s f. by_own e p t Nullable rows q el sp gs (child (leaf_of v) rest) o is
+    (λ g name. h name t rows q el rest s (own_numbers t n rows q el sp gs ls o is) (counted el c some) g (element_plan t el _ k name each)) f) form there) l
+    list part off own count scope
 valid_all_plan l e k o c v (Err f) list part off own count scope h = tt
 
 pub kid_leaf : {E : Type 0} (r : Result LeafReader E) (ls : Nodes) (k : ℕ) (l : Layout) → nth_kid ls k ≡ Some l → IfOk r (λ x. leaf_of x ≡ l) → IfOk r (λ x. nth_kid ls k ≡ Some (leaf_of x))

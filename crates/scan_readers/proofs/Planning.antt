@@ -121,14 +121,20 @@ module _ (fit : RowsFitTypes) (no_more : PartsNeedNoMore) (are_over : StructsAre
       is_parted fs n (node (struct_type fs n) rows Struct kids) x refl forms (are_over (bound_of (struct_type fs n) x) whole refl).distinct names deep p (subst (SplitForms (struct_type fs n)) (sym is) (split_forms (struct_type fs n) x)) keep parts own numbers)
       l e form kind scope partable exact keeps has
 
-  plan_of_parts : (l : Layout) (e : Bound) (p : Partitioned) (q : PlanTree) → HasForm l (dtype_of l) → kind_of l ≡ Struct → e.scope ≡ dtype_of l → IsPartable e → p ≡ split e.scope e.expr → KeepsWhole e p → HasItems e.scope p → IsPartedPlan (kids_of l) e p q → (name : Name) → IsPlanOf (layout_state name l) e (plan_data e q)
+  plan_of_parts : (l : Layout) (e : Bound) (p : Partitioned) (q : PlanTree) → HasForm l (dtype_of l) → kind_of l ≡ Struct → e.scope ≡ dtype_of l → IsPartable e
+      → p ≡ split e.scope e.expr → KeepsWhole e p → HasItems e.scope p → IsPartedPlan (kids_of l) e p q → (name : Name)
+      → IsPlanOf (layout_state name l) e (plan_data e q)
   plan_of_parts l e p q form kind scope partable exact keeps has is =
       for_structs (λ m b. p ≡ split b.scope b.expr → KeepsWhole b p → HasItems b.scope p → IsPartedPlan (kids_of m) b p q → (name : Name) → IsPlanOf (layout_state name m) b (plan_data b q))
       (λ fs n rows kids x even forms whole same keep own made name.
-      parted_plan fs n rows kids x fit even forms (are_over (bound_of (struct_type fs n) x) whole refl).distinct name p q (subst (SplitForms (struct_type fs n)) (sym same) (split_forms (struct_type fs n) x)) keep (subst (SplitNeedsNoMore (bound_of (struct_type fs n) x)) (sym same) (no_more (bound_of (struct_type fs n) x) whole refl)) own made)
+      parted_plan fs n rows kids x fit even forms (are_over (bound_of (struct_type fs n) x) whole refl).distinct name p q
+      (subst (SplitForms (struct_type fs n)) (sym same) (split_forms (struct_type fs n) x)) keep
+      (subst (SplitNeedsNoMore (bound_of (struct_type fs n) x)) (sym same) (no_more (bound_of (struct_type fs n) x) whole refl)) own made)
       l e form kind scope partable exact keeps has is
 
-  pub plan_from_parts : {E : Type 0} (l : Layout) (e : Bound) (p : Partitioned) (r : Result PlanTree E) → HasForm l (dtype_of l) → kind_of l ≡ Struct → e.scope ≡ dtype_of l → IsPartable e → p ≡ split e.scope e.expr → KeepsWhole e p → HasItems e.scope p → IfOk r (IsPartedPlan (kids_of l) e p) → IfOk r (λ q. (name : Name) → IsPlanOf (layout_state name l) e (plan_data e q))
+  pub plan_from_parts : {E : Type 0} (l : Layout) (e : Bound) (p : Partitioned) (r : Result PlanTree E) → HasForm l (dtype_of l) → kind_of l ≡ Struct
+      → e.scope ≡ dtype_of l → IsPartable e → p ≡ split e.scope e.expr → KeepsWhole e p → HasItems e.scope p → IfOk r (IsPartedPlan (kids_of l) e p)
+      → IfOk r (λ q. (name : Name) → IsPlanOf (layout_state name l) e (plan_data e q))
   plan_from_parts l e p (Ok q) form kind scope partable exact keeps has is = plan_of_parts l e p q form kind scope partable exact keeps has is
   plan_from_parts l e p (Err f) form kind scope partable exact keeps has is = tt
 
@@ -146,10 +152,14 @@ reached_parts l e p form kind scope partable exact =
 pub within_same : (s t : List ℕ → Bool) (old new : Made) → ((path : List ℕ) → s path ≡ t path) → MakesWithin s old new → MakesWithin t old new
 within_same s t old new same w = record { stay = w.stay; only = λ path h. ap (λ b. is_made old path || b) (sym (same path)) ∙ w.only path h }
 
-pub reached_within : (e : Bound) (p : Partitioned) (old new : StructData) → HasForm old.layout (dtype_of old.layout) → kind_of old.layout ≡ Struct → e.scope ≡ dtype_of old.layout → IsPartable e → p ≡ split e.scope e.expr → Asks (child_parts e.scope p) old new → MakesWithin (reached old.layout e) old.made new.made
+pub reached_within : (e : Bound) (p : Partitioned) (old new : StructData) → HasForm old.layout (dtype_of old.layout) → kind_of old.layout ≡ Struct
+    → e.scope ≡ dtype_of old.layout → IsPartable e → p ≡ split e.scope e.expr → Asks (child_parts e.scope p) old new
+    → MakesWithin (reached old.layout e) old.made new.made
 reached_within e p old new form kind scope partable exact asks = within_same (parts_reached (kids_of old.layout) (child_parts e.scope p)) (reached old.layout e) old.made new.made (reached_parts old.layout e p form kind scope partable exact) asks.made
 
-pub reached_all : {A E : Type 0} (e : Bound) (p : Partitioned) (old new : StructData) (r : Result A E) → HasForm old.layout (dtype_of old.layout) → kind_of old.layout ≡ Struct → e.scope ≡ dtype_of old.layout → IsPartable e → p ≡ split e.scope e.expr → IfOk r (λ _. AsksAll (child_parts e.scope p) old new) → IfOk r (λ _. MakesAll (reached old.layout e) old.made new.made)
+pub reached_all : {A E : Type 0} (e : Bound) (p : Partitioned) (old new : StructData) (r : Result A E) → HasForm old.layout (dtype_of old.layout)
+    → kind_of old.layout ≡ Struct → e.scope ≡ dtype_of old.layout → IsPartable e → p ≡ split e.scope e.expr
+    → IfOk r (λ _. AsksAll (child_parts e.scope p) old new) → IfOk r (λ _. MakesAll (reached old.layout e) old.made new.made)
 reached_all e p old new (Ok x) form kind scope partable exact all = λ path. all path ∙ ap (λ b. is_made old.made path || b) (reached_parts old.layout e p form kind scope partable exact path)
 reached_all e p old new (Err f) form kind scope partable exact all = tt
 

@@ -81,7 +81,8 @@ all_by Q false p ps h rest = rest
 all_needed : (d : DataType) (e : Expr) (spelling : Spelling) (segments : List (ℕ × ℕ)) (base start end : ℕ) → needed d e [] ≡ true
     → filter (λ (p : Place). needed d e p.path) (leaf_touched base (places_of d spelling segments) start end) ≡ leaf_touched base (places_of d spelling segments) start end
 all_needed d e spelling [] base start end h = refl
-all_needed d e spelling (g ∷ segments) base start end h = all_by (λ (p : Place). needed d e p.path) (nat_lt (max base start) (min (base + g.1) end)) (place_of d spelling g) (leaf_touched (base + g.1) (places_of d spelling segments) start end) h (all_needed d e spelling segments (base + g.1) start end h)
+all_needed d e spelling (g ∷ segments) base start end h = all_by (λ (p : Place). needed d e p.path) (nat_lt (max base start) (min (base + g.1) end))
+    (place_of d spelling g) (leaf_touched (base + g.1) (places_of d spelling segments) start end) h (all_needed d e spelling segments (base + g.1) start end h)
 
 -- a reader of what a leaf's node has is of the node
 pub leaf_built : (made l : Layout) (d : DataType) (n : ℕ) (kind : LayoutKind) (kids : Nodes) (segments : List (ℕ × ℕ)) (spelling : Spelling) → node d n kind kids ≡ l → kind ≡ Leaf segments spelling → HasForm l (dtype_of l) → made ≡ leaf_layout d spelling segments → made ≡ l

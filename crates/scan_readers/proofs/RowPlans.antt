@@ -161,11 +161,15 @@ module _ (s : ReaderState) (number : ℕ) (e : Bound) where
   are_within (x ∷ items) (p ∷ ps) [] a = absurd a
   are_within (x ∷ items) (p ∷ ps) (n ∷ ns) a = ((a.0).rows, are_within items ps ns a.1)
 
-  part_wants : (x : Partition) (p : Bound) (n : PlanTree) → WantsPart s x p n → OfChild x (LiesUnder p.scope p.expr [] e.scope e.expr) → (store : Store) (here : Came) (first : ℕ) (mask : List Bool) (id : ℕ) → Holds store here → first + length mask ≤ s.rows → names_id id (wanted n here (true_rows first mask)) ≡ true → may_want s e store first (first + length mask) id ≡ true
+  part_wants : (x : Partition) (p : Bound) (n : PlanTree) → WantsPart s x p n → OfChild x (LiesUnder p.scope p.expr [] e.scope e.expr)
+      → (store : Store) (here : Came) (first : ℕ) (mask : List Bool) (id : ℕ) → Holds store here → first + length mask ≤ s.rows
+      → names_id id (wanted n here (true_rows first mask)) ≡ true → may_want s e store first (first + length mask) id ≡ true
   part_wants TheRowIdx p n a lies store here first mask id holds h w = absurd (let none = a here (true_rows first mask) in let z : false ≡ true = ap (names_id id) (sym none) ∙ w in cc)
   part_wants TheChild p n a lies store here first mask id holds h w = names_filter (needed p.scope p.expr) (needed e.scope e.expr) id (λ path. (lies path).1) (s.touched store first (first + length mask)) (a store here first mask id holds h w)
 
-  parts_want : (items : List Partition) (ps : List Bound) (ns : List PlanTree) → ArePartPlans s number items ps ns → EachOfChild e items ps → (store : Store) (here : Came) (first : ℕ) (mask : List Bool) (id : ℕ) → Holds store here → first + length mask ≤ s.rows → names_id id (all_wanted (plans ns) here (true_rows first mask)) ≡ true → may_want s e store first (first + length mask) id ≡ true
+  parts_want : (items : List Partition) (ps : List Bound) (ns : List PlanTree) → ArePartPlans s number items ps ns → EachOfChild e items ps
+      → (store : Store) (here : Came) (first : ℕ) (mask : List Bool) (id : ℕ) → Holds store here → first + length mask ≤ s.rows
+      → names_id id (all_wanted (plans ns) here (true_rows first mask)) ≡ true → may_want s e store first (first + length mask) id ≡ true
   parts_want [] [] [] a lies store here first mask id holds h w = absurd (let z : false ≡ true = w in cc)
   parts_want [] [] (n ∷ ns) a lies store here first mask id holds h w = absurd a
   parts_want [] (p ∷ ps) ns a lies store here first mask id holds h w = absurd a
@@ -176,7 +180,9 @@ module _ (s : ReaderState) (number : ℕ) (e : Bound) where
       (sym (list_any-append (λ (z : Place). z.id == id) (wanted n here (true_rows first mask)) (all_wanted (plans ns) here (true_rows first mask))) ∙ w)
       (part_wants x p n (a.0).wants lies.0 store here first mask id holds h) (parts_want items ps ns a.1 lies.1 store here first mask id holds h)
 
-  pub both_plan : (d : RowDivided) (ns : List PlanTree) → uses_row_index e.expr ≡ true → Both d ≡ row_split e.scope e.expr → KeepsRows e (Both d) → EachOfChild e d.items d.parts → ArePartPlans s number d.items d.parts ns → IsPlanOf (numbered_state number s) e (plan_data e (over d.root.scope d.root.expr (plans ns)))
+  pub both_plan : (d : RowDivided) (ns : List PlanTree) → uses_row_index e.expr ≡ true → Both d ≡ row_split e.scope e.expr → KeepsRows e (Both d)
+      → EachOfChild e d.items d.parts → ArePartPlans s number d.items d.parts ns
+      → IsPlanOf (numbered_state number s) e (plan_data e (over d.root.scope d.root.expr (plans ns)))
   both_plan d ns uses exact keeps lies a =
       let u = by_both (uses_row_index e.expr) (uses_root e.expr) e.scope e.expr d uses exact in
       record {
@@ -191,7 +197,9 @@ module _ (s : ReaderState) (number : ℕ) (e : Bound) where
       }
     where
       spills : (store : Store) (i : ℕ) → i < s.rows → (overflow_in (plans ns) store i || overflows d.root.scope d.root.expr (struct (values_at (plans ns) store i)) 0) ≡ joined_row_overflows d (s.value store i) (number + i) 0
-      spills store i h = rw (values_are d.items d.parts ns a store i h, overflows_are d.items d.parts ns a store i h) (or_swap (row_parts_overflow (s.value store i) (number + i) 0 d.items d.parts) (overflows d.root.scope d.root.expr (struct (row_values (s.value store i) (number + i) 0 d.items d.parts)) 0))
+      spills store i h = rw (values_are d.items d.parts ns a store i h, overflows_are d.items d.parts ns a store i h)
+          (or_swap (row_parts_overflow (s.value store i) (number + i) 0 d.items d.parts)
+          (overflows d.root.scope d.root.expr (struct (row_values (s.value store i) (number + i) 0 d.items d.parts)) 0))
 
 -- ---- the root's scope has a field for each part
 module _ (s : ReaderState) (number : ℕ) (t : DataType) where

@@ -82,14 +82,19 @@ each_below [] ps e h = tt
 each_below (i ∷ is) [] e h = absurd h
 each_below (i ∷ is) (p ∷ ps) e h = ((λ path n. (h.0 path).1 n), each_below is ps e h.1)
 
-module _ (name : Name) (fs : Fields) (n : Nullability) (rows : ℕ) (kids : Nodes) (x : Expr) (fit : (l : Layout) (t : DataType) (store : Store) (i : ℕ) → HasForm l t → fits (row_value l store i) t ≡ true) (even : AllHaveRows rows kids) (forms : HaveForms kids (with_validity n (field_types (field_list fs)))) where
+module _ (name : Name) (fs : Fields) (n : Nullability) (rows : ℕ) (kids : Nodes) (x : Expr)
+    (fit : (l : Layout) (t : DataType) (store : Store) (i : ℕ) → HasForm l t → fits (row_value l store i) t ≡ true) (even : AllHaveRows rows kids)
+    (forms : HaveForms kids (with_validity n (field_types (field_list fs)))) where
   abbrev whole_layout : Layout
   whole_layout = node (struct_type fs n) rows Struct kids
 
   abbrev whole_expr : Bound
   whole_expr = bound_of (struct_type fs n) x
 
-  child_wants : (item : Item) (p : Bound) (q : PlanTree) → IsChildPlan fs n kids item p q → NeedsBelow item p whole_expr → (store : Store) (here : Came) (first : ℕ) (mask : List Bool) (id : ℕ) → Holds store here → first + length mask ≤ rows → names_id id (wanted q here (true_rows first mask)) ≡ true → may_want (layout_state name whole_layout) whole_expr store first (first + length mask) id ≡ true
+  child_wants : (item : Item) (p : Bound) (q : PlanTree) → IsChildPlan fs n kids item p q → NeedsBelow item p whole_expr
+      → (store : Store) (here : Came) (first : ℕ) (mask : List Bool) (id : ℕ) → Holds store here → first + length mask ≤ rows
+      → names_id id (wanted q here (true_rows first mask)) ≡ true
+      → may_want (layout_state name whole_layout) whole_expr store first (first + length mask) id ≡ true
   child_wants item p q c lies store here first mask id holds below w = by (nat_lt first (first + length mask)) refl
     where
       all : rows_of c.layout ≡ rows
@@ -116,7 +121,9 @@ module _ (name : Name) (fs : Fields) (n : Nullability) (rows : ℕ) (kids : Node
   child_within item p q c = subst (λ (m : ℕ). Within q m) (kid_rows rows kids c.index c.layout even c.kid) (c.plan name).rows
 
   -- the one part of an expression
-  pub single_plan : (item : Item) (p : Bound) (q : PlanTree) → IsChildPlan fs n kids item p q → Keeps whole_expr (infer p.scope p.expr) (λ w k. eval p.scope p.expr (w item) k) (λ w k. overflows p.scope p.expr (w item) k) → NeedsBelow item p whole_expr → IsPlanOf (layout_state name whole_layout) whole_expr (plan_data whole_expr q)
+  pub single_plan : (item : Item) (p : Bound) (q : PlanTree) → IsChildPlan fs n kids item p q
+      → Keeps whole_expr (infer p.scope p.expr) (λ w k. eval p.scope p.expr (w item) k) (λ w k. overflows p.scope p.expr (w item) k)
+      → NeedsBelow item p whole_expr → IsPlanOf (layout_state name whole_layout) whole_expr (plan_data whole_expr q)
   single_plan item p q c keeps lies = record {
     expr = refl;
     numbered = (c.plan name).numbered;
@@ -153,7 +160,10 @@ module _ (name : Name) (fs : Fields) (n : Nullability) (rows : ℕ) (kids : Node
   parts_within (item ∷ items) (p ∷ parts) no_plans c = absurd c
   parts_within (item ∷ items) (p ∷ parts) (plan q ps) c = (child_within item p q c.0, parts_within items parts ps c.1)
 
-  parts_want : (items : List Item) (parts : List Bound) (ps : PlanTrees) → AreChildPlans fs n kids items parts ps → EachBelow items parts whole_expr → (store : Store) (here : Came) (first : ℕ) (mask : List Bool) (id : ℕ) → Holds store here → first + length mask ≤ rows → names_id id (all_wanted ps here (true_rows first mask)) ≡ true → may_want (layout_state name whole_layout) whole_expr store first (first + length mask) id ≡ true
+  parts_want : (items : List Item) (parts : List Bound) (ps : PlanTrees) → AreChildPlans fs n kids items parts ps → EachBelow items parts whole_expr
+      → (store : Store) (here : Came) (first : ℕ) (mask : List Bool) (id : ℕ) → Holds store here → first + length mask ≤ rows
+      → names_id id (all_wanted ps here (true_rows first mask)) ≡ true
+      → may_want (layout_state name whole_layout) whole_expr store first (first + length mask) id ≡ true
   parts_want [] [] no_plans c lies store here first mask id holds below w = absurd cc
   parts_want [] [] (plan q ps) c lies store here first mask id holds below w = absurd c
   parts_want [] (p ∷ parts) ps c lies store here first mask id holds below w = absurd c
@@ -164,7 +174,9 @@ module _ (name : Name) (fs : Fields) (n : Nullability) (rows : ℕ) (kids : Node
       (sym (list_any-append (λ (z : Place). z.id == id) (wanted q here (true_rows first mask)) (all_wanted ps here (true_rows first mask))) ∙ w)
       (child_wants item p q c.0 lies.0 store here first mask id holds below) (parts_want items parts ps c.1 lies.1 store here first mask id holds below)
 
-  pub over_plan : (d : Divided) (ps : PlanTrees) → AreChildPlans fs n kids d.items d.parts ps → Keeps whole_expr (infer d.root.scope d.root.expr) (joined_value_of d) (joined_overflows d) → EachBelow d.items d.parts whole_expr → IsPlanOf (layout_state name whole_layout) whole_expr (plan_data whole_expr (over d.root.scope d.root.expr ps))
+  pub over_plan : (d : Divided) (ps : PlanTrees) → AreChildPlans fs n kids d.items d.parts ps
+      → Keeps whole_expr (infer d.root.scope d.root.expr) (joined_value_of d) (joined_overflows d) → EachBelow d.items d.parts whole_expr
+      → IsPlanOf (layout_state name whole_layout) whole_expr (plan_data whole_expr (over d.root.scope d.root.expr ps))
   over_plan d ps c keeps lies = record {
     expr = refl;
     numbered = refl;
@@ -177,4 +189,6 @@ module _ (name : Name) (fs : Fields) (n : Nullability) (rows : ℕ) (kids : Node
   }
     where
       spills : (store : Store) (i : ℕ) → i < rows → (overflow_in ps store i || overflows d.root.scope d.root.expr (struct (values_at ps store i)) 0) ≡ joined_overflows d (item_value fs n kids store i) 0
-      spills store i below = rw (parts_at d.items d.parts ps c store i below, parts_spill d.items d.parts ps c store i below) (or_swap (parts_overflow (item_value fs n kids store i) 0 d.items d.parts) (overflows d.root.scope d.root.expr (struct (part_values (item_value fs n kids store i) 0 d.items d.parts)) 0))
+      spills store i below = rw (parts_at d.items d.parts ps c store i below, parts_spill d.items d.parts ps c store i below)
+          (or_swap (parts_overflow (item_value fs n kids store i) 0 d.items d.parts)
+          (overflows d.root.scope d.root.expr (struct (part_values (item_value fs n kids store i) 0 d.items d.parts)) 0))

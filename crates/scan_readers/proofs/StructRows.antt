@@ -89,7 +89,9 @@ not_before t k p (n ∷ ns) h = by (t n) (not_before t (k + 1) p ns) h
     by false later e = let rest = later e in omega (arith, rest)
 
 -- the child at the place of a name, from a place on
-pub picked : (fs : Fields) (kids : Nodes) (f : Name) (k j : ℕ) (c : Layout) (store : Store) (i : ℕ) → position_from (bytes_eq f) k (names_of (field_list fs)) ≡ Some (k + j) → nth_kid kids j ≡ Some c → HaveForms kids (field_types (field_list fs)) → row_value c store i ≡ pick f fs (row_values kids store i)
+pub picked : (fs : Fields) (kids : Nodes) (f : Name) (k j : ℕ) (c : Layout) (store : Store) (i : ℕ)
+    → position_from (bytes_eq f) k (names_of (field_list fs)) ≡ Some (k + j) → nth_kid kids j ≡ Some c → HaveForms kids (field_types (field_list fs))
+    → row_value c store i ≡ pick f fs (row_values kids store i)
 picked no_fields kids f k j c store i p e h = absurd (let z : None ≡ Some (k + j) = p in cc)
 picked (field m d fs) no_nodes f k j c store i p e h = absurd h
 picked (field m d fs) (child l ls) f k zero c store i p e h = by (bytes_eq f m) p
@@ -102,7 +104,10 @@ picked (field m d fs) (child l ls) f k (suc j) c store i p e h = by (bytes_eq f 
     moved : k + suc j ≡ k + 1 + j
     moved = omega arith
 
-    by : (b : Bool) → (position_from (bytes_eq f) (k + 1) (names_of (field_list fs)) ≡ Some (k + 1 + j) → row_value c store i ≡ pick f fs (row_values ls store i)) → cond b (Some k) (position_from (bytes_eq f) (k + 1) (names_of (field_list fs))) ≡ Some (k + suc j) → row_value c store i ≡ cond b (row_value l store i) (pick f fs (row_values ls store i))
+    by : (b : Bool) → (position_from (bytes_eq f) (k + 1) (names_of (field_list fs)) ≡ Some (k + 1 + j)
+        → row_value c store i ≡ pick f fs (row_values ls store i))
+        → cond b (Some k) (position_from (bytes_eq f) (k + 1) (names_of (field_list fs))) ≡ Some (k + suc j)
+        → row_value c store i ≡ cond b (row_value l store i) (pick f fs (row_values ls store i))
     by true later q = let same : k ≡ k + suc j = cc in absurd (omega (arith, same))
     by false later q = later (q ∙ ap Some moved)
 
@@ -124,7 +129,11 @@ pub below_needed : (P Q : Path → Bool) (step : Step) (id : ℕ) → ((p : Path
 below_needed P Q step id f [] h = h
 below_needed P Q step id f (p ∷ ps) h = by (P p.path) (Q (step ∷ p.path)) (f p.path) (below_needed P Q step id f ps) h
   where
-    by : (b c : Bool) → (b ≡ true → c ≡ true) → (names_id id (filter (λ (x : Place). P x.path) ps) ≡ true → names_id id (filter (λ (x : Place). Q x.path) (under_step step ps)) ≡ true) → names_id id (if b then p ∷ filter (λ (x : Place). P x.path) ps else filter (λ (x : Place). P x.path) ps) ≡ true → names_id id (if c then record p { path = step ∷ p.path } ∷ filter (λ (x : Place). Q x.path) (under_step step ps) else filter (λ (x : Place). Q x.path) (under_step step ps)) ≡ true
+    by : (b c : Bool) → (b ≡ true → c ≡ true) → (names_id id (filter (λ (x : Place). P x.path) ps) ≡ true
+        → names_id id (filter (λ (x : Place). Q x.path) (under_step step ps)) ≡ true)
+        → names_id id (if b then p ∷ filter (λ (x : Place). P x.path) ps else filter (λ (x : Place). P x.path) ps) ≡ true
+        → names_id id (if c then record p { path = step ∷ p.path } ∷ filter (λ (x : Place). Q x.path) (under_step step ps) else filter (λ (x : Place). Q x.path)
+        (under_step step ps)) ≡ true
     by true true g rest e = or_of (p.id == id) (names_id id (filter (λ (x : Place). P x.path) ps)) (p.id == id) (names_id id (filter (λ (x : Place). Q x.path) (under_step step ps))) e (λ z. z) rest
     by true false g rest e = absurd (let z : false ≡ true = g refl in cc)
     by false true g rest e = or_right (p.id == id) (names_id id (filter (λ (x : Place). Q x.path) (under_step step ps))) (rest e)
@@ -141,16 +150,25 @@ needed_append : (Q : Path → Bool) (id : ℕ) (ps qs : List Place) → names_id
 needed_append Q id [] qs = refl
 needed_append Q id (p ∷ ps) qs = by (Q p.path) (needed_append Q id ps qs)
   where
-    by : (b : Bool) → names_id id (filter (λ (x : Place). Q x.path) (ps ++ qs)) ≡ (names_id id (filter (λ (x : Place). Q x.path) ps) || names_id id (filter (λ (x : Place). Q x.path) qs)) → names_id id (if b then p ∷ filter (λ (x : Place). Q x.path) (ps ++ qs) else filter (λ (x : Place). Q x.path) (ps ++ qs)) ≡ (names_id id (if b then p ∷ filter (λ (x : Place). Q x.path) ps else filter (λ (x : Place). Q x.path) ps) || names_id id (filter (λ (x : Place). Q x.path) qs))
+    by : (b : Bool) → names_id id (filter (λ (x : Place). Q x.path) (ps ++ qs))
+        ≡ (names_id id (filter (λ (x : Place). Q x.path) ps) || names_id id (filter (λ (x : Place). Q x.path) qs))
+        → names_id id (if b then p ∷ filter (λ (x : Place). Q x.path) (ps ++ qs) else filter (λ (x : Place). Q x.path) (ps ++ qs))
+        ≡ (names_id id (if b then p ∷ filter (λ (x : Place). Q x.path) ps else filter (λ (x : Place). Q x.path) ps) || names_id id
+        (filter (λ (x : Place). Q x.path) qs))
     by true rest = ap (λ z. (p.id == id) || z) rest ∙ or_assoc (p.id == id) (names_id id (filter (λ (x : Place). Q x.path) ps)) (names_id id (filter (λ (x : Place). Q x.path) qs))
     by false rest = rest
 
 -- the segments of a field's child are among those of the struct
-in_fields : (fs : Fields) (kids : Nodes) (f : Name) (k j : ℕ) (c : Layout) (Q : Path → Bool) (store : Store) (a b id : ℕ) → position_from (bytes_eq f) k (names_of (field_list fs)) ≡ Some (k + j) → nth_kid kids j ≡ Some c → HaveForms kids (field_types (field_list fs)) → names_id id (filter (λ (x : Place). Q x.path) (under_step (to_field f) (touched c store a b))) ≡ true → names_id id (filter (λ (x : Place). Q x.path) (all_touched kids (field_steps fs) store a b)) ≡ true
+in_fields : (fs : Fields) (kids : Nodes) (f : Name) (k j : ℕ) (c : Layout) (Q : Path → Bool) (store : Store) (a b id : ℕ)
+    → position_from (bytes_eq f) k (names_of (field_list fs)) ≡ Some (k + j) → nth_kid kids j ≡ Some c → HaveForms kids (field_types (field_list fs))
+    → names_id id (filter (λ (x : Place). Q x.path) (under_step (to_field f) (touched c store a b))) ≡ true
+    → names_id id (filter (λ (x : Place). Q x.path) (all_touched kids (field_steps fs) store a b)) ≡ true
 in_fields no_fields kids f k j c Q store a b id p e h w = absurd (let z : None ≡ Some (k + j) = p in cc)
 in_fields (field m d fs) no_nodes f k j c Q store a b id p e h w = absurd h
 in_fields (field m d fs) (child l ls) f k zero c Q store a b id p e h w =
-    needed_append Q id (under_step (to_field m) (touched l store a b)) (all_touched ls (field_steps fs) store a b) ∙ or_left (names_id id (filter (λ (x : Place). Q x.path) (under_step (to_field m) (touched l store a b)))) (names_id id (filter (λ (x : Place). Q x.path) (all_touched ls (field_steps fs) store a b))) (by (bytes_eq f m) refl p)
+    needed_append Q id (under_step (to_field m) (touched l store a b)) (all_touched ls (field_steps fs) store a b)
+    ∙ or_left (names_id id (filter (λ (x : Place). Q x.path) (under_step (to_field m) (touched l store a b))))
+    (names_id id (filter (λ (x : Place). Q x.path) (all_touched ls (field_steps fs) store a b))) (by (bytes_eq f m) refl p)
   where
     by : (t : Bool) → bytes_eq f m ≡ t → cond t (Some k) (position_from (bytes_eq f) (k + 1) (names_of (field_list fs))) ≡ Some (k + 0) → names_id id (filter (λ (x : Place). Q x.path) (under_step (to_field m) (touched l store a b))) ≡ true
     by true s q =
@@ -159,16 +177,25 @@ in_fields (field m d fs) (child l ls) f k zero c Q store a b id p e h w =
         subst (λ (g : Name). names_id id (filter (λ (x : Place). Q x.path) (under_step (to_field g) (touched l store a b))) ≡ true) name (subst (λ (z : Layout). names_id id (filter (λ (x : Place). Q x.path) (under_step (to_field f) (touched z store a b))) ≡ true) same w)
     by false s q = let late : k + 1 ≤ k + 0 = not_before (bytes_eq f) (k + 1) (k + 0) (names_of (field_list fs)) q in absurd (omega (arith, late))
 in_fields (field m d fs) (child l ls) f k (suc j) c Q store a b id p e h w =
-    needed_append Q id (under_step (to_field m) (touched l store a b)) (all_touched ls (field_steps fs) store a b) ∙ or_right (names_id id (filter (λ (x : Place). Q x.path) (under_step (to_field m) (touched l store a b)))) (names_id id (filter (λ (x : Place). Q x.path) (all_touched ls (field_steps fs) store a b))) (by (bytes_eq f m) (λ q. in_fields fs ls f (k + 1) j c Q store a b id q e h.1 w) p)
+    needed_append Q id (under_step (to_field m) (touched l store a b)) (all_touched ls (field_steps fs) store a b)
+    ∙ or_right (names_id id (filter (λ (x : Place). Q x.path) (under_step (to_field m) (touched l store a b))))
+    (names_id id (filter (λ (x : Place). Q x.path) (all_touched ls (field_steps fs) store a b)))
+    (by (bytes_eq f m) (λ q. in_fields fs ls f (k + 1) j c Q store a b id q e h.1 w) p)
   where
     moved : k + suc j ≡ k + 1 + j
     moved = omega arith
 
-    by : (t : Bool) → (position_from (bytes_eq f) (k + 1) (names_of (field_list fs)) ≡ Some (k + 1 + j) → names_id id (filter (λ (x : Place). Q x.path) (all_touched ls (field_steps fs) store a b)) ≡ true) → cond t (Some k) (position_from (bytes_eq f) (k + 1) (names_of (field_list fs))) ≡ Some (k + suc j) → names_id id (filter (λ (x : Place). Q x.path) (all_touched ls (field_steps fs) store a b)) ≡ true
+    by : (t : Bool) → (position_from (bytes_eq f) (k + 1) (names_of (field_list fs)) ≡ Some (k + 1 + j)
+        → names_id id (filter (λ (x : Place). Q x.path) (all_touched ls (field_steps fs) store a b)) ≡ true)
+        → cond t (Some k) (position_from (bytes_eq f) (k + 1) (names_of (field_list fs))) ≡ Some (k + suc j)
+        → names_id id (filter (λ (x : Place). Q x.path) (all_touched ls (field_steps fs) store a b)) ≡ true
     by true later q = let same : k ≡ k + suc j = cc in absurd (omega (arith, same))
     by false later q = later (q ∙ ap Some moved)
 
-pub in_struct : (fs : Fields) (n : Nullability) (kids : Nodes) (item : Item) (j : ℕ) (c : Layout) (Q : Path → Bool) (store : Store) (a b id : ℕ) → item_child fs n item ≡ Some j → nth_kid kids j ≡ Some c → HaveForms kids (with_validity n (field_types (field_list fs))) → names_id id (filter (λ (x : Place). Q x.path) (under_step (item_step item) (touched c store a b))) ≡ true → names_id id (filter (λ (x : Place). Q x.path) (all_touched kids (struct_steps (struct_type fs n)) store a b)) ≡ true
+pub in_struct : (fs : Fields) (n : Nullability) (kids : Nodes) (item : Item) (j : ℕ) (c : Layout) (Q : Path → Bool) (store : Store) (a b id : ℕ)
+    → item_child fs n item ≡ Some j → nth_kid kids j ≡ Some c → HaveForms kids (with_validity n (field_types (field_list fs)))
+    → names_id id (filter (λ (x : Place). Q x.path) (under_step (item_step item) (touched c store a b))) ≡ true
+    → names_id id (filter (λ (x : Place). Q x.path) (all_touched kids (struct_steps (struct_type fs n)) store a b)) ≡ true
 in_struct fs NonNullable kids (Field f) j c Q store a b id p e h w = by (position (bytes_eq f) (names_of (field_list fs))) refl p
   where
     by : (o : Option ℕ) → position (bytes_eq f) (names_of (field_list fs)) ≡ o → option_map (λ k. 0 + k) o ≡ Some j → names_id id (filter (λ (x : Place). Q x.path) (all_touched kids (field_steps fs) store a b)) ≡ true
@@ -184,15 +211,23 @@ in_struct fs Nullable (child v ls) (Field f) j c Q store a b id p e h w = by (po
         let same : 1 + k ≡ j = cc in
         let next : j ≡ suc k = omega (arith, same) in
         let kid : nth_kid ls k ≡ Some c = subst (λ (m : ℕ). nth_kid (child v ls) m ≡ Some c) next e in
-        needed_append Q id (under_step to_validity (touched v store a b)) (all_touched ls (field_steps fs) store a b) ∙ or_right (names_id id (filter (λ (x : Place). Q x.path) (under_step to_validity (touched v store a b)))) (names_id id (filter (λ (x : Place). Q x.path) (all_touched ls (field_steps fs) store a b))) (in_fields fs ls f 0 k c Q store a b id (from_first (bytes_eq f) (names_of (field_list fs)) ∙ s ∙ ap Some (omega arith)) kid h.1 w)
+        needed_append Q id (under_step to_validity (touched v store a b)) (all_touched ls (field_steps fs) store a b)
+        ∙ or_right (names_id id (filter (λ (x : Place). Q x.path) (under_step to_validity (touched v store a b))))
+        (names_id id (filter (λ (x : Place). Q x.path) (all_touched ls (field_steps fs) store a b)))
+        (in_fields fs ls f 0 k c Q store a b id (from_first (bytes_eq f) (names_of (field_list fs)) ∙ s ∙ ap Some (omega arith)) kid h.1 w)
 in_struct fs Nullable (child v ls) Validity j c Q store a b id p e h w =
     let first : 0 ≡ j = cc in
     let kid : nth_kid (child v ls) 0 ≡ Some c = subst (λ (m : ℕ). nth_kid (child v ls) m ≡ Some c) (sym first) e in
     let same : c ≡ v = cc in
-    needed_append Q id (under_step to_validity (touched v store a b)) (all_touched ls (field_steps fs) store a b) ∙ or_left (names_id id (filter (λ (x : Place). Q x.path) (under_step to_validity (touched v store a b)))) (names_id id (filter (λ (x : Place). Q x.path) (all_touched ls (field_steps fs) store a b))) (subst (λ (z : Layout). names_id id (filter (λ (x : Place). Q x.path) (under_step to_validity (touched z store a b))) ≡ true) same w)
+    needed_append Q id (under_step to_validity (touched v store a b)) (all_touched ls (field_steps fs) store a b)
+    ∙ or_left (names_id id (filter (λ (x : Place). Q x.path) (under_step to_validity (touched v store a b))))
+    (names_id id (filter (λ (x : Place). Q x.path) (all_touched ls (field_steps fs) store a b)))
+    (subst (λ (z : Layout). names_id id (filter (λ (x : Place). Q x.path) (under_step to_validity (touched z store a b))) ≡ true) same w)
 
 -- ---- what is read of an item
-pub child_value : (fs : Fields) (n : Nullability) (kids : Nodes) (item : Item) (j : ℕ) (c : Layout) (store : Store) (i : ℕ) → ((l : Layout) (t : DataType) → HasForm l t → fits (row_value l store i) t ≡ true) → item_child fs n item ≡ Some j → nth_kid kids j ≡ Some c → HaveForms kids (with_validity n (field_types (field_list fs))) → row_value c store i ≡ item_value fs n kids store i item
+pub child_value : (fs : Fields) (n : Nullability) (kids : Nodes) (item : Item) (j : ℕ) (c : Layout) (store : Store) (i : ℕ)
+    → ((l : Layout) (t : DataType) → HasForm l t → fits (row_value l store i) t ≡ true) → item_child fs n item ≡ Some j → nth_kid kids j ≡ Some c
+    → HaveForms kids (with_validity n (field_types (field_list fs))) → row_value c store i ≡ item_value fs n kids store i item
 child_value fs NonNullable kids (Field f) j c store i fit p e h = by (position (bytes_eq f) (names_of (field_list fs))) refl p
   where
     by : (o : Option ℕ) → position (bytes_eq f) (names_of (field_list fs)) ≡ o → option_map (λ k. 0 + k) o ≡ Some j → row_value c store i ≡ pick f fs (row_values kids store i)

@@ -111,7 +111,8 @@ chosen_calm : (fs : Fields) (w : Item → Marked) (k : ℕ) (ks : List ℕ) → 
 chosen_calm fs w k [] = refl
 chosen_calm fs w k (i ∷ ks) = chosen_calm fs w k ks
 
-pub keeps_chosen : (e : Bound) (p : Projection) → Keeps e (projected_type (struct_fields e.scope) p) (λ w k. projected_value (struct_fields e.scope) p w) (λ w k. false) → Keeps e (infer (chosen_root e).scope (chosen_root e).expr) (joined_value_of (chosen_whole e p)) (joined_overflows (chosen_whole e p))
+pub keeps_chosen : (e : Bound) (p : Projection) → Keeps e (projected_type (struct_fields e.scope) p) (λ w k. projected_value (struct_fields e.scope) p w)
+    (λ w k. false) → Keeps e (infer (chosen_root e).scope (chosen_root e).expr) (joined_value_of (chosen_whole e p)) (joined_overflows (chosen_whole e p))
 keeps_chosen e p keeps = record {
   dtype = refl;
   values = λ v w k r a. ap struct (chosen_values (struct_fields e.scope) w k p.fields) ∙ keeps.values v w k r a;

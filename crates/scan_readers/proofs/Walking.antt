@@ -119,7 +119,8 @@ walk_asks es i e old now new at a b = record {
   };
 }
 
-pub walk_step : (es : List ChildPart) (i : ℕ) (e : ChildPart) (old now new : StructData) (ns : List PlanTree) (n : PlanTree) → slice_get es i ≡ Some e → Walk es i old now ns → Asks (e ∷ []) now new → AsksAll (e ∷ []) now new → IsPartPlan (kids_of now.layout) e n → Walk es (i + 1) old new (ns ++ n ∷ [])
+pub walk_step : (es : List ChildPart) (i : ℕ) (e : ChildPart) (old now new : StructData) (ns : List PlanTree) (n : PlanTree) → slice_get es i ≡ Some e
+    → Walk es i old now ns → Asks (e ∷ []) now new → AsksAll (e ∷ []) now new → IsPartPlan (kids_of now.layout) e n → Walk es (i + 1) old new (ns ++ n ∷ [])
 walk_step es i e old now new ns n at w asks all plan = record {
   asks = walk_asks es i e old now new at w.asks asks;
   all = λ path.
@@ -143,15 +144,24 @@ walk_plans es i old now ns end w = subst (ArePartPlans (kids_of old.layout) es) 
 pub put_back : (old mid new : StructData) (k : ℕ) (d : ReaderKind) → mid.made ≡ set_made old.made k None → new ≡ struct_data mid.layout (set_made mid.made k (Some (made_of d))) → new.made ≡ set_made old.made k (Some (made_of d))
 put_back old mid new k d out is = ap (λ (s : StructData). s.made) is ∙ ap (λ (m : Made). set_made m k (Some (made_of d))) out ∙ set_again old.made k None (Some (made_of d))
 
-pub child_asks : (old mid new : StructData) (k : ℕ) (e : Bound) (c d : ReaderKind) → mid.layout ≡ old.layout → mid.made ≡ set_made old.made k None → k < width old.made → nth_kid (kids_of old.layout) k ≡ Some (layout_of c) → made_of c ≡ made_or_none (nth_made old.made k) (layout_of c) → MakesWithin (reached (layout_of c) e) (made_of c) (made_of d) → new ≡ struct_data mid.layout (set_made mid.made k (Some (made_of d))) → Asks ((k, e) ∷ []) old new
+pub child_asks : (old mid new : StructData) (k : ℕ) (e : Bound) (c d : ReaderKind) → mid.layout ≡ old.layout → mid.made ≡ set_made old.made k None
+    → k < width old.made → nth_kid (kids_of old.layout) k ≡ Some (layout_of c) → made_of c ≡ made_or_none (nth_made old.made k) (layout_of c)
+    → MakesWithin (reached (layout_of c) e) (made_of c) (made_of d) → new ≡ struct_data mid.layout (set_made mid.made k (Some (made_of d)))
+    → Asks ((k, e) ∷ []) old new
 child_asks old mid new k e c d layout out wide kid own within is = record {
   layout = ap (λ (s : StructData). s.layout) is ∙ layout;
   made = subst (MakesWithin (parts_reached (kids_of old.layout) ((k, e) ∷ [])) old.made) (sym (put_back old mid new k d out is)) (child_within (kids_of old.layout) (layout_of c) k e old.made (made_of d) kid wide (subst (λ (m : Made). MakesWithin (reached (layout_of c) e) m (made_of d)) own within));
 }
 
-pub child_asks_all : {A E : Type 0} (old mid new : StructData) (k : ℕ) (e : Bound) (c d : ReaderKind) (r : Result A E) → mid.made ≡ set_made old.made k None → k < width old.made → nth_kid (kids_of old.layout) k ≡ Some (layout_of c) → made_of c ≡ made_or_none (nth_made old.made k) (layout_of c) → IfOk r (λ _. MakesAll (reached (layout_of c) e) (made_of c) (made_of d)) → new ≡ struct_data mid.layout (set_made mid.made k (Some (made_of d))) → IfOk r (λ _. MakesAll (parts_reached (kids_of old.layout) ((k, e) ∷ [])) old.made new.made)
+pub child_asks_all : {A E : Type 0} (old mid new : StructData) (k : ℕ) (e : Bound) (c d : ReaderKind) (r : Result A E) → mid.made ≡ set_made old.made k None
+    → k < width old.made → nth_kid (kids_of old.layout) k ≡ Some (layout_of c) → made_of c ≡ made_or_none (nth_made old.made k) (layout_of c)
+    → IfOk r (λ _. MakesAll (reached (layout_of c) e) (made_of c) (made_of d)) → new ≡ struct_data mid.layout (set_made mid.made k (Some (made_of d)))
+    → IfOk r (λ _. MakesAll (parts_reached (kids_of old.layout) ((k, e) ∷ [])) old.made new.made)
 child_asks_all old mid new k e c d (Err f) out wide kid own all is = tt
-child_asks_all old mid new k e c d (Ok x) out wide kid own all is = subst (MakesAll (parts_reached (kids_of old.layout) ((k, e) ∷ [])) old.made) (sym (put_back old mid new k d out is)) (child_all (kids_of old.layout) (layout_of c) k e old.made (made_of d) kid wide (subst (λ (m : Made). MakesAll (reached (layout_of c) e) m (made_of d)) own all))
+child_asks_all old mid new k e c d (Ok x) out wide kid own all is =
+    subst (MakesAll (parts_reached (kids_of old.layout) ((k, e) ∷ [])) old.made) (sym (put_back old mid new k d out is))
+    (child_all (kids_of old.layout) (layout_of c) k e old.made (made_of d) kid wide
+    (subst (λ (m : Made). MakesAll (reached (layout_of c) e) m (made_of d)) own all))
 
 -- ---- the fields that a root reads have the dtypes of the plans
 pub fields_plans : (kids : Nodes) (fs : Fields) (es : List ChildPart) (ns : List PlanTree) → AreFieldsOf fs es → ArePartPlans kids es ns → AreFields fs (plans ns)

@@ -20,15 +20,6 @@ abbrev pub find_plan : List PlanData → Bound → Option PlanData
 find_plan [] e = None
 find_plan (p ∷ ps) e = if same_bound p.expr e then Some p else find_plan ps e
 
--- a fact of each plan
-abbrev pub EachPlan : (PlanData → Type 0) → List PlanData → Type 0
-EachPlan P [] = Unit {0}
-EachPlan P (p ∷ ps) = P p × EachPlan P ps
-
--- what shared plans are
-abbrev pub plans_of : List (Arc PlanData Global) → List PlanData
-plans_of rs = map (λ r. r.value) rs
-
 -- a plan of an expression is kept beside the others, or nothing is
 abbrev pub Makes : List PlanData → List PlanData → Bound → Result (Arc PlanData Global) NoMemory → Type 0
 Makes old new e (Ok p) = ((p.value).expr ≡ e) × (new ≡ old ++ p.value ∷ [])

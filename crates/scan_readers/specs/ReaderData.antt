@@ -4,8 +4,7 @@ use Rattle.std.specs.Coded.{Coded, code_by, coded×, coded_list, coded_ℕ}
 use Rattle.scan_values.specs.DataType.{Name}
 use Rattle.scan_layout.specs.Layout.{Layout}
 use Rattle.scan_layout.specs.LayoutCode.{layout_code}
-use Rattle.scan_plans.specs.PlanData.{PlanData, plan_data_code}
-use Rattle.scan_readers.specs.Kept.{EachPlan}
+use Rattle.scan_plans.specs.PlanData.{PlanData, plan_data_code, EachPlan}
 use Rattle.scan_readers.specs.StructData.{IsReadable}
 use Rattle.scan_readers.specs.Made.{Made, made_code}
 use Rattle.scan_readers.specs.LeafPlans.{layout_state}

@@ -2,8 +2,8 @@
 use Rattle.std.specs.Prelude.{◌+◌, ◌<◌, ◌^◌, ℕ, List, Some, None, if◌then◌else◌, refl}
 use Rattle.std.specs.Coded.{Coded, code_by, coded×, coded_list, coded_ℕ}
 use Rattle.scan_expr.specs.Expr.{uses_row_index}
-use Rattle.scan_plans.specs.PlanData.{PlanData, plan_data_code}
-use Rattle.scan_readers.specs.Kept.{Kept, find_plan, EachPlan}
+use Rattle.scan_plans.specs.PlanData.{PlanData, plan_data_code, EachPlan}
+use Rattle.scan_readers.specs.Kept.{Kept, find_plan}
 use Rattle.scan_readers.specs.PlanOf.{IsPlanOf}
 use Rattle.scan_readers.specs.Readers.{ReaderState}
 

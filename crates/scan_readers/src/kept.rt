@@ -1,6 +1,7 @@
 // The plans that a reader keeps.
 ghost use Rattle.std.specs.Prelude.{◌≡◌, ◌++◌, ◌∷◌, [], OnOk, OnErr, IfOk, None, drop, option_map};
-ghost use Rattle.scan_readers.specs.Kept.{find_plan, plans_of};
+ghost use Rattle.scan_plans.specs.PlanData.{plans_of};
+ghost use Rattle.scan_readers.specs.Kept.{find_plan};
 
 use scan_expr::BoundExpression;
 use scan_plans::Plan;
@@ -19,7 +20,7 @@ impl Model for KeptPlans {
     ghost use Rattle.std.specs.Prelude.{List};
     ghost use Rattle.std.specs.Coded.{coded_list};
     ghost use Rattle.scan_plans.specs.PlanData.{PlanData, plan_data_code};
-    ghost use Rattle.scan_readers.specs.Kept.{plans_of};
+    ghost use Rattle.scan_plans.specs.PlanData.{plans_of};
 
     ghost Value = { List PlanData };
 

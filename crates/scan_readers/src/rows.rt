@@ -26,7 +26,7 @@ pub struct RowsReader {
 
 impl Model for RowsReader {
     ghost use Rattle.scan_readers.specs.RowsData.{RowsData, rows_data, rows_code, rows_state};
-    ghost use Rattle.scan_readers.specs.Kept.{EachPlan};
+    ghost use Rattle.scan_plans.specs.PlanData.{EachPlan};
     ghost use Rattle.scan_readers.specs.PlanOf.{IsPlanOf};
 
     ghost Value = { RowsData };

@@ -64,10 +64,16 @@ nested::NestedReader::child_node-node-node-requires t c =
     (omega (arith, less, told), (c.in_ok-child.ensures.readable, (c.requires.scope ∙ ap dtype_of same, (c.requires.partable, c.requires.unnumbered))))
 
 pub nested::NestedReader::child_node-returns-clause-asks : goal.nested::NestedReader::child_node-returns-clause-asks
-nested::NestedReader::child_node-returns-clause-asks t c = child_asks c.args.self.now c.take_child.new.self c.put_child.new.self c.args.index c.args.expr.now c.in_ok-child.child c.node-node.new.self c.take_child.ensures.layout c.in_ok-child.ensures.out c.take_child.ensures.wide c.in_ok-child.ensures.child c.in_ok-child.ensures.own c.node-node.ensures.within c.put_child.ensures
+nested::NestedReader::child_node-returns-clause-asks t c =
+    child_asks c.args.self.now c.take_child.new.self c.put_child.new.self c.args.index c.args.expr.now c.in_ok-child.child c.node-node.new.self
+    c.take_child.ensures.layout c.in_ok-child.ensures.out c.take_child.ensures.wide c.in_ok-child.ensures.child c.in_ok-child.ensures.own
+    c.node-node.ensures.within c.put_child.ensures
 
 pub nested::NestedReader::child_node-returns-clause-all : goal.nested::NestedReader::child_node-returns-clause-all
-nested::NestedReader::child_node-returns-clause-all t c = child_asks_all c.args.self.now c.take_child.new.self c.put_child.new.self c.args.index c.args.expr.now c.in_ok-child.child c.node-node.new.self c.node-node.result c.in_ok-child.ensures.out c.take_child.ensures.wide c.in_ok-child.ensures.child c.in_ok-child.ensures.own c.node-node.ensures.all c.put_child.ensures
+nested::NestedReader::child_node-returns-clause-all t c =
+    child_asks_all c.args.self.now c.take_child.new.self c.put_child.new.self c.args.index c.args.expr.now c.in_ok-child.child c.node-node.new.self
+    c.node-node.result c.in_ok-child.ensures.out c.take_child.ensures.wide c.in_ok-child.ensures.child c.in_ok-child.ensures.own c.node-node.ensures.all
+    c.put_child.ensures
 
 pub nested::NestedReader::chosen_node-over-requires : goal.nested::NestedReader::chosen_node-over-requires
 nested::NestedReader::chosen_node-over-requires t c =
@@ -137,7 +143,9 @@ nested::NestedReader::field_nodes-loop-place-preserved t c =
     let x = get_or c.args.places.now i 0 in
     let e = field_part (dtype_of c.loop-place.self.layout) x in
     let at : slice_get es i ≡ Some e = field_at (field_part (dtype_of c.args.self.now.layout)) c.args.places.now i x (slice_get-get_or c.args.places.now i 0 c.loop-place-test.true) ∙ ap (λ (l : Layout). Some (field_part (dtype_of l) x)) (sym w.asks.layout) in
-    subst (λ (ns : List PlanTree). Walk es (i + 1) c.args.self.now c.field_node.new.self ns) (sym c.in_ok-push.ensures.items) (walk_step es i e c.args.self.now c.loop-place.self c.field_node.new.self c.loop-place.nodes.items c.in_ok-field_node.field-0 at w c.field_node.ensures.asks c.in_ok-field_node.ensures.all c.in_ok-field_node.ensures.plan)
+    subst (λ (ns : List PlanTree). Walk es (i + 1) c.args.self.now c.field_node.new.self ns) (sym c.in_ok-push.ensures.items)
+    (walk_step es i e c.args.self.now c.loop-place.self c.field_node.new.self c.loop-place.nodes.items c.in_ok-field_node.field-0 at w
+    c.field_node.ensures.asks c.in_ok-field_node.ensures.all c.in_ok-field_node.ensures.plan)
 
 pub nested::NestedReader::field_nodes-returns-clause-asks : goal.nested::NestedReader::field_nodes-returns-clause-asks
 nested::NestedReader::field_nodes-returns-clause-asks t c = c.loop-place.invariant.asks
@@ -170,17 +178,26 @@ nested::NestedReader::struct_node-partition_struct-requires-clause-structure t c
 
 pub nested::NestedReader::struct_node-parted_node-requires : goal.nested::NestedReader::struct_node-parted_node-requires
 nested::NestedReader::struct_node-parted_node-requires t c =
-    let told = c.decreases in
-    (omega (arith, told), can_part row_fits parts_need partable_over c.args.self.now.layout c.args.expr.now c.in_ok-parted.parted c.layout-own.ensures.readable.form c.requires.kind c.requires.scope c.requires.bound c.in_ok-parted.ensures.exact c.in_ok-parted.ensures.joined c.in_ok-parted.ensures.again c.in_ok-parted.ensures.items (c.in_ok-parted.ensures.numbers c.requires.rows))
+    let told = c.decreases in (
+      omega (arith, told),
+      can_part row_fits parts_need partable_over c.args.self.now.layout c.args.expr.now c.in_ok-parted.parted
+          c.layout-own.ensures.readable.form c.requires.kind c.requires.scope c.requires.bound c.in_ok-parted.ensures.exact c.in_ok-parted.ensures.joined
+          c.in_ok-parted.ensures.again c.in_ok-parted.ensures.items (c.in_ok-parted.ensures.numbers c.requires.rows),
+    )
 
 pub nested::NestedReader::struct_node-returns-clause-within : goal.nested::NestedReader::struct_node-returns-clause-within
 nested::NestedReader::struct_node-returns-clause-within t c = reached_within c.args.expr.now c.in_ok-parted.parted c.args.self.now c.parted_node.new.self c.layout-own.ensures.readable.form c.requires.kind c.requires.scope c.requires.bound c.in_ok-parted.ensures.exact c.parted_node.ensures.asks
 
 pub nested::NestedReader::struct_node-returns-clause-all : goal.nested::NestedReader::struct_node-returns-clause-all
-nested::NestedReader::struct_node-returns-clause-all t c = reached_all c.args.expr.now c.in_ok-parted.parted c.args.self.now c.parted_node.new.self c.parted_node.result c.layout-own.ensures.readable.form c.requires.kind c.requires.scope c.requires.bound c.in_ok-parted.ensures.exact c.parted_node.ensures.all
+nested::NestedReader::struct_node-returns-clause-all t c = reached_all c.args.expr.now c.in_ok-parted.parted c.args.self.now c.parted_node.new.self
+    c.parted_node.result c.layout-own.ensures.readable.form c.requires.kind c.requires.scope c.requires.bound c.in_ok-parted.ensures.exact
+    c.parted_node.ensures.all
 
 pub nested::NestedReader::struct_node-returns-clause-plan : goal.nested::NestedReader::struct_node-returns-clause-plan
-nested::NestedReader::struct_node-returns-clause-plan t c = plan_from_parts row_fits parts_need partable_over c.args.self.now.layout c.args.expr.now c.in_ok-parted.parted c.parted_node.result c.layout-own.ensures.readable.form c.requires.kind c.requires.scope c.requires.bound c.in_ok-parted.ensures.exact c.in_ok-parted.ensures.joined c.in_ok-parted.ensures.items c.parted_node.ensures.plan
+nested::NestedReader::struct_node-returns-clause-plan t c =
+    plan_from_parts row_fits parts_need partable_over c.args.self.now.layout c.args.expr.now c.in_ok-parted.parted c.parted_node.result
+    c.layout-own.ensures.readable.form c.requires.kind c.requires.scope c.requires.bound c.in_ok-parted.ensures.exact c.in_ok-parted.ensures.joined
+    c.in_ok-parted.ensures.items c.parted_node.ensures.plan
 
 pub nested::NestedReader::part_nodes-loop-i-init : goal.nested::NestedReader::part_nodes-loop-i-init
 nested::NestedReader::part_nodes-loop-i-init t c =
@@ -235,7 +252,9 @@ nested::NestedReader::part_nodes-loop-i-preserved t c =
     let item : slice_get c.args.parts.now.items i ≡ Some x = ap (λ (is : List Item). slice_get is i) (sym c.items-items.ensures.items) ∙ slice_get-get_or c.items-items.result.now i x c.loop-i-test.true ∙ ap Some (sym c.index-items-i.is) in
     let own : item_part (dtype_of c.loop-i.self.layout) x c.part.result.now ≡ e = λ j. (sym c.item_index-index.ensures j, c.part.result.now) in
     let at : slice_get es i ≡ Some e = item_at (dtype_of c.args.self.now.layout) c.args.parts.now.items c.args.parts.now.parts i x c.part.result.now item (sym c.part.ensures) ∙ ap (λ (l : Layout). Some (item_part (dtype_of l) x c.part.result.now)) (sym w.asks.layout) ∙ ap Some own in
-    subst (λ (ns : List PlanTree). Walk es (i + 1) c.args.self.now c.child_node.new.self ns) (sym c.in_ok-push.ensures.items) (walk_step es i e c.args.self.now c.loop-i.self c.child_node.new.self c.loop-i.nodes.items c.in_ok-child_node.field-0 at w c.child_node.ensures.asks c.in_ok-child_node.ensures.all c.in_ok-child_node.ensures.plan)
+    subst (λ (ns : List PlanTree). Walk es (i + 1) c.args.self.now c.child_node.new.self ns) (sym c.in_ok-push.ensures.items)
+    (walk_step es i e c.args.self.now c.loop-i.self c.child_node.new.self c.loop-i.nodes.items c.in_ok-child_node.field-0 at w c.child_node.ensures.asks
+    c.in_ok-child_node.ensures.all c.in_ok-child_node.ensures.plan)
 
 pub nested::NestedReader::part_nodes-returns-clause-asks : goal.nested::NestedReader::part_nodes-returns-clause-asks
 nested::NestedReader::part_nodes-returns-clause-asks t c = c.loop-i.invariant.asks
@@ -273,67 +292,133 @@ pub nested::NestedReader::list_all_node-list_leaves-requires : goal.nested::Nest
 nested::NestedReader::list_all_node-list_leaves-requires t c = subst IsList (sym c.elements_node.ensures.asks.layout) c.requires.list
 
 pub nested::NestedReader::list_all_node-returns-in_err-leaves-clause-asks : goal.nested::NestedReader::list_all_node-returns-in_err-leaves-clause-asks
-nested::NestedReader::list_all_node-returns-in_err-leaves-clause-asks t c = asks_more (elements_part c.args.self.now.layout) (offsets_part c.args.self.now.layout ∷ validity_parts (nullability_of (dtype_of c.args.self.now.layout))) c.args.self.now c.elements_node.new.self c.list_leaves.new.self c.elements_node.ensures.asks (subst (λ (m : Layout). Asks (list_parts m OffsetsAndValidity) c.elements_node.new.self c.list_leaves.new.self) c.elements_node.ensures.asks.layout c.list_leaves.ensures.asks)
+nested::NestedReader::list_all_node-returns-in_err-leaves-clause-asks t c =
+    asks_more (elements_part c.args.self.now.layout)
+    (offsets_part c.args.self.now.layout ∷ validity_parts (nullability_of (dtype_of c.args.self.now.layout))) c.args.self.now c.elements_node.new.self
+    c.list_leaves.new.self c.elements_node.ensures.asks (subst
+    (λ (m : Layout). Asks (list_parts m OffsetsAndValidity) c.elements_node.new.self c.list_leaves.new.self) c.elements_node.ensures.asks.layout
+    c.list_leaves.ensures.asks)
 
 pub nested::NestedReader::list_all_node-element_count-elements-requires : goal.nested::NestedReader::list_all_node-element_count-elements-requires
 nested::NestedReader::list_all_node-element_count-elements-requires t c = subst IsList (sym (c.list_leaves.ensures.asks.layout ∙ c.elements_node.ensures.asks.layout)) c.requires.list
 
 pub nested::NestedReader::list_all_node-returns-in-None-clause-asks : goal.nested::NestedReader::list_all_node-returns-in-None-clause-asks
-nested::NestedReader::list_all_node-returns-in-None-clause-asks t c = asks_more (elements_part c.args.self.now.layout) (offsets_part c.args.self.now.layout ∷ validity_parts (nullability_of (dtype_of c.args.self.now.layout))) c.args.self.now c.elements_node.new.self c.list_leaves.new.self c.elements_node.ensures.asks (subst (λ (m : Layout). Asks (list_parts m OffsetsAndValidity) c.elements_node.new.self c.list_leaves.new.self) c.elements_node.ensures.asks.layout c.list_leaves.ensures.asks)
+nested::NestedReader::list_all_node-returns-in-None-clause-asks t c =
+    asks_more (elements_part c.args.self.now.layout)
+    (offsets_part c.args.self.now.layout ∷ validity_parts (nullability_of (dtype_of c.args.self.now.layout))) c.args.self.now c.elements_node.new.self
+    c.list_leaves.new.self c.elements_node.ensures.asks (subst
+    (λ (m : Layout). Asks (list_parts m OffsetsAndValidity) c.elements_node.new.self c.list_leaves.new.self) c.elements_node.ensures.asks.layout
+    c.list_leaves.ensures.asks)
 
 pub nested::NestedReader::list_all_node-returns-in-None-clause-all : goal.nested::NestedReader::list_all_node-returns-in-None-clause-all
-nested::NestedReader::list_all_node-returns-in-None-clause-all t c = on_all c.all_node.result (all_more (elements_part c.args.self.now.layout) (offsets_part c.args.self.now.layout ∷ validity_parts (nullability_of (dtype_of c.args.self.now.layout))) c.args.self.now c.elements_node.new.self c.list_leaves.new.self c.elements_node.ensures.asks.layout c.in_ok-node.ensures.all (subst (λ (m : Layout). AsksAll (list_parts m OffsetsAndValidity) c.elements_node.new.self c.list_leaves.new.self) c.elements_node.ensures.asks.layout c.in_ok-leaves.ensures.all))
+nested::NestedReader::list_all_node-returns-in-None-clause-all t c =
+    on_all c.all_node.result (all_more (elements_part c.args.self.now.layout)
+    (offsets_part c.args.self.now.layout ∷ validity_parts (nullability_of (dtype_of c.args.self.now.layout))) c.args.self.now c.elements_node.new.self
+    c.list_leaves.new.self c.elements_node.ensures.asks.layout c.in_ok-node.ensures.all
+    (subst (λ (m : Layout). AsksAll (list_parts m OffsetsAndValidity) c.elements_node.new.self c.list_leaves.new.self) c.elements_node.ensures.asks.layout
+    c.in_ok-leaves.ensures.all))
 
 pub nested::NestedReader::list_all_node-returns-clause-asks : goal.nested::NestedReader::list_all_node-returns-clause-asks
-nested::NestedReader::list_all_node-returns-clause-asks t c = asks_more (elements_part c.args.self.now.layout) (offsets_part c.args.self.now.layout ∷ validity_parts (nullability_of (dtype_of c.args.self.now.layout))) c.args.self.now c.elements_node.new.self c.list_leaves.new.self c.elements_node.ensures.asks (subst (λ (m : Layout). Asks (list_parts m OffsetsAndValidity) c.elements_node.new.self c.list_leaves.new.self) c.elements_node.ensures.asks.layout c.list_leaves.ensures.asks)
+nested::NestedReader::list_all_node-returns-clause-asks t c =
+    asks_more (elements_part c.args.self.now.layout)
+    (offsets_part c.args.self.now.layout ∷ validity_parts (nullability_of (dtype_of c.args.self.now.layout))) c.args.self.now c.elements_node.new.self
+    c.list_leaves.new.self c.elements_node.ensures.asks (subst
+    (λ (m : Layout). Asks (list_parts m OffsetsAndValidity) c.elements_node.new.self c.list_leaves.new.self) c.elements_node.ensures.asks.layout
+    c.list_leaves.ensures.asks)
 
 pub nested::NestedReader::list_all_node-returns-clause-all : goal.nested::NestedReader::list_all_node-returns-clause-all
-nested::NestedReader::list_all_node-returns-clause-all t c = on_all c.valid_all_node.result (all_more (elements_part c.args.self.now.layout) (offsets_part c.args.self.now.layout ∷ validity_parts (nullability_of (dtype_of c.args.self.now.layout))) c.args.self.now c.elements_node.new.self c.list_leaves.new.self c.elements_node.ensures.asks.layout c.in_ok-node.ensures.all (subst (λ (m : Layout). AsksAll (list_parts m OffsetsAndValidity) c.elements_node.new.self c.list_leaves.new.self) c.elements_node.ensures.asks.layout c.in_ok-leaves.ensures.all))
+nested::NestedReader::list_all_node-returns-clause-all t c =
+    on_all c.valid_all_node.result (all_more (elements_part c.args.self.now.layout)
+    (offsets_part c.args.self.now.layout ∷ validity_parts (nullability_of (dtype_of c.args.self.now.layout))) c.args.self.now c.elements_node.new.self
+    c.list_leaves.new.self c.elements_node.ensures.asks.layout c.in_ok-node.ensures.all
+    (subst (λ (m : Layout). AsksAll (list_parts m OffsetsAndValidity) c.elements_node.new.self c.list_leaves.new.self) c.elements_node.ensures.asks.layout
+    c.in_ok-leaves.ensures.all))
 
 pub nested::NestedReader::list_all_node-all_node-requires-clause-scope : goal.nested::NestedReader::list_all_node-all_node-requires-clause-scope
-nested::NestedReader::list_all_node-all_node-requires-clause-scope t c = c.requires.scope ∙ elements_type c.args.self.now.layout c.in_ok-node.node c.requires.list c.in_ok-node.ensures.plan NonNullable (ap nullability_of (never_null c.args.self.now.layout c.requires.list (subst (IsValidityOf c.args.self.now.layout) c.in-None.is (subst (λ (m : Layout). AreLeavesOf m c.in_ok-leaves.leaves) c.elements_node.ensures.asks.layout c.in_ok-leaves.ensures.leaves).validity)).1)
+nested::NestedReader::list_all_node-all_node-requires-clause-scope t c = c.requires.scope
+    ∙ elements_type c.args.self.now.layout c.in_ok-node.node c.requires.list c.in_ok-node.ensures.plan NonNullable
+    (ap nullability_of (never_null c.args.self.now.layout c.requires.list
+    (subst (IsValidityOf c.args.self.now.layout) c.in-None.is
+    (subst (λ (m : Layout). AreLeavesOf m c.in_ok-leaves.leaves) c.elements_node.ensures.asks.layout c.in_ok-leaves.ensures.leaves).validity)).1)
 
 pub nested::NestedReader::list_all_node-all_node-requires-clause-numbers : goal.nested::NestedReader::list_all_node-all_node-requires-clause-numbers
 nested::NestedReader::list_all_node-all_node-requires-clause-numbers t c = numbers c.args.self.now.layout c.in_ok-leaves.leaves.offsets c.requires.list (subst (λ (m : Layout). AreLeavesOf m c.in_ok-leaves.leaves) c.elements_node.ensures.asks.layout c.in_ok-leaves.ensures.leaves).offsets
 
 pub nested::NestedReader::list_all_node-all_node-requires-clause-overflow : goal.nested::NestedReader::list_all_node-all_node-requires-clause-overflow
-nested::NestedReader::list_all_node-all_node-requires-clause-overflow t c = elements_plan c.args.self.now.layout c.in_ok-node.node c.requires.list c.in_ok-node.ensures.plan c.element_count-elements.result (subst (λ (m : Layout). option_map rows_of (nth_kid (kids_of m) 0) ≡ Some c.element_count-elements.result) (c.list_leaves.ensures.asks.layout ∙ c.elements_node.ensures.asks.layout) c.element_count-elements.ensures)
+nested::NestedReader::list_all_node-all_node-requires-clause-overflow t c =
+    elements_plan c.args.self.now.layout c.in_ok-node.node c.requires.list c.in_ok-node.ensures.plan c.element_count-elements.result
+    (subst (λ (m : Layout). option_map rows_of (nth_kid (kids_of m) 0) ≡ Some c.element_count-elements.result)
+    (c.list_leaves.ensures.asks.layout ∙ c.elements_node.ensures.asks.layout) c.element_count-elements.ensures)
 
 pub nested::NestedReader::list_all_node-returns-in-None-clause-plan : goal.nested::NestedReader::list_all_node-returns-in-None-clause-plan
-nested::NestedReader::list_all_node-returns-in-None-clause-plan t c = all_plan c.args.self.now.layout c.args.expr.now c.in_ok-node.node c.in_ok-leaves.leaves.offsets c.element_count-elements.result c.all_node.result c.requires.list c.in_ok-node.ensures.plan (subst (λ (m : Layout). AreLeavesOf m c.in_ok-leaves.leaves) c.elements_node.ensures.asks.layout c.in_ok-leaves.ensures.leaves).offsets (subst (IsValidityOf c.args.self.now.layout) c.in-None.is (subst (λ (m : Layout). AreLeavesOf m c.in_ok-leaves.leaves) c.elements_node.ensures.asks.layout c.in_ok-leaves.ensures.leaves).validity) (subst (λ (m : Layout). option_map rows_of (nth_kid (kids_of m) 0) ≡ Some c.element_count-elements.result) (c.list_leaves.ensures.asks.layout ∙ c.elements_node.ensures.asks.layout) c.element_count-elements.ensures) c.requires.scope c.all_node.ensures.plan
+nested::NestedReader::list_all_node-returns-in-None-clause-plan t c =
+    all_plan c.args.self.now.layout c.args.expr.now c.in_ok-node.node c.in_ok-leaves.leaves.offsets c.element_count-elements.result c.all_node.result
+    c.requires.list c.in_ok-node.ensures.plan
+    (subst (λ (m : Layout). AreLeavesOf m c.in_ok-leaves.leaves) c.elements_node.ensures.asks.layout c.in_ok-leaves.ensures.leaves).offsets
+    (subst (IsValidityOf c.args.self.now.layout) c.in-None.is
+    (subst (λ (m : Layout). AreLeavesOf m c.in_ok-leaves.leaves) c.elements_node.ensures.asks.layout c.in_ok-leaves.ensures.leaves).validity)
+    (subst (λ (m : Layout). option_map rows_of (nth_kid (kids_of m) 0) ≡ Some c.element_count-elements.result)
+    (c.list_leaves.ensures.asks.layout ∙ c.elements_node.ensures.asks.layout) c.element_count-elements.ensures) c.requires.scope c.all_node.ensures.plan
 
 pub nested::NestedReader::list_all_node-valid_all_node-requires-clause-scope : goal.nested::NestedReader::list_all_node-valid_all_node-requires-clause-scope
-nested::NestedReader::list_all_node-valid_all_node-requires-clause-scope t c = c.requires.scope ∙ elements_type c.args.self.now.layout c.in_ok-node.node c.requires.list c.in_ok-node.ensures.plan Nullable (ap nullability_of (maybe_null c.args.self.now.layout c.in-Some.validity c.requires.list (subst (IsValidityOf c.args.self.now.layout) c.in-Some.is (subst (λ (m : Layout). AreLeavesOf m c.in_ok-leaves.leaves) c.elements_node.ensures.asks.layout c.in_ok-leaves.ensures.leaves).validity)).0.1)
+nested::NestedReader::list_all_node-valid_all_node-requires-clause-scope t c = c.requires.scope
+    ∙ elements_type c.args.self.now.layout c.in_ok-node.node c.requires.list c.in_ok-node.ensures.plan Nullable
+    (ap nullability_of (maybe_null c.args.self.now.layout c.in-Some.validity c.requires.list
+    (subst (IsValidityOf c.args.self.now.layout) c.in-Some.is
+    (subst (λ (m : Layout). AreLeavesOf m c.in_ok-leaves.leaves) c.elements_node.ensures.asks.layout c.in_ok-leaves.ensures.leaves).validity)).0.1)
 
 pub nested::NestedReader::list_all_node-valid_all_node-requires-clause-numbers : goal.nested::NestedReader::list_all_node-valid_all_node-requires-clause-numbers
 nested::NestedReader::list_all_node-valid_all_node-requires-clause-numbers t c = numbers c.args.self.now.layout c.in_ok-leaves.leaves.offsets c.requires.list (subst (λ (m : Layout). AreLeavesOf m c.in_ok-leaves.leaves) c.elements_node.ensures.asks.layout c.in_ok-leaves.ensures.leaves).offsets
 
 pub nested::NestedReader::list_all_node-valid_all_node-requires-clause-overflow : goal.nested::NestedReader::list_all_node-valid_all_node-requires-clause-overflow
-nested::NestedReader::list_all_node-valid_all_node-requires-clause-overflow t c = elements_plan c.args.self.now.layout c.in_ok-node.node c.requires.list c.in_ok-node.ensures.plan c.element_count-elements.result (subst (λ (m : Layout). option_map rows_of (nth_kid (kids_of m) 0) ≡ Some c.element_count-elements.result) (c.list_leaves.ensures.asks.layout ∙ c.elements_node.ensures.asks.layout) c.element_count-elements.ensures)
+nested::NestedReader::list_all_node-valid_all_node-requires-clause-overflow t c =
+    elements_plan c.args.self.now.layout c.in_ok-node.node c.requires.list c.in_ok-node.ensures.plan c.element_count-elements.result
+    (subst (λ (m : Layout). option_map rows_of (nth_kid (kids_of m) 0) ≡ Some c.element_count-elements.result)
+    (c.list_leaves.ensures.asks.layout ∙ c.elements_node.ensures.asks.layout) c.element_count-elements.ensures)
 
 pub nested::NestedReader::list_all_node-valid_all_node-requires-clause-validity : goal.nested::NestedReader::list_all_node-valid_all_node-requires-clause-validity
-nested::NestedReader::list_all_node-valid_all_node-requires-clause-validity t c = (maybe_null c.args.self.now.layout c.in-Some.validity c.requires.list (subst (IsValidityOf c.args.self.now.layout) c.in-Some.is (subst (λ (m : Layout). AreLeavesOf m c.in_ok-leaves.leaves) c.elements_node.ensures.asks.layout c.in_ok-leaves.ensures.leaves).validity)).1
+nested::NestedReader::list_all_node-valid_all_node-requires-clause-validity t c =
+    (maybe_null c.args.self.now.layout c.in-Some.validity c.requires.list
+    (subst (IsValidityOf c.args.self.now.layout) c.in-Some.is
+    (subst (λ (m : Layout). AreLeavesOf m c.in_ok-leaves.leaves) c.elements_node.ensures.asks.layout c.in_ok-leaves.ensures.leaves).validity)).1
 
 pub nested::NestedReader::list_all_node-returns-clause-plan : goal.nested::NestedReader::list_all_node-returns-clause-plan
-nested::NestedReader::list_all_node-returns-clause-plan t c = valid_all_plan c.args.self.now.layout c.args.expr.now c.in_ok-node.node c.in_ok-leaves.leaves.offsets c.element_count-elements.result c.in-Some.validity c.valid_all_node.result c.requires.list c.in_ok-node.ensures.plan (subst (λ (m : Layout). AreLeavesOf m c.in_ok-leaves.leaves) c.elements_node.ensures.asks.layout c.in_ok-leaves.ensures.leaves).offsets (subst (IsValidityOf c.args.self.now.layout) c.in-Some.is (subst (λ (m : Layout). AreLeavesOf m c.in_ok-leaves.leaves) c.elements_node.ensures.asks.layout c.in_ok-leaves.ensures.leaves).validity) (subst (λ (m : Layout). option_map rows_of (nth_kid (kids_of m) 0) ≡ Some c.element_count-elements.result) (c.list_leaves.ensures.asks.layout ∙ c.elements_node.ensures.asks.layout) c.element_count-elements.ensures) c.requires.scope c.valid_all_node.ensures.plan
+nested::NestedReader::list_all_node-returns-clause-plan t c =
+    valid_all_plan c.args.self.now.layout c.args.expr.now c.in_ok-node.node c.in_ok-leaves.leaves.offsets c.element_count-elements.result c.in-Some.validity
+    c.valid_all_node.result c.requires.list c.in_ok-node.ensures.plan
+    (subst (λ (m : Layout). AreLeavesOf m c.in_ok-leaves.leaves) c.elements_node.ensures.asks.layout c.in_ok-leaves.ensures.leaves).offsets
+    (subst (IsValidityOf c.args.self.now.layout) c.in-Some.is
+    (subst (λ (m : Layout). AreLeavesOf m c.in_ok-leaves.leaves) c.elements_node.ensures.asks.layout c.in_ok-leaves.ensures.leaves).validity)
+    (subst (λ (m : Layout). option_map rows_of (nth_kid (kids_of m) 0) ≡ Some c.element_count-elements.result)
+    (c.list_leaves.ensures.asks.layout ∙ c.elements_node.ensures.asks.layout) c.element_count-elements.ensures) c.requires.scope c.valid_all_node.ensures.plan
 
 pub nested::NestedReader::list_node-returns-in-Validity-clause-asks : goal.nested::NestedReader::list_node-returns-in-Validity-clause-asks
 nested::NestedReader::list_node-returns-in-Validity-clause-asks t c = subst (λ (k : ListChildrenNeeded). Asks (list_parts c.args.self.now.layout k) c.args.self.now c.list_nulls_node.new.self) (sym (sym c.necessary_children.ensures.exact ∙ c.in-Validity.is)) c.list_nulls_node.ensures.asks
 
 pub nested::NestedReader::list_node-returns-in-Validity-clause-all : goal.nested::NestedReader::list_node-returns-in-Validity-clause-all
-nested::NestedReader::list_node-returns-in-Validity-clause-all t c = subst (λ (k : ListChildrenNeeded). IfOk c.list_nulls_node.result (λ _. AsksAll (list_parts c.args.self.now.layout k) c.args.self.now c.list_nulls_node.new.self)) (sym (sym c.necessary_children.ensures.exact ∙ c.in-Validity.is)) c.list_nulls_node.ensures.all
+nested::NestedReader::list_node-returns-in-Validity-clause-all t c =
+    subst (λ (k : ListChildrenNeeded). IfOk c.list_nulls_node.result
+    (λ _. AsksAll (list_parts c.args.self.now.layout k) c.args.self.now c.list_nulls_node.new.self))
+    (sym (sym c.necessary_children.ensures.exact ∙ c.in-Validity.is)) c.list_nulls_node.ensures.all
 
 pub nested::NestedReader::list_node-returns-in-OffsetsAndValidity-clause-asks : goal.nested::NestedReader::list_node-returns-in-OffsetsAndValidity-clause-asks
-nested::NestedReader::list_node-returns-in-OffsetsAndValidity-clause-asks t c = subst (λ (k : ListChildrenNeeded). Asks (list_parts c.args.self.now.layout k) c.args.self.now c.list_lengths_node.new.self) (sym (sym c.necessary_children.ensures.exact ∙ c.in-OffsetsAndValidity.is)) c.list_lengths_node.ensures.asks
+nested::NestedReader::list_node-returns-in-OffsetsAndValidity-clause-asks t c =
+    subst (λ (k : ListChildrenNeeded). Asks (list_parts c.args.self.now.layout k) c.args.self.now c.list_lengths_node.new.self)
+    (sym (sym c.necessary_children.ensures.exact ∙ c.in-OffsetsAndValidity.is)) c.list_lengths_node.ensures.asks
 
 pub nested::NestedReader::list_node-returns-in-OffsetsAndValidity-clause-all : goal.nested::NestedReader::list_node-returns-in-OffsetsAndValidity-clause-all
-nested::NestedReader::list_node-returns-in-OffsetsAndValidity-clause-all t c = subst (λ (k : ListChildrenNeeded). IfOk c.list_lengths_node.result (λ _. AsksAll (list_parts c.args.self.now.layout k) c.args.self.now c.list_lengths_node.new.self)) (sym (sym c.necessary_children.ensures.exact ∙ c.in-OffsetsAndValidity.is)) c.list_lengths_node.ensures.all
+nested::NestedReader::list_node-returns-in-OffsetsAndValidity-clause-all t c =
+    subst (λ (k : ListChildrenNeeded). IfOk c.list_lengths_node.result
+    (λ _. AsksAll (list_parts c.args.self.now.layout k) c.args.self.now c.list_lengths_node.new.self))
+    (sym (sym c.necessary_children.ensures.exact ∙ c.in-OffsetsAndValidity.is)) c.list_lengths_node.ensures.all
 
 pub nested::NestedReader::list_node-returns-in-All-clause-asks : goal.nested::NestedReader::list_node-returns-in-All-clause-asks
 nested::NestedReader::list_node-returns-in-All-clause-asks t c = subst (λ (k : ListChildrenNeeded). Asks (list_parts c.args.self.now.layout k) c.args.self.now c.list_all_node.new.self) (sym (sym c.necessary_children.ensures.exact ∙ c.in-All.is)) c.list_all_node.ensures.asks
 
 pub nested::NestedReader::list_node-returns-in-All-clause-all : goal.nested::NestedReader::list_node-returns-in-All-clause-all
-nested::NestedReader::list_node-returns-in-All-clause-all t c = subst (λ (k : ListChildrenNeeded). IfOk c.list_all_node.result (λ _. AsksAll (list_parts c.args.self.now.layout k) c.args.self.now c.list_all_node.new.self)) (sym (sym c.necessary_children.ensures.exact ∙ c.in-All.is)) c.list_all_node.ensures.all
+nested::NestedReader::list_node-returns-in-All-clause-all t c = subst (λ (k : ListChildrenNeeded). IfOk c.list_all_node.result
+    (λ _. AsksAll (list_parts c.args.self.now.layout k) c.args.self.now c.list_all_node.new.self))
+    (sym (sym c.necessary_children.ensures.exact ∙ c.in-All.is)) c.list_all_node.ensures.all
 
 pub nested::NestedReader::list_node-list_all_node-requires : goal.nested::NestedReader::list_node-list_all_node-requires
 nested::NestedReader::list_node-list_all_node-requires t c = let told = c.decreases in (omega (arith, told), (c.requires.list, (sym c.necessary_children.ensures.exact ∙ c.in-All.is, (c.requires.bound, (c.requires.scope, c.requires.rows)))))

@@ -34,7 +34,9 @@ pub returns-in-Some-clause-answer : goal.returns-in-Some-clause-answer
 returns-in-Some-clause-answer c =
     let here = came c.args.inbox.now in
     let l : c.loop-mask.mask-index < length c.loop-mask.masks = omega (arith, c.loop-mask.auto.masks) in
-    let k : Knows here c.mask-item.result c.know.new.self (Ok (Some c.in-Some.ids)) = subst (λ (o : Option (List ℕ)). Knows here c.mask-item.result c.know.new.self (Ok o)) c.in-Some.is (subst (λ (x : MaskData). Knows here x c.know.new.self (Ok c.in_ok-ids.field-0)) (sym c.mask-item.is) c.in_ok-ids.ensures.answer) in
+    let k : Knows here c.mask-item.result c.know.new.self (Ok (Some c.in-Some.ids)) =
+    subst (λ (o : Option (List ℕ)). Knows here c.mask-item.result c.know.new.self (Ok o)) c.in-Some.is
+    (subst (λ (x : MaskData). Knows here x c.know.new.self (Ok c.in_ok-ids.field-0)) (sym c.mask-item.is) c.in_ok-ids.ensures.answer) in
     λ rest. walk_waits c.loop-mask.mask-index here c.loop-mask.masks c.args.masks.now c.mask-item.result c.in-Some.ids rest c.loop-mask.invariant l c.mask-item.is k
 
 pub returns-in_err-ids-clause-same : goal.returns-in_err-ids-clause-same
@@ -48,4 +50,6 @@ returns-in_err-ids-clause-answer c =
     let here = came c.args.inbox.now in
     let l : c.loop-mask.mask-index < length c.loop-mask.masks = omega (arith, c.loop-mask.auto.masks) in
     let q = err_from_is_err_and c.from_residual.result c.from_residual.ensures.1 in
-    rw (q.1, q.2) (walk_fault c.loop-mask.mask-index here c.loop-mask.masks c.args.masks.now c.args.masks.now c.mask-item.result c.know.new.self c.in_err-ids.field-0.0 c.loop-mask.invariant l c.mask-item.is (subst (λ (x : MaskData). Knows here x c.know.new.self (Err c.in_err-ids.field-0.0)) (sym c.mask-item.is) c.in_err-ids.ensures.answer))
+    rw (q.1, q.2) (walk_fault c.loop-mask.mask-index here c.loop-mask.masks c.args.masks.now c.args.masks.now c.mask-item.result c.know.new.self
+    c.in_err-ids.field-0.0 c.loop-mask.invariant l c.mask-item.is
+    (subst (λ (x : MaskData). Knows here x c.know.new.self (Err c.in_err-ids.field-0.0)) (sym c.mask-item.is) c.in_err-ids.ensures.answer))

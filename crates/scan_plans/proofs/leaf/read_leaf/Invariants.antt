@@ -9,4 +9,7 @@ use Rattle.scan_plans.proofs.Building.{Built}
 use Rattle.scan_plans.proofs.leaf.read_leaf.Given as goal
 
 abbrev pub invariant-loop-k : goal.invariant-loop-k
-invariant-loop-k l = Built l.dtype.value l.column (to_give l.dtype.value l.spelling (arrived (came l.inbox)) l.runs l.first l.bits l.k) (map (leaf_value l.dtype.value (arrived (came l.inbox)) (places_of l.dtype.value l.spelling l.runs)) (true_rows l.first l.bits)) (to_want l.dtype.value l.spelling l.runs l.first l.bits l.k) (leaf_wanted 0 (places_of l.dtype.value l.spelling l.runs) (true_rows l.first l.bits)) (arrived (came l.inbox))
+invariant-loop-k l = Built l.dtype.value l.column (to_give l.dtype.value l.spelling (arrived (came l.inbox)) l.runs l.first l.bits l.k)
+    (map (leaf_value l.dtype.value (arrived (came l.inbox)) (places_of l.dtype.value l.spelling l.runs)) (true_rows l.first l.bits))
+    (to_want l.dtype.value l.spelling l.runs l.first l.bits l.k) (leaf_wanted 0 (places_of l.dtype.value l.spelling l.runs) (true_rows l.first l.bits))
+    (arrived (came l.inbox))

@@ -1,5 +1,5 @@
 use borrow.Author.Rules.{rules}
-use Rattle.std.proofs.Common.{◌≡◌, ◌+◌, length, Some, ◌∙◌, ap, map}
+use Rattle.std.proofs.Common.{◌≡◌, ◌+◌, length, Some, is_none, ◌∙◌, ap, map}
 use Rattle.scan_values.specs.Arrays.{ArrayData}
 use Rattle.scan_values.specs.Val.{marked}
 use Rattle.scan_layout.specs.Places.{place_of}
@@ -24,4 +24,5 @@ returns-in_ok-from_leaf-in-Ok c =
     let same : c.in_ok-clone-in-Ok.field-0.value ≡ c.args.dtype.now.value = search (rules, c.in_ok-clone-in-Ok.ensures.cases) in (
       ap (λ (a : ArrayData). a.dtype) c.in_ok-from_leaf-in-Ok.ensures ∙ same,
       ap (λ (a : ArrayData). map marked a.items) c.in_ok-from_leaf-in-Ok.ensures ∙ segment_items store p c.in-Ok.column.items c.args.skip c.args.bits.now (read_there store p c.in_ok-try_clone.field-0 c.in-Ok.column.items there read) long,
+      ap is_none (read_there store p c.in_ok-try_clone.field-0 c.in-Ok.column.items there read),
     )

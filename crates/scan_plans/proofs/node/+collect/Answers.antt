@@ -52,7 +52,9 @@ PlanNodes::collect-collect-requires t c =
     let n = c.args.first + length c.args.mask.now in
     let all : AllWithin (plans c.deref-node-items.result.now) n = subst (λ (ps : List PlanTree). AllWithin (plans ps) n) (sym items) c.requires in
     let w : Within c.node-item.result n = within_at c.loop-node.node-index n c.deref-node-items.result.now c.node-item.result c.loop-node-test.true c.node-item.is all in
-    let sized : tree_size c.node-item.result + 1 ≤ trees_size (plans c.args.self.now) = subst (λ (ps : List PlanTree). tree_size c.node-item.result + 1 ≤ trees_size (plans ps)) items (size_at c.loop-node.node-index c.deref-node-items.result.now c.node-item.result c.loop-node-test.true c.node-item.is) in
+    let sized : tree_size c.node-item.result + 1 ≤ trees_size (plans c.args.self.now) =
+    subst (λ (ps : List PlanTree). tree_size c.node-item.result + 1 ≤ trees_size (plans ps)) items
+    (size_at c.loop-node.node-index c.deref-node-items.result.now c.node-item.result c.loop-node-test.true c.node-item.is) in
     (search (rules, sized), w)
 
 pub PlanNode::collect-returns-in_err-rows-in-Lists : goal.PlanNode::collect-returns-in_err-rows-in-Lists
@@ -172,7 +174,10 @@ PlanNode::collect-returns-in_err-collect-in-Valid t c =
     let e : c.args.self.now ≡ valid p v = sym c.self.view_is ∙ ap plan_of c.in-Valid.is in
     let q = err_from_is_err_and c.from_residual-in_err-collect-in-Valid.result c.from_residual-in_err-collect-in-Valid.ensures.1 in
     let own = subst (λ (x : PlanTree). CollectsPlan {A = Unit {0}} c.args.wants.now c.collect-in-Valid.new.wants x here is (Err c.in_err-collect-in-Valid.field-0.0)) c.deref-in-Valid.ensures c.in_err-collect-in-Valid.ensures in
-    rw (q.1, q.2) (subst (λ (x : PlanTree). CollectsPlan {A = Unit {0}} c.args.wants.now c.collect-in-Valid.new.wants x here is (Err c.in_err-collect-in-Valid.field-0.0)) (sym e) (no_validity (Unit {0}) (Unit {0}) c.args.wants.now c.collect-in-Valid.new.wants c.collect-in-Valid.new.wants p v here is c.in_err-collect-in-Valid.field-0.0 own))
+    rw (q.1, q.2) (subst (λ (x : PlanTree). CollectsPlan {A = Unit {0}} c.args.wants.now c.collect-in-Valid.new.wants x here is
+    (Err c.in_err-collect-in-Valid.field-0.0)) (sym e)
+    (no_validity (Unit {0}) (Unit {0}) c.args.wants.now c.collect-in-Valid.new.wants c.collect-in-Valid.new.wants p v here is
+    c.in_err-collect-in-Valid.field-0.0 own))
 
 pub PlanNode::collect-returns-in_ok-collect-in-Valid : goal.PlanNode::collect-returns-in_ok-collect-in-Valid
 PlanNode::collect-returns-in_ok-collect-in-Valid t c =

@@ -39,7 +39,9 @@ PlanNode::read-returns-in_err-columns-in-Over t c =
     let b = c.in-Over.root in
     let e : c.args.self.now ≡ over b.scope b.expr (plans c.in-Over.parts) = sym c.self.view_is ∙ ap plan_of c.in-Over.is in
     let q = err_from_is_err_and c.from_residual-in_err-columns-in-Over.result c.from_residual-in_err-columns-in-Over.ensures.1 in
-    rw (q.1, q.2) (subst (λ (p : PlanTree). Reads p (came c.args.inbox.now) (true_rows c.args.first c.args.mask.now) (Err c.in_err-columns-in-Over.field-0.0)) (sym e) (over_passes (λ (v : Vec Column Global). v.items) b.scope b.expr (plans c.in-Over.parts) (came c.args.inbox.now) (true_rows c.args.first c.args.mask.now) c.in_err-columns-in-Over.field-0.0 c.in_err-columns-in-Over.ensures))
+    rw (q.1, q.2) (subst (λ (p : PlanTree). Reads p (came c.args.inbox.now) (true_rows c.args.first c.args.mask.now) (Err c.in_err-columns-in-Over.field-0.0))
+    (sym e) (over_passes (λ (v : Vec Column Global). v.items) b.scope b.expr (plans c.in-Over.parts) (came c.args.inbox.now)
+    (true_rows c.args.first c.args.mask.now) c.in_err-columns-in-Over.field-0.0 c.in_err-columns-in-Over.ensures))
 
 pub PlanNode::read-joined-requires-clause-scope : goal.PlanNode::read-joined-requires-clause-scope
 PlanNode::read-joined-requires-clause-scope t c =
@@ -78,7 +80,9 @@ PlanNodes::read-read-requires t c =
     let n = c.args.first + length c.args.mask.now in
     let all : AllWithin (plans c.deref-node-items.result.now) n = subst (λ (ps : List PlanTree). AllWithin (plans ps) n) (sym items) c.requires in
     let w : Within c.node-item.result n = within_at c.loop-node.node-index n c.deref-node-items.result.now c.node-item.result c.loop-node-test.true c.node-item.is all in
-    let sized : tree_size c.node-item.result + 1 ≤ trees_size (plans c.args.self.now) = subst (λ (ps : List PlanTree). tree_size c.node-item.result + 1 ≤ trees_size (plans ps)) items (size_at c.loop-node.node-index c.deref-node-items.result.now c.node-item.result c.loop-node-test.true c.node-item.is) in
+    let sized : tree_size c.node-item.result + 1 ≤ trees_size (plans c.args.self.now) =
+    subst (λ (ps : List PlanTree). tree_size c.node-item.result + 1 ≤ trees_size (plans ps)) items
+    (size_at c.loop-node.node-index c.deref-node-items.result.now c.node-item.result c.loop-node-test.true c.node-item.is) in
     (search (rules, sized), w)
 
 pub PlanNodes::read-returns-in_err-read : goal.PlanNodes::read-returns-in_err-read
@@ -89,7 +93,9 @@ PlanNodes::read-returns-in_err-read t c =
     let k = c.loop-node.node-index in
     let q = err_from_is_err_and c.from_residual-in_err-read.result c.from_residual-in_err-read.ensures.1 in
     let filled : Filled k c.deref-node-items.result.now here is c.loop-node.columns.items = subst (λ (ps : List PlanTree). Filled k ps here is c.loop-node.columns.items) (sym items) c.loop-node.invariant in
-    rw (q.1, q.2) (subst (λ (ps : List PlanTree). ReadsAll (λ (v : Vec Column Global). v.items) (plans ps) here is (Err c.in_err-read.field-0.0)) items (filled_fault (λ (v : Vec Column Global). v.items) k c.deref-node-items.result.now here is c.loop-node.columns.items c.node-item.result c.in_err-read.field-0.0 c.loop-node-test.true c.node-item.is filled c.in_err-read.ensures))
+    rw (q.1, q.2) (subst (λ (ps : List PlanTree). ReadsAll (λ (v : Vec Column Global). v.items) (plans ps) here is (Err c.in_err-read.field-0.0)) items
+    (filled_fault (λ (v : Vec Column Global). v.items) k c.deref-node-items.result.now here is c.loop-node.columns.items c.node-item.result
+    c.in_err-read.field-0.0 c.loop-node-test.true c.node-item.is filled c.in_err-read.ensures))
 
 pub PlanNodes::read-loop-node-preserved : goal.PlanNodes::read-loop-node-preserved
 PlanNodes::read-loop-node-preserved t c =
@@ -136,7 +142,7 @@ PlanNode::read-returns-in_ok-column-in-Some t c =
     let v : AreValues p here (element_rows o (arrived here) is) c.in_ok-column-in-Some.column = subst (λ (js : List ℕ). AreValues p here js c.in_ok-column-in-Some.column) (sym same) (search (rules, c.in_ok-column-in-Some.ensures, c.deref-in-Some.ensures)) in
     let ns : List ℕ = w.cut.offsets.items in
     let own = read_items p o here is ns w.rows.first w.rows.mask c.in_ok-column-in-Some.column z v in
-    rw e (lists_given d p o here is w.cut (elements_in ns w.rows.first c.in_ok-column-in-Some.column) c.lists_of.result k.0 own (search (rules, c.lists_of.ensures)))
+    rw e (lists_given d p o here is w.cut (elements_in ns w.rows.first c.in_ok-column-in-Some.column) c.lists_of.result k.0 own v.found (search (rules, c.lists_of.ensures)))
 
 pub PlanNode::read-whole-requires : goal.PlanNode::read-whole-requires
 PlanNode::read-whole-requires t c =

@@ -14,4 +14,8 @@ pub by_lengths_node-requires-clause-lengths : goal.by_lengths_node-requires-clau
 by_lengths_node-requires-clause-lengths c = (maybe_lengths c.args.expr.now.scope c.in_ok-lengths.lengths c.lengths.result _ c.in_ok-read.read c.requires.scope c.lengths.ensures c.in_ok-lengths.ensures).1
 
 pub returns : goal.returns
-returns c = record { plan = valid_lengths_made c.necessary_children_are_needed-law.ensures.needed c.args.expr.now c.args.offsets.now c.args.validity.now c.args.elements c.in_ok-read.read c.lengths.result c.in_ok-lengths.lengths c.by_lengths_node.result c.in_ok-read.ensures c.lengths.ensures c.in_ok-lengths.ensures c.requires.class c.by_lengths_node.ensures }
+returns c = record {
+  plan = valid_lengths_made c.necessary_children_are_needed-law.ensures.needed c.args.expr.now c.args.offsets.now c.args.validity.now
+      c.args.elements c.in_ok-read.read c.lengths.result c.in_ok-lengths.lengths c.by_lengths_node.result c.in_ok-read.ensures c.lengths.ensures
+      c.in_ok-lengths.ensures c.requires.class c.by_lengths_node.ensures;
+}

@@ -29,7 +29,9 @@ checked-requires c =
     let own : AreValues (leaf (c.args.self.now).dtype (c.args.self.now).spelling (c.args.self.now).segments) here (rows_on c.args.first c.args.count) c.in_ok-column.column = search (rules, c.in_ok-column.ensures, all, c.deref.ensures, c.self.view_is) in
     let array : c.in_ok-array.array ≡ c.in_ok-column.column = search (rules, c.in_ok-array.ensures) in
     let are : map int_val c.in_ok-numbers.numbers.items ≡ c.in_ok-array.array.items = search (rules, c.in_ok-numbers.ensures) in
-    let long : length c.in_ok-numbers.numbers.items ≡ c.args.count = numbers_long (leaf (c.args.self.now).dtype (c.args.self.now).spelling (c.args.self.now).segments) here c.args.first c.args.count c.in_ok-column.column c.in_ok-numbers.numbers.items own (are ∙ ap (λ (x : ArrayData). x.items) array) in
+    let long : length c.in_ok-numbers.numbers.items ≡ c.args.count = numbers_long
+    (leaf (c.args.self.now).dtype (c.args.self.now).spelling (c.args.self.now).segments) here c.args.first c.args.count c.in_ok-column.column
+    c.in_ok-numbers.numbers.items own (are ∙ ap (λ (x : ArrayData). x.items) array) in
     let low : c.args.first + length c.in_ok-numbers.numbers.items ≤ total_rows (c.args.self.now).segments = omega (arith, long, c.requires) in
     search (rules, low)
 

@@ -21,10 +21,16 @@ pub put_child-requires : goal.put_child-requires
 put_child-requires c = ap (λ (l : Layout). nth_kid (kids_of l) c.args.index) c.take_child.ensures.layout ∙ c.in_ok-child.ensures.child
 
 pub returns-clause-asks : goal.returns-clause-asks
-returns-clause-asks c = λ e. child_asks c.args.self.now c.take_child.new.self c.put_child.new.self c.args.index e c.in_ok-child.child c.in_ok-child.child c.take_child.ensures.layout c.in_ok-child.ensures.out c.take_child.ensures.wide c.in_ok-child.ensures.child c.in_ok-child.ensures.own (leaf_within (layout_of c.in_ok-child.child) e (made_of c.in_ok-child.child)) c.put_child.ensures
+returns-clause-asks c = λ e. child_asks c.args.self.now c.take_child.new.self c.put_child.new.self c.args.index e c.in_ok-child.child c.in_ok-child.child
+    c.take_child.ensures.layout c.in_ok-child.ensures.out c.take_child.ensures.wide c.in_ok-child.ensures.child c.in_ok-child.ensures.own
+    (leaf_within (layout_of c.in_ok-child.child) e (made_of c.in_ok-child.child)) c.put_child.ensures
 
 pub returns-clause-all : goal.returns-clause-all
-returns-clause-all c = λ e. child_asks_all c.args.self.now c.take_child.new.self c.put_child.new.self c.args.index e c.in_ok-child.child c.in_ok-child.child c.leaf-leaf.result c.in_ok-child.ensures.out c.take_child.ensures.wide c.in_ok-child.ensures.child c.in_ok-child.ensures.own (leaf_all (layout_of c.in_ok-child.child) e (made_of c.in_ok-child.child) c.leaf-leaf.result (kid_is_leaf (kids_of c.args.self.now.layout) c.args.index c.requires.layout (layout_of c.in_ok-child.child) c.requires.kid c.in_ok-child.ensures.child c.requires.leaf)) c.put_child.ensures
+returns-clause-all c = λ e. child_asks_all c.args.self.now c.take_child.new.self c.put_child.new.self c.args.index e c.in_ok-child.child c.in_ok-child.child
+    c.leaf-leaf.result c.in_ok-child.ensures.out c.take_child.ensures.wide c.in_ok-child.ensures.child c.in_ok-child.ensures.own
+    (leaf_all (layout_of c.in_ok-child.child) e (made_of c.in_ok-child.child) c.leaf-leaf.result
+    (kid_is_leaf (kids_of c.args.self.now.layout) c.args.index c.requires.layout
+    (layout_of c.in_ok-child.child) c.requires.kid c.in_ok-child.ensures.child c.requires.leaf)) c.put_child.ensures
 
 pub returns-clause-leaf : goal.returns-clause-leaf
 returns-clause-leaf c = kid_leaf c.leaf-leaf.result (kids_of c.args.self.now.layout) c.args.index (layout_of c.in_ok-child.child) c.in_ok-child.ensures.child c.leaf-leaf.ensures

@@ -17,7 +17,11 @@ pub lengths_node-requires-clause-numbers : goal.lengths_node-requires-clause-num
 lengths_node-requires-clause-numbers c = numbers c.args.self.now.layout c.in_ok-leaves.leaves.offsets c.requires.list c.in_ok-leaves.ensures.leaves.offsets
 
 pub returns-in-None-clause-plan : goal.returns-in-None-clause-plan
-returns-in-None-clause-plan c = lengths_plan c.args.self.now.layout c.args.expr.now c.in_ok-leaves.leaves.offsets c.element_count-elements.result c.lengths_node.result c.requires.list c.in_ok-leaves.ensures.leaves.offsets (subst (IsValidityOf c.args.self.now.layout) c.in-None.is c.in_ok-leaves.ensures.leaves.validity) (subst (λ (m : Layout). option_map rows_of (nth_kid (kids_of m) 0) ≡ Some c.element_count-elements.result) c.list_leaves.ensures.asks.layout c.element_count-elements.ensures) c.requires.scope c.lengths_node.ensures.plan
+returns-in-None-clause-plan c = lengths_plan c.args.self.now.layout c.args.expr.now c.in_ok-leaves.leaves.offsets c.element_count-elements.result
+    c.lengths_node.result c.requires.list c.in_ok-leaves.ensures.leaves.offsets
+    (subst (IsValidityOf c.args.self.now.layout) c.in-None.is c.in_ok-leaves.ensures.leaves.validity)
+    (subst (λ (m : Layout). option_map rows_of (nth_kid (kids_of m) 0) ≡ Some c.element_count-elements.result) c.list_leaves.ensures.asks.layout
+    c.element_count-elements.ensures) c.requires.scope c.lengths_node.ensures.plan
 
 pub valid_lengths_node-requires-clause-scope : goal.valid_lengths_node-requires-clause-scope
 valid_lengths_node-requires-clause-scope c = subst IsMaybeNull (sym c.requires.scope) (maybe_null c.args.self.now.layout c.in-Some.validity c.requires.list (subst (IsValidityOf c.args.self.now.layout) c.in-Some.is c.in_ok-leaves.ensures.leaves.validity)).0
@@ -29,4 +33,8 @@ pub valid_lengths_node-requires-clause-validity : goal.valid_lengths_node-requir
 valid_lengths_node-requires-clause-validity c = (maybe_null c.args.self.now.layout c.in-Some.validity c.requires.list (subst (IsValidityOf c.args.self.now.layout) c.in-Some.is c.in_ok-leaves.ensures.leaves.validity)).1
 
 pub returns-clause-plan : goal.returns-clause-plan
-returns-clause-plan c = valid_lengths_plan c.args.self.now.layout c.args.expr.now c.in_ok-leaves.leaves.offsets c.element_count-elements.result c.in-Some.validity c.valid_lengths_node.result c.requires.list c.in_ok-leaves.ensures.leaves.offsets (subst (IsValidityOf c.args.self.now.layout) c.in-Some.is c.in_ok-leaves.ensures.leaves.validity) (subst (λ (m : Layout). option_map rows_of (nth_kid (kids_of m) 0) ≡ Some c.element_count-elements.result) c.list_leaves.ensures.asks.layout c.element_count-elements.ensures) c.requires.scope c.valid_lengths_node.ensures.plan
+returns-clause-plan c = valid_lengths_plan c.args.self.now.layout c.args.expr.now c.in_ok-leaves.leaves.offsets c.element_count-elements.result
+    c.in-Some.validity c.valid_lengths_node.result c.requires.list c.in_ok-leaves.ensures.leaves.offsets
+    (subst (IsValidityOf c.args.self.now.layout) c.in-Some.is c.in_ok-leaves.ensures.leaves.validity)
+    (subst (λ (m : Layout). option_map rows_of (nth_kid (kids_of m) 0) ≡ Some c.element_count-elements.result) c.list_leaves.ensures.asks.layout
+    c.element_count-elements.ensures) c.requires.scope c.valid_lengths_node.ensures.plan
