@@ -106,7 +106,7 @@ none_below : (n x : ℕ) (ys : List ℕ) → n ≤ x → Above x ys → filter (
 none_below n x [] l a = refl
 none_below n x (y ∷ ys) l a = let past : nat_lt y n ≡ false = grind (arith, nat_tests, a.0) in rw past (none_below n x ys l a.1)
 
-rank_none : (n x : ℕ) (ys : List ℕ) → n ≤ x → Above x ys → rank n ys ≡ 0
+pub rank_none : (n x : ℕ) (ys : List ℕ) → n ≤ x → Above x ys → rank n ys ≡ 0
 rank_none n x [] l a = refl
 rank_none n x (y ∷ ys) l a =
     let past : nat_lt y n ≡ false = grind (arith, nat_tests, a.0) in
@@ -117,10 +117,10 @@ taken_none : (k : ℕ) (ys : List ℕ) → k ≡ 0 → [] ≡ take k ys
 taken_none zero ys h = refl
 taken_none (suc k) ys h = absurd (omega arith)
 
-more_rank : (n x : ℕ) (xs : List ℕ) → nat_lt x n ≡ true → rank n (x ∷ xs) ≡ suc (rank n xs)
+pub more_rank : (n x : ℕ) (xs : List ℕ) → nat_lt x n ≡ true → rank n (x ∷ xs) ≡ suc (rank n xs)
 more_rank n x xs e = rank-cons n x xs ∙ ap (λ b. cond b 1 0 + rank n xs) e ∙ omega arith
 
-same_rank : (n x : ℕ) (xs : List ℕ) → nat_lt x n ≡ false → rank n (x ∷ xs) ≡ rank n xs
+pub same_rank : (n x : ℕ) (xs : List ℕ) → nat_lt x n ≡ false → rank n (x ∷ xs) ≡ rank n xs
 same_rank n x xs e = rank-cons n x xs ∙ ap (λ b. cond b 1 0 + rank n xs) e ∙ omega arith
 
 -- those of rising numbers that are below another are the first ones

@@ -1,5 +1,5 @@
 -- What the plans of a scan give at the rows of a mask.
-use Rattle.std.proofs.Common.{◌≡◌, ℕ, suc, ◌==◌, ◌+◌, ◌<◌, ◌≤◌, Bool, true, false, ◌||◌, ◌&&◌, List, [], ◌∷◌, ◌++◌, map, length, Option, Some, None, is_none, refl, ap, sym, subst, ◌∙◌, arith}
+use Rattle.std.proofs.Common.{◌≡◌, ℕ, suc, ◌==◌, ◌+◌, ◌≤◌, Bool, true, false, ◌||◌, ◌&&◌, List, [], ◌∷◌, ◌++◌, map, length, Option, Some, None, is_none, refl, ap, sym, subst, ◌∙◌, arith}
 use Rattle.std.specs.Prelude.{if◌then◌else◌, not, is_some}
 use Rattle.std.proofs.lemmas.Bool.{eqb-true}
 use Rattle.std.proofs.lemmas.List.Folds.{list_any-append}
@@ -9,13 +9,12 @@ use Rattle.scan_segments.specs.Source.{Store}
 use Rattle.scan_layout.specs.Places.{Place, places_of}
 use Rattle.scan_expr.specs.Bound.{Bound}
 use Rattle.scan_plans.specs.Came.{Came, arrived, Holds}
-use Rattle.scan_plans.specs.Lists.{element_rows}
-use Rattle.scan_plans.specs.Masks.{MaskData, mask_data, kept, filtered, spilled, filters_wanted, mask_of, mask_overflow}
+use Rattle.scan_plans.specs.Masks.{mask_data, kept, filtered, spilled, filters_wanted}
 use Rattle.scan_plans.specs.Meaning.{overflow_on, true_rows}
 use Rattle.scan_plans.specs.OffsetsData.{offset_places}
 use Rattle.scan_plans.specs.PlanData.{PlanData}
 use Rattle.scan_plans.specs.PlanTree.{PlanTree, leaf, rows, evaluate, over, constant, lists, lengths, valid, numbers, by_lengths, PlanTrees, no_plans, plan}
-use Rattle.scan_plans.specs.Wants.{leaf_wanted, offsets_wanted, wanted, all_wanted, names_id, are_here, knows_elements, lacks, Complete}
+use Rattle.scan_plans.specs.Wants.{offsets_wanted, wanted, all_wanted, names_id, are_here, knows_elements, Complete}
 use Rattle.scan_plans.proofs.Building.{no_rows}
 use Rattle.scan_plans.proofs.Filtering.{kept_by}
 use Rattle.scan_plans.proofs.LeafWalk.{no_rows_wanted}
@@ -25,7 +24,7 @@ use Rattle.scan_readers.specs.Evaluations.{rows_true, overflows_on, Filters, Pro
 use Rattle.scan_readers.specs.PlanOf.{IsPlanOf, may_want}
 use Rattle.scan_readers.specs.Readers.{ReaderState, numbers_alone, value_of}
 use Rattle.scan_readers.proofs.Evaluating.{filter_means, projection_means}
-use Rattle.scan_core.specs.SplitData.{PlansData, filters_from, split_data}
+use Rattle.scan_streams.specs.Plans.{PlansData, filters_from, split_data}
 use Rattle.scan_core.specs.SplitMeaning.{passed, passing_overflows, has_true, rows_may_want, split_may_want, ArePlansOf, IsScanOf, IsSplitOf}
 
 -- ---- no row wants nothing
@@ -127,7 +126,9 @@ filters_spill s (c ∷ cs) (p ∷ ps) store first bits a w =
 none_named : (id : ℕ) (ps : List Place) (b : Bool) → ps ≡ [] → names_id id ps ≡ true → b ≡ true
 none_named id ps b e h = absurd (let z : false ≡ true = subst (λ (qs : List Place). names_id id qs ≡ true) e h in cc)
 
-rows_want : (s : ReaderState) (c : Bound) (p : PlanData) (store : Store) (here : Came) (first : ℕ) (bits : List Bool) (id : ℕ) → IsPlanOf s c p → Holds store here → first + length bits ≤ s.rows → names_id id (wanted p.tree here (true_rows first bits)) ≡ true → rows_may_want s c store first bits id ≡ true
+rows_want : (s : ReaderState) (c : Bound) (p : PlanData) (store : Store) (here : Came) (first : ℕ) (bits : List Bool) (id : ℕ) → IsPlanOf s c p
+    → Holds store here → first + length bits ≤ s.rows → names_id id (wanted p.tree here (true_rows first bits)) ≡ true
+    → rows_may_want s c store first bits id ≡ true
 rows_want s c p store here first bits id is holds w h = by (has_true bits) (numbers_alone s c.expr) refl refl
   where
     m : Bool
@@ -196,7 +197,9 @@ split_wants s (c ∷ cs) e (q ∷ ps) p store here first bits id a is holds w h 
         → (rows_may_want s c store first bits id || split_may_want s cs e store first (rows_true s c store first bits) id) ≡ true
     by true k later =
         let same : next ≡ rows_true s c store first bits = sym (kept_same q.tree first here store bits holds (here_complete ws here k)) ∙ kept_is s c q store first bits a.0.0 w in
-        let both : (names_id id ws || names_id id (rest next)) ≡ true = sym (names_append id ws (rest next)) ∙ sym (ap (names_id id) (after_here here ws (filters_wanted here next (filters_from first ps)) (wanted p.tree here (true_rows first (filtered (arrived here) next (filters_from first ps)))) k)) ∙ h in
+        let both : (names_id id ws || names_id id (rest next)) ≡ true = sym (names_append id ws (rest next))
+        ∙ sym (ap (names_id id) (after_here here ws (filters_wanted here next (filters_from first ps))
+        (wanted p.tree here (true_rows first (filtered (arrived here) next (filters_from first ps)))) k)) ∙ h in
         or_mono (names_id id ws) (rows_may_want s c store first bits id) (names_id id (rest next)) (split_may_want s cs e store first (rows_true s c store first bits) id) own (later same) both
     by false k later =
         let alone : names_id id ws ≡ true = sym (ap (names_id id) (after_lacking here ws (filters_wanted here next (filters_from first ps)) (wanted p.tree here (true_rows first (filtered (arrived here) next (filters_from first ps)))) k)) ∙ h in

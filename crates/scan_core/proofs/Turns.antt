@@ -1,7 +1,6 @@
 -- The order in which conjuncts run.
 use Rattle.std.proofs.Common.{◌≡◌, ℕ, suc, ◌+◌, Bool, true, false, ◌||◌, ◌&&◌, List, [], ◌∷◌, ◌++◌, length, refl, ap, sym, subst, ◌∙◌, cond}
 use Rattle.std.specs.Prelude.{filter, not}
-use Rattle.std.specs.List.{list_any}
 use Rattle.scan_values.specs.Marked.{is_true}
 use Rattle.scan_segments.specs.Source.{Store}
 use Rattle.scan_expr.specs.Bound.{Bound}

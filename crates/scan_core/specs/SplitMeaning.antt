@@ -13,7 +13,7 @@ use Rattle.scan_plans.specs.Wants.{names_id}
 use Rattle.scan_readers.specs.Evaluations.{rows_true, overflows_on}
 use Rattle.scan_readers.specs.PlanOf.{IsPlanOf, may_want}
 use Rattle.scan_readers.specs.Readers.{ReaderState, numbers_alone, value_of}
-use Rattle.scan_core.specs.SplitData.{PlansData, split_data}
+use Rattle.scan_streams.specs.Plans.{PlansData, split_data}
 
 -- the rows of a mask, which begins at a row, at which each of several expressions is true
 abbrev pub passed : ReaderState → List Bound → Store → ℕ → List Bool → List Bool
@@ -66,6 +66,11 @@ pub record IsSplitOf (s : ReaderState) (cs : List Bound) (e : Bound) (first : �
 abbrev pub in_turn : ReaderState → List Bound → List Bound
 in_turn s cs = filter (λ (c : Bound). numbers_alone s c.expr) cs ++ filter (λ (c : Bound). not (numbers_alone s c.expr)) cs
 
+-- The same of its items and of what it wants, of conjuncts as they are written, in whatever order they run.
+pub record IsRowsOf (s : ReaderState) (cs : List Bound) (e : Bound) (first : ℕ) (mask : List Bool) (f : FutureData) : Type 0 where
+  pub items : (store : Store) → items_of f store ≡ map (value_of s e store) (true_rows first (passed s cs store first mask))
+  pub wants : (store : Store) (here : Came) (id : ℕ) → Holds store here → names_id id (future_wanted f here) ≡ true → split_may_want s cs e store first mask id ≡ true
+
 -- ---- laws
 -- the plans of a scan give what its expressions mean
 abbrev pub SplitsMeanTheirExpressions : Type 0
@@ -78,3 +83,7 @@ OrderChangesNoRow = (s : ReaderState) (cs : List Bound) (store : Store) (first :
 -- what may be wanted in that order may be wanted in the order in which they are written
 abbrev pub OrderWantsNoMore : Type 0
 OrderWantsNoMore = (s : ReaderState) (cs : List Bound) (e : Bound) (store : Store) (first : ℕ) (bits : List Bool) (id : ℕ) → split_may_want s (in_turn s cs) e store first bits id ≡ true → split_may_want s cs e store first bits id ≡ true
+
+-- the plans of conjuncts in the order in which they run give and want what the conjuncts mean as they are written
+abbrev pub InTurnMeansWritten : Type 0
+InTurnMeansWritten = (s : ReaderState) (cs : List Bound) (e : Bound) (p : PlansData) (first : ℕ) (mask : List Bool) → IsScanOf s (in_turn s cs) e p → first + length mask ≤ s.rows → IsRowsOf s cs e first mask (split_data p first mask)

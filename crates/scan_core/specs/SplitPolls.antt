@@ -1,5 +1,5 @@
 -- What a poll of a split answers.
-use Rattle.std.specs.Prelude.{◌≡◌, ◌<◌, List, false, [], length, true, Option, Some, None, Result, Ok, Err}
+use Rattle.std.specs.Prelude.{◌≡◌, ◌<◌, false, [], length, true, Some, None, Result, Ok, Err}
 use Rattle.scan_values.specs.Arrays.{ArrayData}
 use Rattle.scan_segments.specs.Source.{Store}
 use Rattle.scan_plans.specs.Came.{Came, Holds}

@@ -1,6 +1,7 @@
 -- The ranges of a scan's splits.
-use Rattle.std.specs.Prelude.{ℕ, ◌+◌, nat_lt, min, max, List, [], ◌∷◌, ◌++◌, filter, if◌then◌else◌, Option, Some, None}
+use Rattle.std.specs.Prelude.{◌≡◌, ◌≤◌, ◌<◌, ℕ, ◌+◌, nat_lt, min, max, true, List, [], ◌∷◌, ◌++◌, filter, if◌then◌else◌, Option, Some, None}
 use Rattle.std.specs.declared.ops.Range.{Range}
+use Rattle.scan_values.specs.StrictSorted.{is_rising}
 use Rattle.scan_values.specs.declared.selection.Selection.{Selection}
 use Rattle.scan_values.specs.declared.selection.Selection.TheVariants.{All, IncludeByIndex, ExcludeByIndex}
 use Rattle.scan_layout.specs.Edges.{is_inside}
@@ -48,3 +49,17 @@ span_of All n = None
 span_of (IncludeByIndex []) n = None
 span_of (IncludeByIndex (x ∷ xs)) n = Some (spanned (filter (λ i. nat_lt i n) (x ∷ xs)))
 span_of (ExcludeByIndex xs) n = None
+
+-- ranges with rows that follow each other from a row up to another
+abbrev pub Follow : ℕ → ℕ → List (Range ℕ) → Type 0
+Follow start end [] = start ≡ end
+Follow start end (r ∷ rs) = (r.start ≡ start) × (r.start < r.end) × Follow r.end end rs
+
+-- ---- laws
+-- the splits of a range follow each other from its first row to its last
+abbrev pub SplitsOfARangeFollow : Type 0
+SplitsOfARangeFollow = (bs : List ℕ) (r : Range ℕ) → is_rising bs ≡ true → r.start ≤ r.end → Follow r.start r.end (split_ranges bs (Some r))
+
+-- and those of all rows from the first boundary to the last
+abbrev pub SplitsOfAllFollow : Type 0
+SplitsOfAllFollow = (x : ℕ) (xs : List ℕ) → is_rising (x ∷ xs) ≡ true → Follow x (last_from x xs) (split_ranges (x ∷ xs) None)

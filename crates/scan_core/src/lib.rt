@@ -1,23 +1,37 @@
-//! Scans of one reader: where they are split, and what a split gives.
+//! Scans of one reader: where they are split, how they are set up, and what their splits and streams give.
 #![tactic(auto)]
 
-mod fault;
+mod array_streams;
+mod begin;
+mod builder;
 mod field_masks;
 mod laws;
-mod map_step;
+mod lazy_stream;
+mod planning;
+mod repeated;
+mod scan_iter;
 mod split;
 mod split_by;
+mod split_rows;
 mod splits;
 mod threads;
 
-pub use fault::SetupFault;
+pub use builder::ScanBuilder;
 pub use field_masks::referenced_field_masks;
 pub use laws::{
-    order_of_conjuncts_changes_no_row, order_of_conjuncts_wants_no_more,
-    splits_mean_their_expressions,
+    order_of_conjuncts_changes_no_row, order_of_conjuncts_wants_no_more, splits_follow_each_other,
+    splits_give_what_is_asked, splits_in_turn_mean_what_is_written, splits_mean_their_expressions,
+    streams_give_the_first_rows,
 };
-pub use map_step::{Identity, MapStep, Mapped};
-pub use split::{ScanPlans, SplitFuture, SplitPoll};
+pub use lazy_stream::LazyScanStream;
+pub use repeated::RepeatedScan;
+pub use scan_iter::ScanIter;
+pub use scan_limit::{LimitSeat, RowLimit};
+pub use scan_streams::{
+    ArrayIter, Claims, Identity, MapStep, Mapped, ScanPlans, ScanStream, SetupFault, StreamFault,
+    StreamPoll,
+};
+pub use split::{SplitFuture, SplitPoll};
 pub use split_by::SplitBy;
 pub use splits::{intersect_ranges, span_of, split_ranges};
-pub use threads::{splits_cross_threads, steps_cross_threads};
+pub use threads::splits_cross_threads;

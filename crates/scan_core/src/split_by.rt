@@ -6,9 +6,9 @@ ghost use Rattle.scan_readers.specs.FieldNames.{name_fields};
 ghost use Rattle.scan_readers.specs.Kept.{Stay};
 ghost use Rattle.scan_core.specs.Boundaries.{boundaries, cut_rows, has_ends, is_nth};
 
-use crate::fault::SetupFault;
 use scan_readers::LayoutReader;
 use scan_splits::{RowSplits, SplitFault, SplitRange};
+use scan_streams::SetupFault;
 use scan_values::{FieldMask, NoMemory};
 use std::alloc::Global;
 use std::ops::Range;

@@ -1,7 +1,8 @@
 //! The ranges of a scan's splits. After the Rust's `scan::repeated_scan`.
-ghost use Rattle.std.specs.Prelude.{◌≡◌, IfOk, true};
+ghost use Rattle.std.specs.Prelude.{◌≡◌, ℕ, IfOk, true, filter};
 ghost use Rattle.scan_values.specs.StrictSorted.{is_rising};
-ghost use Rattle.scan_core.specs.SplitRanges.{neighbours, cut_at, split_ranges, common, span_of, inside};
+ghost use Rattle.scan_core.specs.RowRanges.{is_in, is_past, narrowed, IsRange};
+ghost use Rattle.scan_core.specs.SplitRanges.{neighbours, cut_at, split_ranges, common, span_of, inside, spanned};
 
 use scan_values::{NoMemory, Selection, StrictSorted};
 use std::alloc::Global;
@@ -101,4 +102,50 @@ fn span_within(indices: &StrictSorted, rows: u64) -> Option<Range<u64>>
         return Some(0..0);
     }
     Some(numbers[0]..numbers[below - 1] + 1)
+}
+
+/// Whether a range is reversed, or ends past so many rows.
+pub(crate) fn is_past(range: &Option<Range<u64>>, rows: u64) -> bool
+    ensures { result ≡ is_past range.now rows }
+{
+    match range {
+        Some(range) => range.end < range.start || rows < range.end,
+        None => false,
+    }
+}
+
+/// The same range.
+pub(crate) fn copy_of(range: &Option<Range<u64>>) -> Option<Range<u64>>
+    ensures { result ≡ range.now }
+{
+    match range {
+        Some(range) => Some(range.start..range.end),
+        None => None,
+    }
+}
+
+/// The rows of a range from the first to the last that are named, where a selection names rows. No rows where it names
+/// none of them.
+pub(crate) fn narrowed(selection: &Selection, range: &Range<u64>) -> Range<u64>
+    ensures span { result ≡ narrowed selection.now range.now }
+    ensures within { (rows : ℕ) → IsRange rows range.now → IsRange rows result }
+{
+    match selection {
+        Selection::IncludeByIndex(rows) => picked_span(rows, range),
+        _ => range.start..range.end,
+    }
+}
+
+/// The range from the first to the last of the numbers that lie in a range, or no rows.
+fn picked_span(rows: &StrictSorted, range: &Range<u64>) -> Range<u64>
+    ensures span { result ≡ spanned (filter (is_in range.now) rows.now) }
+    ensures within { (rows : ℕ) → IsRange rows range.now → IsRange rows result }
+{
+    let numbers = rows.as_slice();
+    let first = rows.rank(range.start);
+    let end = rows.rank(range.end);
+    if end <= first {
+        return 0..0;
+    }
+    numbers[first]..numbers[end - 1] + 1
 }

@@ -1,8 +1,8 @@
 //! Splits of three rows, polled before and after segments arrive.
 ghost use Rattle.std.specs.Prelude.{◌≡◌, IfOk};
 ghost use Rattle.scan_plans.specs.Meaning.{Within};
-ghost use Rattle.scan_readers.specs.Kept.{EachPlan, plans_of};
-ghost use Rattle.scan_core.specs.SplitData.{IsConjunct, ReachTo};
+ghost use Rattle.scan_plans.specs.PlanData.{EachPlan, plans_of};
+ghost use Rattle.scan_streams.specs.Plans.{IsConjunct, ReachTo};
 
 use crate::split_rows::{
     A, B, LAST, above, conjunct, deliver, field, gives, int, miss, plan, reader, spoils, wants,

@@ -4,7 +4,7 @@ ghost use Rattle.scan_values.specs.Fits.{is_bool_type};
 ghost use Rattle.scan_expr.specs.Bound.{bound_of};
 ghost use Rattle.scan_partition.specs.Partable.{IsPartable};
 ghost use Rattle.scan_plans.specs.Meaning.{Within, plan_dtype};
-ghost use Rattle.scan_core.specs.SplitData.{IsConjunct};
+ghost use Rattle.scan_streams.specs.Plans.{IsConjunct};
 
 use scan_core::SplitPoll;
 use scan_expr::{BoundExpression, Expression};

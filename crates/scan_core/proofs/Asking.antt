@@ -1,0 +1,40 @@
+-- What a projection and a filter ask for.
+use Rattle.std.proofs.Common.{◌≡◌, ◌≤◌, ◌&&◌, ◌||◌, ◌==◌, nat_lt, ℕ, Bool, true, false, List, [], ◌∷◌, IfSome, Option, Some, None, ◌∙◌, sym, refl, arith}
+use Rattle.std.proofs.lemmas.Bool.Decides.{nat_tests}
+use Rattle.std.specs.Borrow.{Bor}
+use Rattle.scan_values.specs.DataType.{DataType}
+use Rattle.scan_expr.specs.Bound.{Bound}
+use Rattle.std.specs.declared.ops.Range.{Range}
+use Rattle.scan_core.specs.Boundaries.{has_ends}
+use Rattle.scan_core.specs.BuilderData.{AreBoundaries, IsFilter, lent_filter, range_or_all}
+use Rattle.scan_core.specs.RowRanges.{is_past, UpTo}
+use Rattle.scan_core.specs.SplitRanges.{last_from}
+
+pub same_scopes : (d : DataType) (p : Bound) (f : Option (Bor Bound)) → p.scope ≡ d → IfSome (lent_filter f) (IsFilter d) → IfSome f (λ e. (e.now).scope ≡ p.scope)
+same_scopes d p None e h = tt
+same_scopes d p (Some f) e h = (h.over).scope ∙ sym e
+
+-- ---- boundaries
+up_to : (n lo hi : ℕ) (bs : List ℕ) → has_ends lo hi bs ≡ true → hi ≤ n → UpTo n bs
+up_to n lo hi [] h l = cc
+up_to n lo hi (x ∷ xs) h l = let e : last_from x xs ≡ hi = grind (arith, nat_tests, and_right (x == lo) (last_from x xs == hi) h) in omega (arith, e, l)
+  where
+    and_right : (a b : Bool) → (a && b) ≡ true → b ≡ true
+    and_right true b h = h
+    and_right false b h = cc
+
+pub bounds_up : (n lo hi : ℕ) (bs : List ℕ) → AreBoundaries lo hi bs → hi ≤ n → UpTo n bs
+bounds_up n lo hi bs h l = up_to n lo hi bs h.ends l
+
+-- a range that lies within the rows, or all of them
+not_both : (a b : Bool) → (a || b) ≡ false → (a ≡ false) × (b ≡ false)
+not_both true b h = cc
+not_both false b h = (refl, h)
+
+pub range_order : (n : ℕ) (r : Option (Range ℕ)) → is_past r n ≡ false → (range_or_all r n).start ≤ (range_or_all r n).end
+range_order n None h = omega arith
+range_order n (Some r) h = let p = (not_both (nat_lt r.end r.start) (nat_lt n r.end) h).0 in grind (arith, nat_tests, p)
+
+pub range_ends : (n : ℕ) (r : Option (Range ℕ)) → is_past r n ≡ false → (range_or_all r n).end ≤ n
+range_ends n None h = omega arith
+range_ends n (Some r) h = let p = (not_both (nat_lt r.end r.start) (nat_lt n r.end) h).1 in grind (arith, nat_tests, p)

@@ -1,0 +1,110 @@
+-- Plans of the conjuncts of a filter.
+use Rattle.std.proofs.Common.{◌≡◌, ℕ, zero, suc, ◌+◌, ◌<◌, ◌≤◌, Bool, true, false, not, ◌&&◌, List, [], ◌∷◌, ◌++◌, length, get_or, drop, filter, Option, Some, None, Result, Ok, Err, IfOk, refl, ap, sym, subst, ◌∙◌, arith, add-one, drop-cons}
+use Rattle.std.specs.Prelude.{is_some, is_none}
+use Rattle.std.specs.declared.alloc.Global.{Global}
+use Rattle.std.specs.declared.sync.Arc.{Arc}
+use Rattle.std.proofs.lemmas.List.{map-append, append-nil, append_assoc}
+use Rattle.scan_expr.specs.Bound.{Bound}
+use Rattle.scan_expr.specs.Expr.{Expr, uses_row_index}
+use Rattle.scan_plans.specs.PlanData.{PlanData, plans_of}
+use Rattle.scan_plans.specs.Pruning.{is_numbered}
+use Rattle.scan_readers.specs.PlanOf.{IsPlanOf}
+use Rattle.scan_readers.specs.Readers.{ReaderState, lacks_numbers, numbers_alone}
+use Rattle.scan_core.specs.BuilderData.{IsFilter, AreFilters}
+use Rattle.scan_core.specs.Prepared.{numbered_first}
+use Rattle.scan_core.specs.SplitMeaning.{IsPlanOfBool, ArePlansOf, in_turn}
+
+pub has_numbers : (s : ReaderState) (e : Expr) → is_some s.first_number ≡ true → lacks_numbers s e ≡ false
+has_numbers s e h = go s.first_number h
+  where
+    go : (o : Option ℕ) → is_some o ≡ true → (is_none o && uses_row_index e) ≡ false
+    go (Some n) h = refl
+    go None h = cc
+
+-- ---- expression by expression
+-- the first i expressions over a reader have these plans; the reader's state stayed
+pub record Walked (s t : ReaderState) (es : List Bound) (i : ℕ) (made : List PlanData) : Type 0 where
+  pub same : t ≡ s
+  pub filters : AreFilters s.dtype (drop i es)
+  pub plans : (rest : List PlanData) → ArePlansOf s (drop i es) rest → ArePlansOf s es (made ++ rest)
+
+pub walk_start : (s : ReaderState) (es : List Bound) → AreFilters s.dtype es → Walked s s es 0 []
+walk_start s es h = record { same = refl; filters = h; plans = λ rest p. p }
+
+at_place : (es : List Bound) (i : ℕ) (e : Bound) → i < length es → e ≡ get_or es i e → drop i es ≡ e ∷ drop (i + 1) es
+at_place es i e l h = drop-cons es i e l ∙ ap (λ z. z ∷ drop (suc i) es) (sym h) ∙ ap (λ n. e ∷ drop n es) (sym (add-one i))
+
+pub walk_here : (s t : ReaderState) (es : List Bound) (i : ℕ) (made : List PlanData) (e : Bound) → Walked s t es i made → i < length es → e ≡ get_or es i e → IsFilter t.dtype e
+walk_here s t es i made e w l h =
+    let here : AreFilters s.dtype (e ∷ drop (i + 1) es) = subst (AreFilters s.dtype) (at_place es i e l h) w.filters in
+    subst (λ (z : ReaderState). IsFilter z.dtype e) (sym w.same) here.0
+
+pub walk_next : (s t u : ReaderState) (es : List Bound) (i : ℕ) (made : List (Arc PlanData Global)) (e : Bound) (p : Arc PlanData Global)
+    → Walked s t es i (plans_of made) → i < length es → e ≡ get_or es i e → u ≡ t → IsPlanOf t e p.value → Walked s u es (i + 1) (plans_of (made ++ p ∷ []))
+walk_next s t u es i made e p w l h k q =
+    let place = at_place es i e l h in
+    let here : AreFilters s.dtype (e ∷ drop (i + 1) es) = subst (AreFilters s.dtype) place w.filters in
+    let plan : IsPlanOfBool s e p.value = (subst (λ (z : ReaderState). IsPlanOf z e p.value) w.same q, (here.0).bool) in
+    let more : plans_of (made ++ p ∷ []) ≡ plans_of made ++ p.value ∷ [] = map-append (λ r. r.value) made (p ∷ []) in
+    record {
+      same = k ∙ w.same;
+      filters = here.1;
+      plans = λ rest r.
+          let whole : ArePlansOf s (drop i es) (p.value ∷ rest) = subst (λ (xs : List Bound). ArePlansOf s xs (p.value ∷ rest)) (sym place) (plan, r) in
+          subst (λ (ps : List PlanData). ArePlansOf s es ps) (sym (ap (λ (ps : List PlanData). ps ++ rest) more ∙ append_assoc (plans_of made) (p.value ∷ []) rest)) (w.plans (p.value ∷ rest) whole);
+    }
+
+dropped_all : (es : List Bound) (i : ℕ) → length es ≤ i → drop i es ≡ []
+dropped_all [] zero l = refl
+dropped_all [] (suc i) l = refl
+dropped_all (e ∷ es) zero l = absurd (omega arith)
+dropped_all (e ∷ es) (suc i) l = dropped_all es i (omega arith)
+
+pub walk_end : (s t : ReaderState) (es : List Bound) (i : ℕ) (made : List PlanData) → Walked s t es i made → length es ≤ i → ArePlansOf s es made
+walk_end s t es i made w l =
+    let none : ArePlansOf s (drop i es) [] = subst (λ (xs : List Bound). ArePlansOf s xs []) (sym (dropped_all es i l)) tt in
+    subst (λ (ps : List PlanData). ArePlansOf s es ps) (append-nil made) (w.plans [] none)
+
+-- ---- in turn
+plans_append : (s : ReaderState) (es fs : List Bound) (ps qs : List PlanData) → ArePlansOf s es ps → ArePlansOf s fs qs → ArePlansOf s (es ++ fs) (ps ++ qs)
+plans_append s [] fs [] qs p q = q
+plans_append s [] fs (r ∷ ps) qs p q = absurd p
+plans_append s (e ∷ es) fs [] qs p q = absurd p
+plans_append s (e ∷ es) fs (r ∷ ps) qs p q = (p.0, plans_append s es fs ps qs p.1 q)
+
+-- the plans of those expressions for which it matters whether they read row numbers alone
+plans_kept : (f : Bool → Bool) (s : ReaderState) (es : List Bound) (ps : List PlanData) → ArePlansOf s es ps → ArePlansOf s (filter (λ (e : Bound). f (numbers_alone s e.expr)) es) (filter (λ (p : PlanData). f (is_numbered p.tree)) ps)
+plans_kept f s [] [] h = tt
+plans_kept f s [] (p ∷ ps) h = absurd h
+plans_kept f s (e ∷ es) [] h = absurd h
+plans_kept f s (e ∷ es) (p ∷ ps) h = go (f (numbers_alone s e.expr)) refl (plans_kept f s es ps h.1)
+  where
+    go : (b : Bool) → f (numbers_alone s e.expr) ≡ b
+        → ArePlansOf s (filter (λ (x : Bound). f (numbers_alone s x.expr)) es) (filter (λ (q : PlanData). f (is_numbered q.tree)) ps)
+        → ArePlansOf s (filter (λ (x : Bound). f (numbers_alone s x.expr)) (e ∷ es)) (filter (λ (q : PlanData). f (is_numbered q.tree)) (p ∷ ps))
+    go true k rest = let same : f (is_numbered p.tree) ≡ true = ap f ((h.0).0).numbered ∙ k in rw (k, same) (h.0, rest)
+    go false k rest = let same : f (is_numbered p.tree) ≡ false = ap f ((h.0).0).numbered ∙ k in rw (k, same) rest
+
+pub plans_in_turn : (s : ReaderState) (es : List Bound) (ps : List PlanData) → ArePlansOf s es ps → ArePlansOf s (in_turn s es) (numbered_first ps)
+plans_in_turn s es ps h =
+    let first = filter (λ (e : Bound). numbers_alone s e.expr) es in
+    let others = filter (λ (e : Bound). not (numbers_alone s e.expr)) es in
+    let plans = filter (λ (p : PlanData). is_numbered p.tree) ps in
+    let rest = filter (λ (p : PlanData). not (is_numbered p.tree)) ps in
+    plans_append s first others plans rest (plans_kept (λ b. b) s es ps h) (plans_kept not s es ps h)
+
+pub turned_ok : {V E : Type 0} (items : V → List (Arc PlanData Global)) (s : ReaderState) (es : List Bound) (ps : List PlanData) (r : Result V E) → ArePlansOf s es ps → IfOk r (λ v. plans_of (items v) ≡ numbered_first ps) → IfOk r (λ v. ArePlansOf s (in_turn s es) (plans_of (items v)))
+turned_ok items s es ps (Ok v) h e = subst (λ (qs : List PlanData). ArePlansOf s (in_turn s es) qs) (sym e) (plans_in_turn s es ps h)
+turned_ok items s es ps (Err f) h e = tt
+
+-- ---- the end of a walk over plans
+pub none_left : (left : List (Arc PlanData Global)) (n : ℕ) → n ≡ length left → n ≡ 0 → left ≡ []
+none_left [] n e z = refl
+none_left (r ∷ left) n e z = absurd (omega (arith, e, z))
+
+pub all_kept : (p : PlanData → Bool) (made whole : List PlanData) (left : List (Arc PlanData Global)) → left ≡ [] → made ++ filter p (plans_of left) ≡ whole → made ≡ whole
+all_kept p made whole left e h = sym (append-nil made) ∙ ap (λ (rs : List (Arc PlanData Global)). made ++ filter p (plans_of rs)) (sym e) ∙ h
+
+pub joined_ok : {V E : Type 0} (items : V → List (Arc PlanData Global)) (r : Result V E) (a b xs ys : List PlanData) → a ≡ xs → b ≡ ys → IfOk r (λ v. plans_of (items v) ≡ a ++ b) → IfOk r (λ v. plans_of (items v) ≡ xs ++ ys)
+joined_ok items (Ok v) a b xs ys f g h = h ∙ ap (λ zs. zs ++ b) f ∙ ap (λ zs. xs ++ zs) g
+joined_ok items (Err e) a b xs ys f g h = tt

@@ -1,0 +1,21 @@
+mod Picks
+pub mod Asking
+pub mod Continuing
+pub mod Counting
+pub mod Desking
+pub mod Feeding
+pub mod Going
+pub mod Handing
+pub mod Looking
+pub mod Packing
+pub mod Parting
+pub mod Ringing
+pub mod Running
+pub mod Settling
+pub mod Standing
+pub mod Starting
+pub mod Stepping
+pub mod StreamsSent
+pub mod Sweeping
+pub mod Turning
+pub mod Waiting

@@ -1,0 +1,16 @@
+pub mod Advances
+pub mod Desks
+pub mod Feeds
+pub mod Grants
+pub mod Iters
+pub mod Looks
+pub mod MapSteps
+pub mod Measures
+pub mod Plans
+pub mod Queues
+pub mod Readings
+pub mod Runs
+pub mod Slots
+pub mod Sources
+pub mod Splits
+pub mod Streams
