@@ -1,0 +1,13 @@
+pub mod Asking
+pub mod Cutting
+pub mod Desking
+pub mod Giving
+pub mod Handing
+pub mod Keeping
+pub mod Linking
+pub mod Moving
+pub mod Opened
+pub mod Resting
+pub mod Rounding
+pub mod Running
+pub mod Seating

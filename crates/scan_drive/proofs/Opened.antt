@@ -1,0 +1,39 @@
+-- A file that is opened has the groups that its opener tells.
+use Rattle.std.proofs.Common.{◌≡◌, ℕ, List, [], ◌∷◌, ◌++◌, map, Option, Some, None, IfSome, refl, sym, ap, ◌∙◌, subst}
+use Rattle.std.specs.Prelude.{IsSome, All}
+use Rattle.std.specs.List.{flat_map}
+use Rattle.scan_segments.specs.Source.{Store}
+use Rattle.scan_splits.specs.Arrivals.{Arrivals}
+use Rattle.scan_drive.specs.Files.{Part, grouped, over, part_in}
+use Rattle.scan_drive.specs.Openers.{AreSplits, PhaseKeeps}
+use Rattle.scan_drive.specs.Runs.{new_run}
+use Rattle.scan_drive.specs.Slots.{RunOk}
+use Rattle.scan_drive.specs.Splits.{SplitState, Event}
+use Rattle.scan_drive.specs.declared.phase.Phase.{Phase}
+use Rattle.scan_drive.specs.declared.phase.Phase.TheVariants as phase
+use Rattle.std.specs.declared.collections.VecDeque.{VecDeque}
+use Rattle.std.proofs.Common.{Global}
+
+module _ {W I : Type 0} (split : W → SplitState I) (comes : W → Arrivals → Store → Event → Type 0) where
+  grouped_rows : (place : ℕ) (store : Store) (ws : List W) → flat_map (λ w. grouped place ((split w).rows store)) ws ≡ flat_map (grouped place) (map (λ w. (split w).rows store) ws)
+  grouped_rows place store [] = refl
+  grouped_rows place store (w ∷ ws) = ap (λ gs. grouped place ((split w).rows store) ++ gs) (grouped_rows place store ws)
+
+  splits_left : (place : ℕ) (o : Option (Part I)) (s : Option Store) (ws : List W) → IsSome o → IsSome s → IfSome o (λ p. AreSplits split comes p ws) → flat_map (λ w. over s (λ store. grouped place ((split w).rows store))) ws ≡ part_in place o s
+  splits_left place None s ws a b h = absurd cc
+  splits_left place (Some p) None ws a b h = absurd cc
+  splits_left place (Some p) (Some store) ws a b h = grouped_rows place store ws ∙ ap (flat_map (grouped place)) (h.rows store)
+
+  split_ok : (o : Option (Part I)) (s : Option Store) (ws : List W) → IfSome o (λ p. AreSplits split comes p ws) → All (λ w. IfSome o (λ p. IfSome s (λ store. RunOk split comes p store (new_run w)))) ws
+  split_ok None s ws h k d l = tt
+  split_ok (Some p) None ws h k d l = tt
+  split_ok (Some p) (Some store) ws h k d l = h.ok store k d l
+
+  pub opened_keeps : {F : Type 0} (gives : Option (Part I)) (ws : VecDeque W Global) → IfSome gives (λ p. AreSplits split comes p ws.items) → PhaseKeeps {F = F} split comes gives phase.Unopened (phase.Queued ws)
+  opened_keeps gives ws h = record {
+    left = λ place t e tells. splits_left place t.part t.store ws.items tells.0 tells.1 (subst (λ (o : Option (Part I)). IfSome o (λ p. AreSplits split comes p ws.items)) (sym e) h);
+    ok = λ t e old. split_ok t.part t.store ws.items (subst (λ (o : Option (Part I)). IfSome o (λ p. AreSplits split comes p ws.items)) (sym e) h);
+  }
+
+  pub phase_same : {F : Type 0} (gives : Option (Part I)) (p : Phase W F) → PhaseKeeps {F = F} split comes gives p p
+  phase_same gives p = record { left = λ place t e tells. refl; ok = λ t e old. old }

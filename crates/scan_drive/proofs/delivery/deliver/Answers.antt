@@ -1,0 +1,61 @@
+use Rattle.std.proofs.Common.{subst, sym}
+use Rattle.scan_drive.specs.Actives.{IsFront}
+use Rattle.scan_drive.specs.Chunks.{IsCause, IsDeliverFault, Gives}
+use Rattle.scan_drive.specs.declared.active.Front.{Front}
+use Rattle.scan_drive.specs.declared.delivery.Delivered.{Delivered}
+use Rattle.scan_drive.specs.declared.delivery.DriveFault.{DriveFault}
+use Rattle.scan_drive.proofs.Giving.{more_stays, more_rows, cut_rows, front_ok, stays_ok, stays_halted, halted_cause, held_fault}
+use Rattle.scan_drive.proofs.delivery.deliver.Goals as goal
+
+pub returns-in-Ok-Nothing-clause-delivered : goal.returns-in-Ok-Nothing-clause-delivered
+returns-in-Ok-Nothing-clause-delivered g c =
+    let f = subst (λ (x : Front g.row.W-Rows.Denot). IsFront c.turns.active c.take_front.new.self x) c.in-Ok-Nothing.field-0-is c.in-Ok-Nothing.ensures in
+    more_stays g.W.SplitWork.split g.W.SplitWork.comes g.W.SplitWork.items c.args.active.now c.turns.active c.take_front.new.self c.args.chunks.now.items c.turns.chunks.items c.args.left.now c.turns.left c.turns.invariant.more f.1
+
+pub returns-in-Ok-Waits-clause-ok : goal.returns-in-Ok-Waits-clause-ok
+returns-in-Ok-Waits-clause-ok g c tale ok =
+    let f = subst (λ (x : Front g.row.W-Rows.Denot). IsFront c.turns.active c.take_front.new.self x) c.in-Ok-Waits.field-0-is c.in-Ok-Waits.ensures in
+    stays_ok g.W.SplitWork.split g.W.SplitWork.comes g.W.SplitWork.items tale c.turns.active c.take_front.new.self f (c.turns.invariant.ok tale ok)
+
+pub returns-in-Ok-Waits-clause-delivered : goal.returns-in-Ok-Waits-clause-delivered
+returns-in-Ok-Waits-clause-delivered g c =
+    let f = subst (λ (x : Front g.row.W-Rows.Denot). IsFront c.turns.active c.take_front.new.self x) c.in-Ok-Waits.field-0-is c.in-Ok-Waits.ensures in
+    more_stays g.W.SplitWork.split g.W.SplitWork.comes g.W.SplitWork.items c.args.active.now c.turns.active c.take_front.new.self c.args.chunks.now.items c.turns.chunks.items c.args.left.now c.turns.left c.turns.invariant.more f
+
+pub returns-in-Ok-Halted-clause-fault : goal.returns-in-Ok-Halted-clause-fault
+returns-in-Ok-Halted-clause-fault g c =
+    let f = subst (λ (x : Front g.row.W-Rows.Denot). IsFront c.turns.active c.take_front.new.self x) c.in-Ok-Halted.field-0-is c.in-Ok-Halted.ensures in
+    let more = more_stays g.W.SplitWork.split g.W.SplitWork.comes g.W.SplitWork.items c.args.active.now c.turns.active c.take_front.new.self c.args.chunks.now.items c.turns.chunks.items c.args.left.now c.turns.left c.turns.invariant.more f.1 in
+    let turn = stays_halted c.in-Ok-Halted.file c.in-Ok-Halted.halt c.turns.active c.take_front.new.self f.0 f.1 in
+    subst (λ (e : DriveFault). IsDeliverFault g.W.SplitWork.split g.W.SplitWork.comes g.W.SplitWork.items c.args.active.now c.take_front.new.self c.args.chunks.now.items c.turns.chunks.items c.args.left.now c.turns.left e) (sym c.held.ensures)
+    (held_fault g.W.SplitWork.split g.W.SplitWork.comes g.W.SplitWork.items c.in-Ok-Halted.file c.in-Ok-Halted.halt c.args.active.now c.take_front.new.self c.args.chunks.now.items c.turns.chunks.items c.args.left.now c.turns.left turn more)
+
+pub returns-in-Ok-Halted-clause-cause : goal.returns-in-Ok-Halted-clause-cause
+returns-in-Ok-Halted-clause-cause g c tale ok =
+    let f = subst (λ (x : Front g.row.W-Rows.Denot). IsFront c.turns.active c.take_front.new.self x) c.in-Ok-Halted.field-0-is c.in-Ok-Halted.ensures in
+    subst (λ (e : DriveFault). IsCause tale e) (sym c.held.ensures)
+    (halted_cause g.W.SplitWork.split g.W.SplitWork.comes g.W.SplitWork.items tale c.in-Ok-Halted.file c.in-Ok-Halted.halt c.turns.active f.0 (c.turns.invariant.ok tale ok))
+
+pub turns-preserved : goal.turns-preserved
+turns-preserved g c =
+    let f = subst (λ (x : Front g.row.W-Rows.Denot). IsFront c.turns.active c.take_front.new.self x) c.in-Ok-Rows.field-0-is c.in-Ok-Rows.ensures in
+    let given = subst (λ (d : Delivered). Gives g.W.SplitWork.items c.in-Ok-Rows.file (g.W.SplitWork.items c.in-Ok-Rows.rows) c.turns.chunks.items c.give.new.chunks.items c.turns.left c.give.new.left d) c.in-Ok-More.field-0-is c.in-Ok-More.ensures in
+    record {
+      seated = f.seated;
+      news = λ h. f.news (c.turns.invariant.news h);
+      ok = λ tale ok. front_ok g.W.SplitWork.split g.W.SplitWork.comes g.W.SplitWork.items tale c.in-Ok-Rows.file c.in-Ok-Rows.rows c.turns.active c.take_front.new.self c.turns.invariant.seated f (c.turns.invariant.ok tale ok);
+      more = more_rows g.W.SplitWork.split g.W.SplitWork.comes g.W.SplitWork.items c.in-Ok-Rows.file c.in-Ok-Rows.rows c.args.active.now c.turns.active c.take_front.new.self c.args.chunks.now.items c.turns.chunks.items c.give.new.chunks.items c.args.left.now c.turns.left c.give.new.left
+          c.turns.invariant.seated c.turns.invariant.ok c.turns.invariant.more f given;
+    }
+
+pub returns-in-Ok-Full-clause-ok : goal.returns-in-Ok-Full-clause-ok
+returns-in-Ok-Full-clause-ok g c tale ok =
+    let f = subst (λ (x : Front g.row.W-Rows.Denot). IsFront c.turns.active c.take_front.new.self x) c.in-Ok-Rows.field-0-is c.in-Ok-Rows.ensures in
+    front_ok g.W.SplitWork.split g.W.SplitWork.comes g.W.SplitWork.items tale c.in-Ok-Rows.file c.in-Ok-Rows.rows c.turns.active c.take_front.new.self c.turns.invariant.seated f (c.turns.invariant.ok tale ok)
+
+pub returns-in-Ok-Full-clause-delivered : goal.returns-in-Ok-Full-clause-delivered
+returns-in-Ok-Full-clause-delivered g c =
+    let f = subst (λ (x : Front g.row.W-Rows.Denot). IsFront c.turns.active c.take_front.new.self x) c.in-Ok-Rows.field-0-is c.in-Ok-Rows.ensures in
+    let given = subst (λ (d : Delivered). Gives g.W.SplitWork.items c.in-Ok-Rows.file (g.W.SplitWork.items c.in-Ok-Rows.rows) c.turns.chunks.items c.give.new.chunks.items c.turns.left c.give.new.left d) c.in-Ok-Full.field-0-is c.in-Ok-Full.ensures in
+    cut_rows g.W.SplitWork.split g.W.SplitWork.comes g.W.SplitWork.items c.in-Ok-Rows.file c.in-Ok-Rows.rows c.args.active.now c.turns.active c.take_front.new.self c.args.chunks.now.items c.turns.chunks.items c.give.new.chunks.items c.args.left.now c.turns.left c.turns.invariant.seated
+    c.turns.invariant.ok c.turns.invariant.more f given

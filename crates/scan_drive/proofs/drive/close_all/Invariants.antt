@@ -1,0 +1,12 @@
+use Rattle.std.proofs.Common.{◌≡◌, ◌<◌, ℕ, length, get_or}
+use Rattle.scan_drive.specs.Drives.{DesksAgree, SourcesMove, IsIdle, NoneOf}
+use Rattle.scan_drive.specs.declared.files.ScanFile.{ScanFile}
+use Rattle.scan_drive.proofs.drive.close_all.Given as goal
+
+abbrev pub invariant-loop-i : goal.invariant-loop-i
+invariant-loop-i g l = record {
+  end : length l.files.items ≡ l.i-end;
+  agree : DesksAgree g.S.SegmentSource.state l.files.items l.desks.items;
+  idle : (k : ℕ) (f : ScanFile g.row.O.Denot g.row.S.Denot) → k < l.i → IsIdle g.S.SegmentSource.state (get_or l.files.items k f);
+  moves : SourcesMove g.S.SegmentSource.state NoneOf l.fn.files.items l.files.items;
+}

@@ -1,0 +1,25 @@
+use Rattle.std.proofs.Common.{rules, refl}
+use Rattle.scan_drive.specs.Splits.{spoils}
+use Rattle.scan_drive.specs.declared.slot.Halt.TheVariants as halt
+use Rattle.scan_drive.specs.declared.slot.Slot.{Slot}
+use Rattle.scan_drive.specs.declared.slot.Stage.TheVariants as stage
+use Rattle.scan_drive.proofs.Keeping.{keeps_halted, extends_refl}
+use Rattle.scan_drive.proofs.looking.poll_slot.Goals as goal
+
+pub returns-in-Waits-clause-looks : goal.returns-in-Waits-clause-looks
+returns-in-Waits-clause-looks g c = record {
+  run = c.in-Reads.run';
+  next = c.poll.new.self;
+  was = c.in-Reads.is;
+  now = refl;
+  ready = search rules;
+  same = c.poll.ensures.same;
+  inbox = c.poll.ensures.inbox;
+  lacking = c.in-Waits.ensures.answer;
+}
+
+pub returns-in-Corrupt-clause-keeps : goal.returns-in-Corrupt-clause-keeps
+returns-in-Corrupt-clause-keeps g c p store =
+    let mid : Slot g.row.W.Denot g.row.W-Rows.Denot = record { file = c.args.slot.now.file; stage = stage.Reads c.poll.new.self } in
+    keeps_halted g.W.SplitWork.split g.W.SplitWork.comes g.W.SplitWork.items p store c.args.slot.now mid c.given_up.new.slot c.in-Reads.run' c.poll.new.self (halt.Corrupt c.in-Corrupt.id) c.in-Reads.is c.given_up.ensures.slot refl c.poll.ensures.same c.poll.ensures.inbox
+    (λ o. o.within c.in-Reads.run'.inbox (spoils c.in-Corrupt.id) (extends_refl c.in-Reads.run'.inbox) o.agrees (c.in-Corrupt.ensures.answer store o.agrees))

@@ -1,0 +1,58 @@
+use Rattle.std.proofs.Common.{◌∙◌, ◌≡◌, ◌<◌, ◌+◌, ◌++◌, ap, arith, length, length-set, sym, subst, List, set}
+use Rattle.std.proofs.lemmas.Grind.{common_steps}
+use Rattle.scan_drive.specs.Actives.{groups_left}
+use Rattle.scan_drive.specs.Phases.{rest, unopened, SpentBelow, PhasesOk}
+use Rattle.scan_drive.specs.declared.phase.Phase.{Phase}
+use Rattle.scan_drive.proofs.Resting.{activated, seated_ok, phases_set, work_now, below_set, below_more, unopened_set, set_again}
+use Rattle.scan_drive.proofs.phase.activate.Goals as goal
+
+pub loop-first-preserved : goal.loop-first-preserved
+loop-first-preserved g c =
+    let split = g.W.SplitWork.split in
+    let comes = g.W.SplitWork.comes in
+    let inv = c.loop-first.invariant in
+    let ps : List (Phase g.row.W.Denot g.row.F.Denot) = c.loop-first.phases.items in
+    let i = c.loop-first.first in
+    let x = c.index_mut.result.now in
+    let v = c.index_mut.ensures.value in
+    let lt : i < length ps = grind (arith, common_steps) in
+    let spent = c.in-Spent.ensures.taken in
+    let same : set ps i c.take_split.new.phase ≡ ps = set_again ps i x c.take_split.new.phase v spent.1 in
+    record {
+      len = length-set ps i c.take_split.new.phase ∙ inv.len;
+      within = omega (arith, length-set ps i c.take_split.new.phase);
+      below = subst (λ (qs : List (Phase g.row.W.Denot g.row.F.Denot)). SpentBelow qs (i + 1)) (sym same) (below_more ps i x lt v inv.below spent.0);
+      opened = let u = ap unopened same in let w = inv.opened in omega arith;
+      seated = inv.seated;
+      news = inv.news;
+      left = λ tale n. ap (λ qs. groups_left split comes g.W.SplitWork.items tale c.loop-first.active ++ rest split comes tale qs) same ∙ inv.left tale n;
+      ok = λ tale n p a. let o = inv.ok tale n p a in (subst (λ (qs : List (Phase g.row.W.Denot g.row.F.Denot)). PhasesOk split comes tale qs) (sym same) o.0, o.1);
+    }
+
+pub loop-first-preserved-in-Continue-1 : goal.loop-first-preserved-in-Continue-1
+loop-first-preserved-in-Continue-1 g c =
+    let split = g.W.SplitWork.split in
+    let comes = g.W.SplitWork.comes in
+    let items = g.W.SplitWork.items in
+    let inv = c.loop-first.invariant in
+    let ps : List (Phase g.row.W.Denot g.row.F.Denot) = c.loop-first.phases.items in
+    let i = c.loop-first.first in
+    let x = c.index_mut.result.now in
+    let y = c.take_split.new.phase in
+    let v = c.index_mut.ensures.value in
+    let old = c.loop-first.active in
+    let new = c.seat.new.self in
+    let w = c.in-Split.work in
+    let taken = c.in-Split.ensures.taken in
+    let seats = c.in_ok-seat-in-Split.ensures in
+    let lt : i < length ps = grind (arith, common_steps) in
+    record {
+      len = length-set ps i y ∙ inv.len;
+      within = omega (arith, length-set ps i y, inv.within);
+      below = below_set ps i i y (omega arith) inv.below;
+      opened = let u = unopened_set ps i x y lt v c.take_split.ensures.opened in let o = inv.opened in omega arith;
+      seated = seats.seated;
+      news = λ h. seats.news (inv.news h);
+      left = λ tale n. activated split comes items tale old new ps i x y w lt (n ∙ sym inv.len) inv.below v taken seats ∙ inv.left tale n;
+      ok = λ tale n p a. let o = inv.ok tale n p a in (phases_set split comes tale ps i x y lt v taken.phase_ok o.0, seated_ok split comes items tale i w old new (omega (arith, n, inv.len, lt)) (work_now split comes tale ps i x w lt v taken.work_ok o.0) seats o.1);
+    }

@@ -1,0 +1,105 @@
+-- What is given, in turn and up to a limit.
+use Rattle.std.specs.Prelude.{◌≡◌, ◌<◌, ◌≤◌, ◌+◌, ◌++◌, ℕ, List, length, take, Option, None, Some, option_map, true}
+use Rattle.std.specs.List.{flat_map}
+use Rattle.scan_segments.specs.Source.{Store}
+use Rattle.scan_splits.specs.Arrivals.{Arrivals}
+use Rattle.scan_drive.specs.Actives.{IsHalted, AllOk, groups_left}
+use Rattle.scan_drive.specs.Files.{Group, grouped, count, cut, Told, told_at, AllTell, IfTold}
+use Rattle.scan_drive.specs.Splits.{SplitState, Event}
+use Rattle.scan_drive.specs.declared.active.Active.{Active}
+use Rattle.scan_drive.specs.declared.delivery.Chunk.{Chunk}
+use Rattle.scan_drive.specs.declared.delivery.Delivered.{Delivered}
+use Rattle.scan_drive.specs.declared.delivery.Delivered.TheVariants.{More, Full}
+use Rattle.scan_drive.specs.declared.delivery.DriveFault.{DriveFault}
+use Rattle.scan_drive.specs.declared.delivery.DriveFault.TheVariants as fault
+use Rattle.scan_drive.specs.declared.slot.Halt.{Halt}
+use Rattle.scan_drive.specs.declared.slot.Halt.TheVariants as halt
+
+-- how many rows may be given in all, by those that are given and those that are left
+abbrev pub limit_of : ℕ → Option ℕ → Option ℕ
+limit_of given left = option_map (λ n. given + n) left
+
+-- a row may be given
+abbrev pub HasRoom : Option ℕ → Type 0
+HasRoom None = Unit {0}
+HasRoom (Some n) = 0 < n
+
+-- so many rows may be given, and more after them
+abbrev pub Fits : ℕ → Option ℕ → Type 0
+Fits n None = Unit {0}
+Fits n (Some left) = n < left
+
+-- why a split is given up, as the fault of a scan
+abbrev pub fault_of : ℕ → Halt → DriveFault
+fault_of file (halt.Source id) = fault.Source file id
+fault_of file (halt.Corrupt id) = fault.Corrupt file id
+fault_of file halt.Overflow = fault.Overflow file
+fault_of file halt.NoMemory = fault.NoMemory
+
+module _ {I R : Type 0} (items : R → List I) where
+  abbrev pub chunk_groups : Chunk R → List (Group I)
+  chunk_groups c = grouped c.file (items c.rows)
+
+  -- the groups that chunks give
+  abbrev pub given : List (Chunk R) → List (Group I)
+  given chunks = flat_map chunk_groups chunks
+
+  -- no more rows are given than the limit allows, and one may be given still
+  pub record Counts (chunks chunks' : List (Chunk R)) (left left' : Option ℕ) : Type 0 where
+    pub limit : limit_of (count (given chunks')) left' ≡ limit_of (count (given chunks)) left
+    pub room : HasRoom left'
+
+  -- all rows of a split are given, and more may be
+  pub record GivesAll (file : ℕ) (rows : List I) (chunks chunks' : List (Chunk R)) (left left' : Option ℕ) : Type 0 where
+    pub groups : given chunks' ≡ given chunks ++ grouped file rows
+    pub counts : Counts chunks chunks' left left'
+
+  -- the first rows of a split are given, and the limit is met
+  pub record GivesFirst (file : ℕ) (rows : List I) (chunks chunks' : List (Chunk R)) (left : Option ℕ) : Type 0 where
+    pub most : ℕ
+    pub was : left ≡ Some most
+    pub within : most ≤ length rows
+    pub groups : given chunks' ≡ given chunks ++ grouped file (take most rows)
+
+  abbrev pub Gives : ℕ → List I → List (Chunk R) → List (Chunk R) → Option ℕ → Option ℕ → Delivered → Type 0
+  Gives file rows chunks chunks' left left' More = GivesAll file rows chunks chunks' left left'
+  Gives file rows chunks chunks' left left' Full = GivesFirst file rows chunks chunks' left
+
+-- where the file is told, this is why a split of it is given up
+abbrev pub IsCause : {I : Type 0} → List (Told I) → DriveFault → Type 0
+IsCause tale fault.NoMemory = Unit {0}
+IsCause tale (fault.Source file id) = Unit {0}
+IsCause tale (fault.Corrupt file id) = IfTold (told_at tale file) (λ p store. p.bad store id ≡ true)
+IsCause tale (fault.Overflow file) = IfTold (told_at tale file) (λ p store. p.overflow store ≡ true)
+
+module _ {W I R : Type 0} (split : W → SplitState I) (comes : W → Arrivals → Store → Event → Type 0) (items : R → List I) where
+  -- what was given, and what active splits have to give, are the same groups in the same order
+  abbrev pub SameGroups : Active W R → Active W R → List (Chunk R) → List (Chunk R) → Type 0
+  SameGroups old new chunks chunks' =
+      (tale : List (Told I)) → AllTell tale → AllOk split comes items tale old → given items chunks' ++ groups_left split comes items tale new ≡ given items chunks ++ groups_left split comes items tale old
+
+  -- the limit is met: what was given are the first rows of the groups that were to be given
+  pub record IsCut (old : Active W R) (chunks chunks' : List (Chunk R)) (left : Option ℕ) : Type 0 where
+    pub most : ℕ
+    pub was : limit_of (count (given items chunks)) left ≡ Some most
+    pub groups : (tale : List (Told I)) → AllTell tale → AllOk split comes items tale old → given items chunks' ≡ cut most (given items chunks ++ groups_left split comes items tale old)
+
+  -- the splits whose turn it was were given, as far as they are read
+  pub record IsMore (old new : Active W R) (chunks chunks' : List (Chunk R)) (left left' : Option ℕ) : Type 0 where
+    pub groups : SameGroups old new chunks chunks'
+    pub counts : Counts items chunks chunks' left left'
+
+  abbrev pub IsDelivered : Active W R → Active W R → List (Chunk R) → List (Chunk R) → Option ℕ → Option ℕ → Delivered → Type 0
+  IsDelivered old new chunks chunks' left left' More = IsMore old new chunks chunks' left left'
+  IsDelivered old new chunks chunks' left left' Full = IsCut old chunks chunks' left
+
+  -- all that stands before the split is given, less than the limit, and it is the split's turn, which is given up for this
+  pub record IsHeld (file : ℕ) (h : Halt) (old new : Active W R) (chunks chunks' : List (Chunk R)) (left left' : Option ℕ) : Type 0 where
+    pub turn : IsHalted file h new
+    pub more : IsMore old new chunks chunks' left left'
+
+  abbrev pub IsDeliverFault : Active W R → Active W R → List (Chunk R) → List (Chunk R) → Option ℕ → Option ℕ → DriveFault → Type 0
+  IsDeliverFault old new chunks chunks' left left' fault.NoMemory = Unit {0}
+  IsDeliverFault old new chunks chunks' left left' (fault.Source file id) = IsHeld file (halt.Source id) old new chunks chunks' left left'
+  IsDeliverFault old new chunks chunks' left left' (fault.Corrupt file id) = IsHeld file (halt.Corrupt id) old new chunks chunks' left left'
+  IsDeliverFault old new chunks chunks' left left' (fault.Overflow file) = IsHeld file halt.Overflow old new chunks chunks' left left'

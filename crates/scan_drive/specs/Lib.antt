@@ -1,0 +1,15 @@
+pub mod Actives
+pub mod Chunks
+pub mod Desks
+pub mod Drives
+pub mod Files
+pub mod Laws
+pub mod Links
+pub mod Looks
+pub mod Moves
+pub mod Openers
+pub mod Phases
+pub mod Runs
+pub mod Slots
+pub mod Sources
+pub mod Splits

@@ -1,0 +1,64 @@
+-- What an opener of a file is to a drive, and what a poll of it answers.
+use Rattle.std.specs.Prelude.{◌≡◌, ◌≤◌, ◌<◌, ℕ, Bool, true, false, List, All, map, Option, IfSome}
+use Rattle.scan_segments.specs.Faults.{RaisedBy}
+use Rattle.scan_segments.specs.Source.{Store}
+use Rattle.scan_splits.specs.Arrivals.{Arrivals}
+use Rattle.scan_drive.specs.Files.{Part, Told, Tells}
+use Rattle.scan_drive.specs.Phases.{phase_left, PhaseOk}
+use Rattle.scan_drive.specs.Runs.{new_run}
+use Rattle.scan_drive.specs.Slots.{RunOk}
+use Rattle.scan_drive.specs.Splits.{SplitState, Event}
+use Rattle.scan_drive.specs.declared.opening.Opening.{Opening}
+use Rattle.scan_drive.specs.declared.opening.Opening.TheVariants as opening
+use Rattle.scan_drive.specs.declared.phase.Phase.{Phase}
+use Rattle.scan_drive.specs.declared.phase.Phase.TheVariants as phase
+
+-- what it gives, where it tells; how often it failed and was polled, up to the greatest number that is kept; at most so
+-- often it can still put off an answer
+pub record OpenerState (I : Type 0) : Type 0 where
+  pub gives : Option (Part I)
+  pub faults : ℕ
+  pub polled : ℕ
+  pub turns : ℕ
+
+-- after some polls it gives the same, its faults do not fall and its turns do not rise
+pub record OpenerMoves {I : Type 0} (old new : OpenerState I) : Type 0 where
+  pub gives : new.gives ≡ old.gives
+  pub faults : old.faults ≤ new.faults
+  pub turns : new.turns ≤ old.turns
+
+-- one poll was made
+pub record PolledOnce {I : Type 0} (old new : OpenerState I) : Type 0 where
+  pub moves : OpenerMoves old new
+  pub polled : RaisedBy 1 old.polled new.polled
+
+-- a flag as a number
+abbrev pub as_number : Bool → ℕ
+as_number true = 1
+as_number false = 0
+
+module _ {W I : Type 0} (split : W → SplitState I) (comes : W → Arrivals → Store → Event → Type 0) where
+  -- the splits of a file, in order: they have its rows, and come to nothing that it does not
+  pub record AreSplits (p : Part I) (ws : List W) : Type 0 where
+    pub rows : (store : Store) → map (λ w. (split w).rows store) ws ≡ p.splits store
+    pub ok : (store : Store) → All (λ w. RunOk split comes p store (new_run w)) ws
+
+module _ {O W I F : Type 0} (split : W → SplitState I) (comes : W → Arrivals → Store → Event → Type 0) (opener : O → OpenerState I) (refuses : O → O → F → Type 0) where
+  -- the answer of a poll
+  abbrev pub PollsOpen : O → O → Opening W F → Type 0
+  PollsOpen old new opening.Pending = PolledOnce (opener old) (opener new) × ((opener new).turns < (opener old).turns)
+  PollsOpen old new (opening.Opened ws) = PolledOnce (opener old) (opener new) × IfSome (opener old).gives (λ p. AreSplits split comes p ws.items)
+  PollsOpen old new (opening.Refused f) = PolledOnce (opener old) (opener new) × refuses old new f
+  PollsOpen old new opening.NoMemory = PolledOnce (opener old) (opener new)
+
+  -- a file that is not read waits with what its opener said
+  abbrev pub IsHeldFor : O → O → Phase W F → Phase W F → Type 0
+  IsHeldFor old new p phase.Unopened = Unit {0}
+  IsHeldFor old new p (phase.Queued ws) = Unit {0}
+  IsHeldFor old new p (phase.Held f) = (p ≡ phase.Unopened) → refuses old new f
+
+module _ {W I F : Type 0} (split : W → SplitState I) (comes : W → Arrivals → Store → Event → Type 0) where
+  -- the groups of a file that is told are the same, and its splits are as it has them
+  pub record PhaseKeeps (gives : Option (Part I)) (old new : Phase W F) : Type 0 where
+    pub left : (place : ℕ) (t : Told I) → t.part ≡ gives → Tells t → phase_left split comes place t new ≡ phase_left split comes place t old
+    pub ok : (t : Told I) → t.part ≡ gives → PhaseOk split comes t old → PhaseOk split comes t new

@@ -1,0 +1,156 @@
+//! What is given, in turn and up to a limit. After the Rust's buffers of tasks, which keep the order.
+ghost use Rattle.std.specs.Prelude.{◌≡◌, ◌≤◌, ◌-◌, ◌++◌, List, OnOk, IfOk, IfErr, MatchOption, Option, Some, None, length, option_map};
+ghost use Rattle.scan_values.specs.Marked.{Marked};
+ghost use Rattle.scan_drive.specs.Actives.{Seated, AllOk};
+ghost use Rattle.scan_drive.specs.Chunks.{HasRoom, Fits, fault_of, given, Gives, IsDelivered, IsDeliverFault, IsCause};
+ghost use Rattle.scan_drive.specs.Files.{Told, grouped};
+ghost use Rattle.scan_drive.specs.Slots.{HasNews};
+
+use crate::active::{Active, Front};
+use crate::slot::Halt;
+use crate::work::SplitWork;
+use scan_segments::SegmentId;
+use scan_values::NoMemory;
+use std::alloc::Global;
+
+/// The rows of a split of a file, as they are given.
+#[derive(Drop)]
+pub struct Chunk<R> {
+    pub file: usize,
+    pub rows: R,
+}
+
+/// How far rows are given.
+#[derive(Clone, Copy, Debug, PartialEq, Eq)]
+pub enum Delivered {
+    /// More may be given.
+    More,
+    /// The limit is met.
+    Full,
+}
+
+/// Why splits of files are not read to their end.
+#[derive(Clone, Copy, Debug, PartialEq, Eq)]
+pub enum DriveFault {
+    NoMemory,
+    Source { file: usize, segment: SegmentId },
+    Corrupt { file: usize, segment: SegmentId },
+    Overflow { file: usize },
+}
+
+/// Why a split is given up, as a fault.
+fn held(file: usize, halt: Halt) -> DriveFault
+    ensures { result ≡ fault_of file halt }
+{
+    match halt {
+        Halt::Source(segment) => DriveFault::Source { file, segment },
+        Halt::Corrupt(segment) => DriveFault::Corrupt { file, segment },
+        Halt::Overflow => DriveFault::Overflow { file },
+        Halt::NoMemory => DriveFault::NoMemory,
+    }
+}
+
+/// How many rows of so many may be given, where the limit is met by them.
+fn full_at(left: Option<u64>, count: usize) -> Option<usize>
+    ensures { MatchOption result (Fits count left) (λ n. (left ≡ Some n) × (n ≤ count)) }
+{
+    match left {
+        None => None,
+        Some(rows) => {
+            if rows <= count as u64 {
+                return Some(rows as usize);
+            }
+            None
+        }
+    }
+}
+
+/// How many rows may still be given after so many.
+fn less(left: Option<u64>, count: usize) -> Option<u64>
+    requires { Fits count left }
+    ensures { result ≡ option_map (λ n. n - count) left }
+{
+    match left {
+        None => None,
+        Some(rows) => Some(rows - count as u64),
+    }
+}
+
+/// Adds a chunk of the rows of a split, where there are some.
+fn push_rows<W: SplitWork + Drop>(
+    chunks: &mut Vec<Chunk<W::Rows>>,
+    file: usize,
+    rows: W::Rows,
+) -> Result<(), NoMemory>
+    ensures { OnOk result (given W.items chunks.new.items ≡
+        given W.items chunks.old.items ++ grouped file (W.items rows)) }
+{
+    if W::count(&rows) == 0 {
+        return Ok(());
+    }
+    chunks.push(Chunk { file, rows })?;
+    Ok(())
+}
+
+/// Gives the rows of a split, and no more of them than are left of the limit.
+fn give<W: SplitWork + Drop>(
+    alloc: Global,
+    chunks: &mut Vec<Chunk<W::Rows>>,
+    left: &mut Option<u64>,
+    file: usize,
+    rows: W::Rows,
+) -> Result<Delivered, NoMemory>
+    ensures { IfOk result (λ d.
+        Gives W.items file (W.items rows) chunks.old.items chunks.new.items left.old left.new d) }
+{
+    let count = W::count(&rows);
+    match full_at(*left, count) {
+        Some(most) => {
+            let first = W::first(alloc, rows, most)?;
+            push_rows::<W>(chunks, file, first)?;
+            Ok(Delivered::Full)
+        }
+        None => {
+            push_rows::<W>(chunks, file, rows)?;
+            *left = less(*left, count);
+            Ok(Delivered::More)
+        }
+    }
+}
+
+/// Gives the rows of the splits that are read, in turn, up to the first that is not, and no more rows than are left of
+/// the limit. Why a split is given up comes at its turn.
+pub fn deliver<W: SplitWork + Drop>(
+    alloc: Global,
+    active: &mut Active<W, W::Rows>,
+    chunks: &mut Vec<Chunk<W::Rows>>,
+    left: &mut Option<u64>,
+) -> Result<Delivered, DriveFault>
+    requires seated { Seated active.old }
+    requires room { HasRoom left.old }
+    ensures seated { OnOk result (Seated active.new) }
+    ensures news { OnOk result (HasNews active.old.slots.items active.old.news.items →
+        HasNews active.new.slots.items active.new.news.items) }
+    ensures ok { OnOk result ((tale : List (Told Marked)) → AllOk W.split W.comes W.items tale active.old →
+        AllOk W.split W.comes W.items tale active.new) }
+    ensures delivered { IfOk result (λ d. IsDelivered W.split W.comes W.items active.old active.new
+        chunks.old.items chunks.new.items left.old left.new d) }
+    ensures fault { IfErr result (λ e. IsDeliverFault W.split W.comes W.items active.old active.new
+        chunks.old.items chunks.new.items left.old left.new e) }
+    ensures cause { IfErr result (λ e. (tale : List (Told Marked)) →
+        AllOk W.split W.comes W.items tale active.old → IsCause tale e) }
+{
+    'turns: loop {
+        match active.take_front() {
+            Err(_) => return Err(DriveFault::NoMemory),
+            Ok(Front::Nothing) => return Ok(Delivered::More),
+            Ok(Front::Waits) => return Ok(Delivered::More),
+            Ok(Front::Halted(file, halt)) => return Err(held(file, halt)),
+            Ok(Front::Rows(file, rows)) => match give::<W>(alloc, chunks, left, file, rows) {
+                Ok(Delivered::More) => {}
+                Ok(Delivered::Full) => return Ok(Delivered::Full),
+                Err(_) => return Err(DriveFault::NoMemory),
+            },
+        }
+    }
+}

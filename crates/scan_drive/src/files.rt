@@ -1,0 +1,57 @@
+//! The files of a scan. After the Rust's `scan::multi`.
+ghost use Rattle.std.specs.Prelude.{◌≡◌, ◌≤◌, ◌<◌, ◌+◌, ℕ, OnOk, IfOk, length};
+ghost use Rattle.scan_drive.specs.Moves.{EachMoves, KeepsSources, KeepsRest, KeepsPhases, tells};
+ghost use Rattle.scan_drive.specs.Openers.{as_number};
+ghost use Rattle.scan_drive.specs.Phases.{phase_at, unopened};
+
+use crate::opening::{SplitOpener, open_file};
+use crate::phase::Phase;
+use crate::work::SplitWork;
+use scan_segments::{SegmentSource, SegmentSourceId};
+use scan_values::NoMemory;
+use std::alloc::Global;
+
+/// A file: what opens it, what holds its segments, and the name of that source.
+#[derive(Drop)]
+pub struct ScanFile<O, S> {
+    pub opener: O,
+    pub source: S,
+    pub source_id: SegmentSourceId,
+}
+
+/// One of two is true.
+fn either(a: bool, b: bool) -> bool
+    ensures { as_number result ≤ as_number a + as_number b }
+{
+    if a { true } else { b }
+}
+
+/// Polls the opener of each file from one place to another once, unless it has answered, and says whether one has now.
+pub fn open_files<W: SplitWork + Drop, F: Drop, O: SplitOpener<W, F>, S: SegmentSource>(
+    alloc: Global,
+    files: &mut Vec<ScanFile<O, S>>,
+    phases: &mut Vec<Phase<W, F>>,
+    first: usize,
+    last: usize,
+) -> Result<bool, NoMemory>
+    requires same { length phases.old.items ≡ length files.old.items }
+    requires within { last ≤ length files.old.items }
+    ensures len { length phases.new.items ≡ length phases.old.items }
+    ensures moves { EachMoves O.opener S.state files.old.items files.new.items }
+    ensures sources { KeepsSources files.old.items files.new.items }
+    ensures opened { IfOk result (λ b. unopened phases.new.items + as_number b ≤ unopened phases.old.items) }
+    ensures below { (k : ℕ) → k < first → phase_at phases.new.items k ≡ phase_at phases.old.items k }
+    ensures left { OnOk result (KeepsRest W.split W.comes (tells O.opener S.state files.old.items)
+        phases.old.items phases.new.items) }
+    ensures ok { OnOk result (KeepsPhases W.split W.comes (tells O.opener S.state files.old.items)
+        phases.old.items phases.new.items) }
+{
+    let mut any = false;
+    for i in first..last {
+        let file = &mut files[i];
+        let phase = &mut phases[i];
+        let opened = open_file(alloc, &mut file.opener, phase)?;
+        any = either(any, opened);
+    }
+    Ok(any)
+}

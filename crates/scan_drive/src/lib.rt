@@ -1,0 +1,33 @@
+//! The drive of a scan over many files: the splits of the files that are read at once, what of their segments is live,
+//! and their rows in turn.
+#![tactic(auto)]
+
+mod active;
+mod delivery;
+mod desk;
+mod drive;
+mod fetching;
+mod files;
+mod laws;
+mod looking;
+mod opening;
+mod phase;
+mod places;
+mod run;
+mod slot;
+mod work;
+
+pub use active::{Active, Front};
+pub use delivery::{Chunk, Delivered, DriveFault, deliver};
+pub use desk::{Desk, Reply};
+pub use drive::{close_all, fetch_files, look_news, make_desks};
+pub use fetching::fetch;
+pub use files::{ScanFile, open_files};
+pub use laws::{cuts_give_the_first_rows, cuts_keep_groups};
+pub use looking::{Found, look, poll_slot};
+pub use opening::{Opening, SplitOpener, open_file};
+pub use phase::{Phase, Taken, activate};
+pub use places::Places;
+pub use run::{Run, RunPoll};
+pub use slot::{Halt, Slot, Stage, hand, lose};
+pub use work::SplitWork;
