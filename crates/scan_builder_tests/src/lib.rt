@@ -2,6 +2,8 @@
 #![tactic(auto)]
 
 #[cfg(test)]
+mod executed;
+#[cfg(test)]
 mod ranges;
 #[cfg(test)]
 mod rows;
