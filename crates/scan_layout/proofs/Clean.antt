@@ -121,7 +121,8 @@ content_clean a o rest e p s i rows clean_a clean_o form_a form_o many within h 
     let from : ℕ = element_from (rows_of a) rows f i (i + 1) in
     let to : ℕ = element_to (rows_of a) rows f i (i + 1) in
     let in_offsets : Each (Decodes s) (touched o s i (i + 1 + 1)) = agree_inside (Decodes s) (decodes_blind s) to_offsets (touched o s i (i + 1 + 1)) (agree_left (Decodes s) (under_step to_offsets (touched o s i (i + 1 + 1))) (under_step to_elements (element_places kids rows s i (i + 1))) h) in
-    let in_elements : Each (Decodes s) (touched a s from to) = agree_inside (Decodes s) (decodes_blind s) to_elements (element_places kids rows s i (i + 1)) (agree_right (Decodes s) (under_step to_offsets (touched o s i (i + 1 + 1))) (under_step to_elements (element_places kids rows s i (i + 1))) h) in
+    let in_elements : Each (Decodes s) (touched a s from to) = agree_inside (Decodes s) (decodes_blind s) to_elements (element_places kids rows s i (i + 1))
+    (agree_right (Decodes s) (under_step to_offsets (touched o s i (i + 1 + 1))) (under_step to_elements (element_places kids rows s i (i + 1))) h) in
     let first = offset_clean o p s i i rows clean_o form_o many within (omega arith) (omega arith) in_offsets in
     let last = offset_clean o p s (i + 1) i rows clean_o form_o many within (omega arith) (omega arith) in_offsets in
     between_clean (rows_of a) (offset_of (row_value o s i)) (offset_of (row_value o s (i + 1))) (λ j. row_value a s j) first.0 last.0 first.1 last.1 order

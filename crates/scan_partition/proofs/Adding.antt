@@ -66,7 +66,10 @@ added_at i b (x ∷ xs) zero g h p e s = go (same_item (item_seen x.item) i) p
     go false q = not_first (index_of i (groups_seen xs)) q
 added_at i b (x ∷ xs) (suc k) g h p e s = go (same_item (item_seen x.item) i) p (λ q. added_at i b xs k g h q e s)
   where
-    go : (t : Bool) → cond t (Some 0) (one_later (index_of i (groups_seen xs))) ≡ Some (suc k) → (index_of i (groups_seen xs) ≡ Some k → groups_seen (set xs k h) ≡ added i b (groups_seen xs)) → group_seen x ∷ groups_seen (set xs k h) ≡ cond t ((item_seen x.item, exprs_lent x ++ b ∷ []) ∷ groups_seen xs) (group_seen x ∷ added i b (groups_seen xs))
+    go : (t : Bool) → cond t (Some 0) (one_later (index_of i (groups_seen xs))) ≡ Some (suc k)
+        → (index_of i (groups_seen xs) ≡ Some k → groups_seen (set xs k h) ≡ added i b (groups_seen xs))
+        → group_seen x ∷ groups_seen (set xs k h) ≡ cond t ((item_seen x.item, exprs_lent x ++ b ∷ []) ∷ groups_seen xs)
+        (group_seen x ∷ added i b (groups_seen xs))
     go true q f = first_is k q
     go false q f = ap (λ ys. group_seen x ∷ ys) (f (later (index_of i (groups_seen xs)) k q))
 
@@ -102,7 +105,10 @@ added_new i b gs hs h p e s = ap groups_seen e ∙ walk gs p
     walk [] p = ap (λ y. y ∷ []) s
     walk (x ∷ xs) p = go (same_item (item_seen x.item) i) p (walk xs)
       where
-        go : (t : Bool) → cond t (Some 0) (one_later (index_of i (groups_seen xs))) ≡ None → (index_of i (groups_seen xs) ≡ None → groups_seen (xs ++ h ∷ []) ≡ added i b (groups_seen xs)) → group_seen x ∷ groups_seen (xs ++ h ∷ []) ≡ cond t ((item_seen x.item, exprs_lent x ++ b ∷ []) ∷ groups_seen xs) (group_seen x ∷ added i b (groups_seen xs))
+        go : (t : Bool) → cond t (Some 0) (one_later (index_of i (groups_seen xs))) ≡ None
+            → (index_of i (groups_seen xs) ≡ None → groups_seen (xs ++ h ∷ []) ≡ added i b (groups_seen xs))
+            → group_seen x ∷ groups_seen (xs ++ h ∷ []) ≡ cond t ((item_seen x.item, exprs_lent x ++ b ∷ []) ∷ groups_seen xs)
+            (group_seen x ∷ added i b (groups_seen xs))
         go true q f = somewhere 0 q
         go false q f = ap (λ ys. group_seen x ∷ ys) (f (nowhere (index_of i (groups_seen xs)) q))
 
@@ -128,7 +134,10 @@ index_new i j b (g ∷ gs) p = go (same_item g.0 i) refl p (index_new i j b gs)
     apart false h true k q = refl
     apart false h false k q = refl
 
-    go : (t : Bool) → same_item g.0 i ≡ t → cond t (Some 0) (one_later (index_of i gs)) ≡ None → (index_of i gs ≡ None → index_of j (added i b gs) ≡ cond (same_item i j) (Some (length gs)) (index_of j gs)) → index_of j (cond t ((g.0, g.1 ++ b ∷ []) ∷ gs) (g ∷ added i b gs)) ≡ cond (same_item i j) (Some (suc (length gs))) (cond (same_item g.0 j) (Some 0) (one_later (index_of j gs)))
+    go : (t : Bool) → same_item g.0 i ≡ t → cond t (Some 0) (one_later (index_of i gs)) ≡ None
+        → (index_of i gs ≡ None → index_of j (added i b gs) ≡ cond (same_item i j) (Some (length gs)) (index_of j gs))
+        → index_of j (cond t ((g.0, g.1 ++ b ∷ []) ∷ gs) (g ∷ added i b gs)) ≡ cond (same_item i j) (Some (suc (length gs)))
+        (cond (same_item g.0 j) (Some 0) (one_later (index_of j gs)))
     go true e q f = somewhere 0 q
     go false e q f = ap (λ o. cond (same_item g.0 j) (Some 0) (one_later o)) (f (nowhere (index_of i gs) q)) ∙ apart (same_item g.0 j) refl (same_item i j) refl e
 

@@ -74,12 +74,19 @@ mutual
   nodes_shallow s root h = shallow_if s h
   nodes_shallow s row_index h = tt
   nodes_shallow s (literal d v) h = scalar_shallow d (and_first (is_scalar_type d) (fits (marked v) d) (holds (is_scalar_type d && fits (marked v) d) Literal h))
-  nodes_shallow s (unary u e) h =
-      (shallow_if (infer s (unary u e)) (second_none (unary_fault u (infer s e)) (depth_fault (infer s (unary u e))) (second_none (nodes_fault s e) (or_fault (unary_fault u (infer s e)) (depth_fault (infer s (unary u e)))) h)), nodes_shallow s e (first_none (nodes_fault s e) (or_fault (unary_fault u (infer s e)) (depth_fault (infer s (unary u e)))) h))
+  nodes_shallow s (unary u e) h = (
+    shallow_if (infer s (unary u e)) (second_none (unary_fault u (infer s e)) (depth_fault (infer s (unary u e)))
+        (second_none (nodes_fault s e) (or_fault (unary_fault u (infer s e)) (depth_fault (infer s (unary u e)))) h)),
+    nodes_shallow s e (first_none (nodes_fault s e) (or_fault (unary_fault u (infer s e)) (depth_fault (infer s (unary u e)))) h),
+  )
   nodes_shallow s (binary b x y) h =
       let r = second_none (nodes_fault s x) (or_fault (nodes_fault s y) (or_fault (binary_fault b (infer s x) (infer s y)) (depth_fault (infer s (binary b x y))))) h in
-      let q = second_none (nodes_fault s y) (or_fault (binary_fault b (infer s x) (infer s y)) (depth_fault (infer s (binary b x y)))) r in
-      (shallow_if (infer s (binary b x y)) (second_none (binary_fault b (infer s x) (infer s y)) (depth_fault (infer s (binary b x y))) q), nodes_shallow s x (first_none (nodes_fault s x) (or_fault (nodes_fault s y) (or_fault (binary_fault b (infer s x) (infer s y)) (depth_fault (infer s (binary b x y))))) h), nodes_shallow s y (first_none (nodes_fault s y) (or_fault (binary_fault b (infer s x) (infer s y)) (depth_fault (infer s (binary b x y)))) r))
+      let q = second_none (nodes_fault s y) (or_fault (binary_fault b (infer s x) (infer s y)) (depth_fault (infer s (binary b x y)))) r in (
+        shallow_if (infer s (binary b x y)) (second_none (binary_fault b (infer s x) (infer s y)) (depth_fault (infer s (binary b x y))) q),
+        nodes_shallow s x (first_none (nodes_fault s x)
+            (or_fault (nodes_fault s y) (or_fault (binary_fault b (infer s x) (infer s y)) (depth_fault (infer s (binary b x y))))) h),
+        nodes_shallow s y (first_none (nodes_fault s y) (or_fault (binary_fault b (infer s x) (infer s y)) (depth_fault (infer s (binary b x y)))) r),
+      )
   nodes_shallow s (pack ps n) h =
       let r = second_none (parts_fault s ps) (or_fault (pack_fault (infer_all s ps)) (depth_fault (infer s (pack ps n)))) h in
       (shallow_if (infer s (pack ps n)) (second_none (pack_fault (infer_all s ps)) (depth_fault (infer s (pack ps n))) r), all_shallow s ps (first_none (parts_fault s ps) (or_fault (pack_fault (infer_all s ps)) (depth_fault (infer s (pack ps n)))) h))

@@ -83,6 +83,9 @@ stepped_fits how s d g xs h t e f =
     (subst (NodesHold (item_type (struct_fields s) (item_seen g.item))) (step_part (lent_exprs g.parts.items) ∙ ap part_of (sym (steps_list (item_type (struct_fields s) (item_seen g.item)) (lent_exprs xs) ∙ ap (λ ys. map step_into (lent_exprs ys)) e)))
     (subst (λ (w : Parting). NodesHold (group_part (parting w s) (group_seen g)).scope (group_part (parting w s) (group_seen g)).expr) h f))
 
-pub stepped_part : (how : Parting) (s d : DataType) (g : LentGroup) (xs : List (Bor Bound)) → how ≡ Stepped → d ≡ item_type (struct_fields s) (item_seen g.item) → xs ≡ g.parts.items → bound_of d (part_of (map (rewritten (rules_of StepIn d)) (lent_exprs xs))) ≡ group_part (parting how s) (group_seen g)
+pub stepped_part : (how : Parting) (s d : DataType) (g : LentGroup) (xs : List (Bor Bound)) → how ≡ Stepped → d ≡ item_type (struct_fields s) (item_seen g.item)
+    → xs ≡ g.parts.items → bound_of d (part_of (map (rewritten (rules_of StepIn d)) (lent_exprs xs))) ≡ group_part (parting how s) (group_seen g)
 stepped_part how s d g xs h t e =
-    ap (λ es. bound_of d (part_of es)) (steps_list d (lent_exprs xs) ∙ ap (λ ys. map step_into (lent_exprs ys)) e) ∙ ap (bound_of d) (sym (step_part (lent_exprs g.parts.items))) ∙ ap (λ w. bound_of w (step_into (part_of (lent_exprs g.parts.items)))) t ∙ ap (λ (w : Parting). group_part (parting w s) (group_seen g)) (sym h)
+    ap (λ es. bound_of d (part_of es)) (steps_list d (lent_exprs xs) ∙ ap (λ ys. map step_into (lent_exprs ys)) e)
+    ∙ ap (bound_of d) (sym (step_part (lent_exprs g.parts.items))) ∙ ap (λ w. bound_of w (step_into (part_of (lent_exprs g.parts.items)))) t
+    ∙ ap (λ (w : Parting). group_part (parting w s) (group_seen g)) (sym h)

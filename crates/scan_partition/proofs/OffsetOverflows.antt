@@ -79,7 +79,9 @@ module _ (el : DataType) (n : Nullability) where
       offsets_below (binary b x y) t h =
           let hs = class-split OffsetsAndValidity (necessary x) (necessary y) h in
           subst (λ d. Below (binary_value b d (eval (int_type U64 n) (rewrite_offsets x) (length_value n v) k) (eval (int_type U64 n) (rewrite_offsets y) (length_value n v) k)) (eval (list_type el n) (binary b x y) v k)) (sym (offsets_type (binary b x y) h))
-          (binary_below b (infer (list_type el n) x) (infer (list_type el n) y) (eval (int_type U64 n) (rewrite_offsets x) (length_value n v) k) (eval (int_type U64 n) (rewrite_offsets y) (length_value n v) k) (eval (list_type el n) x v k) (eval (list_type el n) y v k) (node_fits (binary b x y) t) (offsets_below x t.1 hs.0) (offsets_below y t.2 hs.1))
+          (binary_below b (infer (list_type el n) x) (infer (list_type el n) y) (eval (int_type U64 n) (rewrite_offsets x) (length_value n v) k)
+          (eval (int_type U64 n) (rewrite_offsets y) (length_value n v) k) (eval (list_type el n) x v k) (eval (list_type el n) y v k)
+          (node_fits (binary b x y) t) (offsets_below x t.1 hs.0) (offsets_below y t.2 hs.1))
       offsets_below (pack ps m) t h = all_offsets_below ps t h
 
       all_offsets_below : (ps : Parts) → AllNodesTyped (list_type el n) ps → IsClass OffsetsAndValidity (all_necessary ps) → AllBelow (eval_all (int_type U64 n) (rewrite_offsets_all ps) (length_value n v) k) (eval_all (list_type el n) ps v k)
@@ -137,7 +139,9 @@ module _ (el : DataType) (n : Nullability) where
       all_offsets_overflow no_parts t h o = o
       all_offsets_overflow (part m e ps) t h o =
           let hs = class-split OffsetsAndValidity (necessary e) (all_necessary ps) h in
-          or_up (overflows (int_type U64 n) (rewrite_offsets e) (length_value n v) k) (any_overflows (int_type U64 n) (rewrite_offsets_all ps) (length_value n v) k) (overflows (list_type el n) e v k) (any_overflows (list_type el n) ps v k) (offsets_overflow e t.0 hs.0) (all_offsets_overflow ps t.1 hs.1) o
+          or_up (overflows (int_type U64 n) (rewrite_offsets e) (length_value n v) k)
+          (any_overflows (int_type U64 n) (rewrite_offsets_all ps) (length_value n v) k) (overflows (list_type el n) e v k)
+          (any_overflows (list_type el n) ps v k) (offsets_overflow e t.0 hs.0) (all_offsets_overflow ps t.1 hs.1) o
 
 pub offsets_overflow_only : (s : DataType) (e : Expr) (el : DataType) (n : Nullability) (v : Marked) (k : ℕ) → s ≡ list_type el n → fits v s ≡ true → k < 2 ^ 64 → NodesTyped s e → IsClass OffsetsAndValidity (necessary e)
     → overflows (infer s (unary ListLength root)) (rewrite_offsets e) (eval s (unary ListLength root) v k) k ≡ true → overflows s e v k ≡ true

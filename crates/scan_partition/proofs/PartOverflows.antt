@@ -112,7 +112,9 @@ mutual
       λ j. fx j || fy j
 
 -- ---- over a struct itself
-own_unary : (s : DataType) (v : Marked) (k : ℕ) (u : Unary) (e : Expr) (o : Option Item) (P : Type 0) → ItemOr o P → ((i : Item) → o ≡ Some i → through_overflows (own_reads s v k) k e ≡ overflows s e v k) → (P → through_overflows (own_reads s v k) k e ≡ overflows s e v k) → through_overflows (own_reads s v k) k e ≡ overflows s e v k
+own_unary : (s : DataType) (v : Marked) (k : ℕ) (u : Unary) (e : Expr) (o : Option Item) (P : Type 0) → ItemOr o P
+    → ((i : Item) → o ≡ Some i → through_overflows (own_reads s v k) k e ≡ overflows s e v k)
+    → (P → through_overflows (own_reads s v k) k e ≡ overflows s e v k) → through_overflows (own_reads s v k) k e ≡ overflows s e v k
 own_unary s v k u e None P p g f = f p
 own_unary s v k u e (Some i) P p g f = g i refl
 

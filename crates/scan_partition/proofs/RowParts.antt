@@ -256,7 +256,9 @@ module _ (s : DataType) (v : Marked) (k j : ℕ) where
   rows_joined (g ∷ gs) = ap (more (eval (item_type (struct_fields (numbered_scope s)) g.0) (step_into (part_of g.1)) (read_value v k (partition_of g.0)) j)) (rows_joined gs)
 
   pub both_seen : (e : Expr) → length (cuts (lift e)) < 2 ^ 64
-      → seen (joined_type (stepped_type (item_type (struct_fields (numbered_scope s)))) (cuts (lift e))) (struct (joined_values (stepped_value (item_type (struct_fields (numbered_scope s))) (λ i. read_value v k (partition_of i)) j) (groups_of (cuts (lift e))))) j (root_of (cuts (lift e)) [] (lift e)) ≡ seen s v k e
+      → seen (joined_type (stepped_type (item_type (struct_fields (numbered_scope s)))) (cuts (lift e)))
+      (struct (joined_values (stepped_value (item_type (struct_fields (numbered_scope s))) (λ i. read_value v k (partition_of i)) j)
+      (groups_of (cuts (lift e))))) j (root_of (cuts (lift e)) [] (lift e)) ≡ seen s v k e
   both_seen e few = partition_seen row_reads j (lift e) (lift-expanded e) (lift_plain s e) few ∙ lift_through e
 
 -- ---- over any rows

@@ -77,7 +77,9 @@ module _ (fs : Fields) (n : Nullability) (e : Expr) (d : Distinct fs) (free : No
   parts_are : IsPart (struct_type fs n) e → NodesTyped (struct_type fs n) e → AllParts (stepped (struct_type fs n)) (groups_of (cuts (expand (struct_type fs n) e)))
   parts_are h t = stepped_cuts (struct_type fs n) (some_reads fs) 0 (expand (struct_type fs n) e) (expand-expanded (struct_type fs n) e) (within_items h) (through_nodes t)
 
-  root_fit : IsPart (struct_type fs n) e → NodesTyped (struct_type fs n) e → length (cuts (expand (struct_type fs n) e)) < 2 ^ 64 → NodesHold (joined_type (type_of_part (stepped (struct_type fs n))) (cuts (expand (struct_type fs n) e))) (root_of (cuts (expand (struct_type fs n) e)) [] (expand (struct_type fs n) e))
+  root_fit : IsPart (struct_type fs n) e → NodesTyped (struct_type fs n) e → length (cuts (expand (struct_type fs n) e)) < 2 ^ 64
+      → NodesHold (joined_type (type_of_part (stepped (struct_type fs n))) (cuts (expand (struct_type fs n) e)))
+      (root_of (cuts (expand (struct_type fs n) e)) [] (expand (struct_type fs n) e))
   root_fit h t few =
       part_root_fits (λ i. (item_type fs i, some_reads fs i)) 0 (cuts (expand (struct_type fs n) e)) plain few (expand (struct_type fs n) e) [] [] (expand-expanded (struct_type fs n) e) (sym (append-nil (cuts (expand (struct_type fs n) e))))
       (within_items h) (through_nodes t)

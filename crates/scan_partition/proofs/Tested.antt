@@ -7,7 +7,32 @@ use Rattle.scan_values.specs.declared.ptype.Nullability.TheVariants.{NonNullable
 use Rattle.scan_values.specs.NameFaults.{field_names, has_name}
 use Rattle.scan_values.specs.Paths.{to_field, to_validity, to_offsets, to_elements, Path}
 use Rattle.scan_expr.specs.Infer.{struct_fields, field_type, infer}
-use Rattle.scan_expr.specs.Needs.{Demand, whole, null_alone, length_alone, fields, at, asked, is_end, is_validity, is_validity_of, is_offsets, under_elements, under_field, is_leaf, is_field_leaf, is_leaf_of, is_leaf_of_any, null_needs, length_needs, fields_needs, field_needs, use_needs, needs, any_needs}
+use Rattle.scan_expr.specs.Needs.{
+  Demand,
+  whole,
+  null_alone,
+  length_alone,
+  fields,
+  at,
+  asked,
+  is_end,
+  is_validity,
+  is_validity_of,
+  is_offsets,
+  under_elements,
+  under_field,
+  is_leaf,
+  is_field_leaf,
+  is_leaf_of,
+  is_leaf_of_any,
+  null_needs,
+  length_needs,
+  fields_needs,
+  field_needs,
+  use_needs,
+  needs,
+  any_needs,
+}
 use Rattle.scan_expr.specs.Expr.{Expr, root, row_index, literal, unary, binary, pack, Parts, no_parts, part}
 use Rattle.scan_partition.proofs.Wants.{IsValidity, IsLeaf, IsFieldLeaf, IsLeafOf, IsLeafOfAny, NeedsNull, NeedsLength, NeedsFields, NeedsAt, Asks, Needs, AnyNeeds}
 use Rattle.scan_partition.proofs.Names.{bytes_eq-refl}

@@ -107,7 +107,8 @@ goes_on fits store id b c d q s t r after (looked.Hit v) l k g = (both_same stor
 goes_on fits store id b c d q s t r after looked.Asked l k g = let p = polls_source fits store id c d s t r g.0 (looks store id b c q s looked.Asked l k) in (p.0, p.1, sound_is store id after _ g.1 (asked_sound store id r))
 goes_on fits store id b c d q s t r after looked.NoMemory l k g = (both_same store c d s t g.1 g.2 (looks store id b c q s looked.NoMemory l k), gives_is store id r NoMemory g.0 tt, sound_is store id after _ g.3 (looking_sound store id))
 
-polls_both : (fits : ℕ → List ℕ → Type 0) (store : Store) (id : ℕ) (c d : CacheState ℕ) (s t : SourceState) (r : Polled) (after before : Option Stage) → PollsBoth fits id c d s t r after before → Keeps store c s → Sound store id before → Keeps store d t × GivesContent store id r × Sound store id after
+polls_both : (fits : ℕ → List ℕ → Type 0) (store : Store) (id : ℕ) (c d : CacheState ℕ) (s t : SourceState) (r : Polled) (after before : Option Stage)
+    → PollsBoth fits id c d s t r after before → Keeps store c s → Sound store id before → Keeps store d t × GivesContent store id r × Sound store id after
 polls_both fits store id c d s t r after None p k v = absurd p
 polls_both fits store id c d s t r after (Some stage.Looking) p k v = goes_on fits store id c p.cache d s p.source t r after p.way p.looks k p.goes_on
 polls_both fits store id c d s t r after (Some stage.Asked) p k v = let q = polls_source fits store id c d s t r p.0 k in (q.0, q.1, sound_is store id after _ p.1 (asked_sound store id r))
@@ -130,7 +131,9 @@ faithful store c s es k v = record { source = k.0; entries = k.1.0; told = k.1.1
 keeps : (store : Store) (c : CacheState ℕ) (s : SourceState) (es : List (ℕ × Stage)) → IsFaithful store c s es → Keeps store c s
 keeps store c s es f = (f.source, (f.entries, f.told, f.kept))
 
-pub poll_keeps : (fits : ℕ → List ℕ → Type 0) (store : Store) (id : ℕ) (c d : CacheState ℕ) (s t : SourceState) (r : Polled) (es fs : List (ℕ × Stage)) → PollsBoth fits id c d s t r (stage_at fs id) (stage_at es id) → KeepsStages id es fs → IsFaithful store c s es → IsFaithful store d t fs × GivesContent store id r
+pub poll_keeps : (fits : ℕ → List ℕ → Type 0) (store : Store) (id : ℕ) (c d : CacheState ℕ) (s t : SourceState) (r : Polled) (es fs : List (ℕ × Stage))
+    → PollsBoth fits id c d s t r (stage_at fs id) (stage_at es id) → KeepsStages id es fs → IsFaithful store c s es
+    → IsFaithful store d t fs × GivesContent store id r
 poll_keeps fits store id c d s t r es fs p others f =
     let q = polls_both fits store id c d s t r (stage_at fs id) (stage_at es id) p (keeps store c s es f) (f.found id) in
     (faithful store d t fs q.0 (all_sound store id es fs others f.found q.2), q.1)

@@ -15,7 +15,9 @@ use Rattle.scan_segments.specs.declared.script.Outcome.TheVariants.{Goes, Waits,
 use Rattle.scan_segments.specs.declared.source.Polled.TheVariants.{Bytes, Missing}
 
 -- an answer ends the request
-pub ends : (id : ℕ) (s t : MemoryState) (script : ScriptState) (faults : ℕ) → t ≡ record s { script = script; live = ended id s.live; faults = faults } → ◌≡◌ {A = ℕ → Bool} (λ k. has k (ended id s.live)) (without_live id (λ k. has k s.live)) → turns_left script ≤ turns_left s.script → script.failing ≡ s.script.failing → s.faults ≤ faults → Ends id (source_state s) (source_state t)
+pub ends : (id : ℕ) (s t : MemoryState) (script : ScriptState) (faults : ℕ) → t ≡ record s { script = script; live = ended id s.live; faults = faults }
+    → ◌≡◌ {A = ℕ → Bool} (λ k. has k (ended id s.live)) (without_live id (λ k. has k s.live)) → turns_left script ≤ turns_left s.script
+    → script.failing ≡ s.script.failing → s.faults ≤ faults → Ends id (source_state s) (source_state t)
 ends id s t script faults e l h same f = rw e (record { holds = refl; asked = refl; live = l; faults = f; turns = h; can_fail = ap has_number same })
 
 -- a request that was made

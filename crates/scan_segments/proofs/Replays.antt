@@ -83,7 +83,9 @@ module _ (fits : ℕ → List ℕ → Type 0) where
       let room = k.room in
       record {
         lawful = lawful_snoc no_entries h (Requested id n) k.lawful (ap (is_held n) (sym (k.replays id)) ∙ held_kinds n (entry_at s id) ∙ fresh id);
-        replays = λ i. put_kinds (entry_at s) (entry_at t) (replay h) id (Some (joined n (entry_at s id))) (Some (joined n (replay h id))) step k.replays (kinds_joined n (entry_at s id) ∙ ap (λ e. Some (joined n e)) (k.replays id)) i ∙ sym (ap (λ (f : Table Kind). f i) (replay_snoc no_entries h (Requested id n)));
+        replays = λ i. put_kinds (entry_at s) (entry_at t) (replay h) id (Some (joined n (entry_at s id))) (Some (joined n (replay h id))) step k.replays
+            (kinds_joined n (entry_at s id) ∙ ap (λ e. Some (joined n e)) (k.replays id)) i
+            ∙ sym (ap (λ (f : Table Kind). f i) (replay_snoc no_entries h (Requested id n)));
         agrees = agree;
         fit = λ i b is. k.fit i b (sym (ap answer_of (step i) ∙ answer_if (eqb i id) (Some (joined n (entry_at s id))) (entry_at s i) ∙ chosen i id (λ j. answer_of (entry_at s j)) (answer_of (Some (joined n (entry_at s id)))) (answer_joined n (entry_at s id))) ∙ is);
         room = omega arith;
@@ -118,7 +120,10 @@ module _ (fits : ℕ → List ℕ → Type 0) where
       let lighter = r.lighter in
       record {
         lawful = lawful_snoc no_entries h (Arrived id (kind_of r.answer)) k.lawful (ap is_live (sym (k.replays id)) ∙ live_kinds (entry_at s id) ∙ r.was_live);
-        replays = λ i. put_kinds (entry_at s) (entry_at t) (replay h) id (answered r.answer (entry_at s id)) (answered (kind_of r.answer) (replay h id)) r.step k.replays (kinds_answered r.answer (entry_at s id) ∙ ap (answered (kind_of r.answer)) (k.replays id)) i ∙ sym (ap (λ (f : Table Kind). f i) (replay_snoc no_entries h (Arrived id (kind_of r.answer))));
+        replays = λ i. put_kinds (entry_at s) (entry_at t) (replay h) id (answered r.answer (entry_at s id))
+            (answered (kind_of r.answer) (replay h id)) r.step k.replays
+            (kinds_answered r.answer (entry_at s id) ∙ ap (answered (kind_of r.answer)) (k.replays id)) i
+            ∙ sym (ap (λ (f : Table Kind). f i) (replay_snoc no_entries h (Arrived id (kind_of r.answer))));
         agrees = agree;
         fit = fits_put x y s t id k.fit r;
         room = omega arith;
@@ -138,7 +143,9 @@ module _ (fits : ℕ → List ℕ → Type 0) where
       go [] h = absurd (cc)
       go (m ∷ ms) h = h
 
-  pub keeps-drop : (live live' : ℕ → Bool) (s t : List (ℕ × Held Answer)) (h : List Event) (spare id n : ℕ) → IsKept fits live s h spare → Same (entry_at t) (without_holder n id (entry_at s)) → is_held n (entry_at s id) ≡ true → Agree live' (entry_at t) → owed t + 1 ≤ owed s → IsKept fits live' t (h ++ Dropped id n ∷ []) (spare - 1)
+  pub keeps-drop : (live live' : ℕ → Bool) (s t : List (ℕ × Held Answer)) (h : List Event) (spare id n : ℕ) → IsKept fits live s h spare
+      → Same (entry_at t) (without_holder n id (entry_at s)) → is_held n (entry_at s id) ≡ true → Agree live' (entry_at t) → owed t + 1 ≤ owed s
+      → IsKept fits live' t (h ++ Dropped id n ∷ []) (spare - 1)
   keeps-drop live live' s t h spare id n k step held agree owes =
       let room = k.room in
       record {

@@ -81,7 +81,9 @@ pub owed-remove : (t : ℕ → Bool) (es : Entries) → owed (remove_entry t es)
 owed-remove t [] = omega arith
 owed-remove t (e ∷ es) = remove_step (t e.0) t e es refl (owed-remove t es)
 
-insert_step : (a b : Bool) (id : ℕ) (e : ℕ × Held SharedAnswer) (es : Entries) (v : Held SharedAnswer) → nat_lt id e.0 ≡ a → eqb id e.0 ≡ b → (entry_at es id ≡ None → owed (insert_entry nat_cmp es id v) ≡ owed es + debt v) → entry_at (e ∷ es) id ≡ None → owed (insert_entry nat_cmp (e ∷ es) id v) ≡ owed (e ∷ es) + debt v
+insert_step : (a b : Bool) (id : ℕ) (e : ℕ × Held SharedAnswer) (es : Entries) (v : Held SharedAnswer) → nat_lt id e.0 ≡ a → eqb id e.0 ≡ b
+    → (entry_at es id ≡ None → owed (insert_entry nat_cmp es id v) ≡ owed es + debt v) → entry_at (e ∷ es) id ≡ None
+    → owed (insert_entry nat_cmp (e ∷ es) id v) ≡ owed (e ∷ es) + debt v
 insert_step true b id e es v p q ih h = rw p (omega arith)
 insert_step false true id e es v p q ih h = let k : Some e.1 ≡ None = rw (p, q) at h in absurd (cc)
 insert_step false false id e es v p q ih h = let k : entry_at es id ≡ None = rw (p, q) at h in let i = ih k in rw (p, q) (omega arith)
@@ -90,7 +92,9 @@ pub owed-insert : (es : Entries) (id : ℕ) (v : Held SharedAnswer) → entry_at
 owed-insert [] id v h = omega arith
 owed-insert (e ∷ es) id v h = insert_step (nat_lt id e.0) (eqb id e.0) id e es v refl refl (owed-insert es id v) h
 
-undo_step : (a b : Bool) (id : ℕ) (e : ℕ × Held SharedAnswer) (es : Entries) (v : Held SharedAnswer) → nat_lt id e.0 ≡ a → eqb id e.0 ≡ b → (entry_at es id ≡ None → remove_entry (is_at (nat_cmp id)) (insert_entry nat_cmp es id v) ≡ es) → entry_at (e ∷ es) id ≡ None → remove_entry (is_at (nat_cmp id)) (insert_entry nat_cmp (e ∷ es) id v) ≡ e ∷ es
+undo_step : (a b : Bool) (id : ℕ) (e : ℕ × Held SharedAnswer) (es : Entries) (v : Held SharedAnswer) → nat_lt id e.0 ≡ a → eqb id e.0 ≡ b
+    → (entry_at es id ≡ None → remove_entry (is_at (nat_cmp id)) (insert_entry nat_cmp es id v) ≡ es) → entry_at (e ∷ es) id ≡ None
+    → remove_entry (is_at (nat_cmp id)) (insert_entry nat_cmp (e ∷ es) id v) ≡ e ∷ es
 undo_step true b id e es v p q ih h = let same : is_at (nat_cmp id) id ≡ true = at-id id id ∙ grind (arith, nat_tests) in rw p (ap (λ t. cond t (e ∷ es) ((id, v) ∷ remove_entry (is_at (nat_cmp id)) (e ∷ es))) same)
 undo_step false true id e es v p q ih h = let k : Some e.1 ≡ None = rw (p, q) at h in absurd (cc)
 undo_step false false id e es v p q ih h = let k : entry_at es id ≡ None = rw (p, q) at h in rw (p, q) (rw (p, q) (ap (λ fs. e ∷ fs) (ih k)))

@@ -83,7 +83,9 @@ stays_agree live id n es fs h held others same = go (entry_at es id) refl
     go (Some e) there = agrees_stay live (entry_at es) (entry_at fs) n id e h there (kept_is (without n e.holders) e.answer true (sym (ap (λ x. has_others (without_number n x)) there) ∙ others)) same
 
 -- the last holder went
-pub ends_agree : (live live' : ℕ → Bool) (id n : ℕ) (b : Bool) (es fs : Entries) → Agree live (entry_at es) → is_held n (entry_at es id) ≡ true → has_others (without_number n (entry_at es id)) ≡ false → is_live (entry_at es id) ≡ b → live' ≡ cond b (without_live id live) live → Same (entry_at fs) (without_holder n id (entry_at es)) → Agree live' (entry_at fs)
+pub ends_agree : (live live' : ℕ → Bool) (id n : ℕ) (b : Bool) (es fs : Entries) → Agree live (entry_at es) → is_held n (entry_at es id) ≡ true
+    → has_others (without_number n (entry_at es id)) ≡ false → is_live (entry_at es id) ≡ b → live' ≡ cond b (without_live id live) live
+    → Same (entry_at fs) (without_holder n id (entry_at es)) → Agree live' (entry_at fs)
 ends_agree live live' id n b es fs h held others dead is same = go (entry_at es id) refl
   where
     go : (o : Option (Held SharedAnswer)) → entry_at es id ≡ o → Agree live' (entry_at fs)

@@ -226,7 +226,9 @@ index_gone us o n es p k d at u x =
     let one : same_key k e.0 ≡ true = ap (same_key k) (sym key) ∙ key_refl k in absurd (cc)) ∙ indexed_at us o es e x there)
 
 -- ---- the entry of the least count
-least_step : (b : Bool) (us : Uses) (x y : Entry) (ys : List Entry) (t : SegmentKey) → nat_le (count_of us y.0) (count_of us x.0) ≡ b → (nat_le (count_of us y.0) (count_of us x.0) ≡ true → least us y.0 (plain ys) ≡ t) → (nat_le (count_of us y.0) (count_of us x.0) ≡ false → least us x.0 (plain ys) ≡ t) → least us x.0 (plain (y ∷ ys)) ≡ t
+least_step : (b : Bool) (us : Uses) (x y : Entry) (ys : List Entry) (t : SegmentKey) → nat_le (count_of us y.0) (count_of us x.0) ≡ b
+    → (nat_le (count_of us y.0) (count_of us x.0) ≡ true → least us y.0 (plain ys) ≡ t)
+    → (nat_le (count_of us y.0) (count_of us x.0) ≡ false → least us x.0 (plain ys) ≡ t) → least us x.0 (plain (y ∷ ys)) ≡ t
 least_step true us x y ys t q f g = subst (λ b. least us (cond b y.0 x.0) (plain ys) ≡ t) (sym q) (f q)
 least_step false us x y ys t q f g = subst (λ b. least us (cond b y.0 x.0) (plain ys) ≡ t) (sym q) (g q)
 
@@ -288,7 +290,9 @@ lows us o es p x low e i =
     cmp_low p (place us e) (low (place us e) (subst (λ v. IsSome v) (sym held) refl))
 
 -- of those behind the front one
-pub first_goes : (us : Uses) (o : Order) (es : List Entry) (m newest : ℕ) (p : Place) (k : SegmentKey) → Falls m es → option_map (λ e. e.1.tick) (slice_get es 0) ≡ Some newest → Indexed us o (behind true es) → IsLowerBound place_cmp o p → p.1 < newest → is_place us es p k ≡ true → least_used us (plain (behind true es)) ≡ Some k
+pub first_goes : (us : Uses) (o : Order) (es : List Entry) (m newest : ℕ) (p : Place) (k : SegmentKey) → Falls m es
+    → option_map (λ e. e.1.tick) (slice_get es 0) ≡ Some newest → Indexed us o (behind true es) → IsLowerBound place_cmp o p → p.1 < newest
+    → is_place us es p k ≡ true → least_used us (plain (behind true es)) ≡ Some k
 first_goes us o [] m newest p k f s x low l is = absurd (cc)
 first_goes us o (e ∷ es) m newest p k f s x low l is =
     let found = at_place us (e ∷ es) p k is in
@@ -342,7 +346,9 @@ no_places us o (y ∷ ys) e x = let none : None ≡ Some y.0 = sym (ap (λ ps. l
 
 -- ---- counts after one more use
 module _ {V : Type 0} where
-  other_step : (b : Bool) (k q : SegmentKey) (x : SegmentKey × V) (xs : List (SegmentKey × V)) → same_key k x.0 ≡ b → same_key q k ≡ false → lookup (same_key q) (remove_entry (same_key k) xs) ≡ lookup (same_key q) xs → lookup (same_key q) (remove_entry (same_key k) (x ∷ xs)) ≡ lookup (same_key q) (x ∷ xs)
+  other_step : (b : Bool) (k q : SegmentKey) (x : SegmentKey × V) (xs : List (SegmentKey × V)) → same_key k x.0 ≡ b → same_key q k ≡ false
+      → lookup (same_key q) (remove_entry (same_key k) xs) ≡ lookup (same_key q) xs
+      → lookup (same_key q) (remove_entry (same_key k) (x ∷ xs)) ≡ lookup (same_key q) (x ∷ xs)
   other_step true k q x xs e apart ih = let other : same_key q x.0 ≡ false = ap (same_key q) (sym (key_same k x.0 e)) ∙ apart in rw (e, other) refl
   other_step false k q x xs e apart ih = rw e (ap (cond (same_key q x.0) (Some x.1)) ih)
 
@@ -368,7 +374,9 @@ count_by_lookup : (us vs : Uses) (q : SegmentKey) → lookup (same_key q) vs ≡
 count_by_lookup us vs q e = ap (λ o. option_map_or (λ n. n) o 0) e
 
 module _ (n : ℕ) (k : SegmentKey) (us : Uses) (long : length us ≤ n) where
-  cut_other : (q : SegmentKey) (v : ℕ) (o : Option (SegmentKey × ℕ)) → slice_get us (n - 1) ≡ o → option_map_or (λ e. Some e.0) o None ≡ None ⊎ ((d : SegmentKey) × (option_map_or (λ e. Some e.0) o None ≡ Some d) × (same_key q d ≡ false)) → same_key q k ≡ false → count_of ((k, v) ∷ take (n - 1) us) q ≡ count_of us q
+  cut_other : (q : SegmentKey) (v : ℕ) (o : Option (SegmentKey × ℕ)) → slice_get us (n - 1) ≡ o
+      → option_map_or (λ e. Some e.0) o None ≡ None ⊎ ((d : SegmentKey) × (option_map_or (λ e. Some e.0) o None ≡ Some d) × (same_key q d ≡ false))
+      → same_key q k ≡ false → count_of ((k, v) ∷ take (n - 1) us) q ≡ count_of us q
   cut_other q v None e h apart = rw apart (ap (λ vs. count_of vs q) (take_all (n - 1) us (get_there us (n - 1) e)))
   cut_other q v (Some d) e (inl h) apart = absurd (cc)
   cut_other q v (Some d) e (inr h) apart =
@@ -640,7 +648,9 @@ module _ (test : SegmentKey → Bool) (es : List Entry) (f b : Bool) where
       go (Some x) e = let no : true ≡ false = sym (ap is_some e) ∙ h in absurd (cc)
 
 -- what a put leaves
-pub rare_is : (q : SegmentEviction) (k : SegmentKey) (v : List ℕ) (b : Bounded) (r room : Bool) (n : ℕ) → q ≡ by.TinyLfu → n ≡ length v → room ≡ fits (b.capacity - n) (b.max_entries - 1) b.pairs → r ≡ (is_none (lookup (same_key k) b.pairs) && not room && is_least b.uses k b.pairs) → r ≡ is_rare q k v b
+pub rare_is : (q : SegmentEviction) (k : SegmentKey) (v : List ℕ) (b : Bounded) (r room : Bool) (n : ℕ) → q ≡ by.TinyLfu → n ≡ length v
+    → room ≡ fits (b.capacity - n) (b.max_entries - 1) b.pairs → r ≡ (is_none (lookup (same_key k) b.pairs) && not room && is_least b.uses k b.pairs)
+    → r ≡ is_rare q k v b
 rare_is q k v b r room n tiny size roomy is =
     is ∙ ap (λ x. is_none (lookup (same_key k) b.pairs) && not x && is_least b.uses k b.pairs) (roomy ∙ ap (λ m. fits (b.capacity - m) (b.max_entries - 1) b.pairs) size)
     ∙ sym (ap (λ e. is_rare e k v b) tiny)
@@ -653,7 +663,9 @@ fits_is c n w l es wis lis light =
 pub index_removed : (test : SegmentKey → Bool) (us : Uses) (o : Order) (es : List Entry) → Indexed us o es → Indexed us o (remove_entry test es)
 index_removed test us o es x = indexed_all us o (remove_entry test es) (λ e i. indexed_at us o es e x (in_removed test es e i))
 
-kept_front : (us : Uses) (n m t : ℕ) (qs es : List Entry) (k : SegmentKey) (v : List ℕ) → slice_get es 0 ≡ Some (k, held v t) → plain (behind true es) ≡ trimmed us (n - (length v + 0)) m (plain (remove_entry (same_key k) qs)) → IsDistinct same_key (keys_of qs) → plain es ≡ (k, v) ∷ trimmed us (n - length v) m (without k (plain qs))
+kept_front : (us : Uses) (n m t : ℕ) (qs es : List Entry) (k : SegmentKey) (v : List ℕ) → slice_get es 0 ≡ Some (k, held v t)
+    → plain (behind true es) ≡ trimmed us (n - (length v + 0)) m (plain (remove_entry (same_key k) qs)) → IsDistinct same_key (keys_of qs)
+    → plain es ≡ (k, v) ∷ trimmed us (n - length v) m (without k (plain qs))
 kept_front us n m t qs [] k v s p d = absurd (cc)
 kept_front us n m t qs (e ∷ es) k v s p d =
     let one : e ≡ (k, held v t) = cc in
@@ -663,7 +675,10 @@ kept_front us n m t qs (e ∷ es) k v s p d =
     p ∙ ap (λ c. trimmed us c m (plain (remove_entry (same_key k) qs))) less ∙ ap (trimmed us (n - length v) m) (plain-removed (same_key k) qs ∙ removed-without k (plain qs) apart) in
     λ i. bare (one i) ∷ rest i
 
-pub kept_used : (us : Uses) (n m t : ℕ) (qs ds es : List Entry) (k : SegmentKey) (v : List ℕ) → IsDistinct same_key (keys_of qs) → ds ≡ (k, held v t) ∷ remove_entry (same_key k) qs → slice_get es 0 ≡ slice_get ds 0 → plain (behind true es) ≡ trimmed us (n - weight (take 1 (plain ds))) m (plain (behind true ds)) → plain es ≡ (k, v) ∷ trimmed us (n - length v) m (without k (plain qs))
+pub kept_used : (us : Uses) (n m t : ℕ) (qs ds es : List Entry) (k : SegmentKey) (v : List ℕ) → IsDistinct same_key (keys_of qs)
+    → ds ≡ (k, held v t) ∷ remove_entry (same_key k) qs → slice_get es 0 ≡ slice_get ds 0
+    → plain (behind true es) ≡ trimmed us (n - weight (take 1 (plain ds))) m (plain (behind true ds))
+    → plain es ≡ (k, v) ∷ trimmed us (n - length v) m (without k (plain qs))
 kept_used us n m t qs ds es k v d e f p =
     kept_front us n m t qs es k v (f ∙ ap (λ xs. slice_get xs 0) e) (p ∙ (λ i. trimmed us (n - weight (take 1 (plain (e i)))) m (plain (behind true (e i))))) d
 

@@ -52,7 +52,9 @@ fitted-all c zero (e ∷ es) w l = absurd (omega arith)
 fitted-all c (suc n) [] w l = refl
 fitted-all c (suc n) (e ∷ es) w l = let yes : nat_le (length e.1) c ≡ true = grind (arith, nat_tests) in rw yes (ap (λ xs. e ∷ xs) (fitted-all (c - length e.1) n es (omega arith) (omega arith)))
 
-front_step : (b : Bool) (c n : ℕ) (e x : Pair) (es : List Pair) → nat_le (length e.1) c ≡ b → c < weight ((e ∷ es) ++ x ∷ []) → (c - length e.1 < weight (es ++ x ∷ []) → fitted (c - length e.1) n (es ++ x ∷ []) ≡ fitted (c - length e.1) n es) → fitted c (suc n) ((e ∷ es) ++ x ∷ []) ≡ fitted c (suc n) (e ∷ es)
+front_step : (b : Bool) (c n : ℕ) (e x : Pair) (es : List Pair) → nat_le (length e.1) c ≡ b → c < weight ((e ∷ es) ++ x ∷ [])
+    → (c - length e.1 < weight (es ++ x ∷ []) → fitted (c - length e.1) n (es ++ x ∷ []) ≡ fitted (c - length e.1) n es)
+    → fitted c (suc n) ((e ∷ es) ++ x ∷ []) ≡ fitted c (suc n) (e ∷ es)
 front_step true c n e x es eq over ih = let le : length e.1 ≤ c = grind (arith, nat_tests) in rw eq (ap (λ xs. e ∷ xs) (ih (omega arith)))
 front_step false c n e x es eq over ih = rw eq refl
 

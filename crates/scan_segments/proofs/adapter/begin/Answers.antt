@@ -31,7 +31,9 @@ returns-in-Asked-clause-looks g c = inl (record { way = looked.Asked; looks = c.
 pub returns-in-NoMemory-clause-linked : goal.returns-in-NoMemory-clause-linked
 returns-in-NoMemory-clause-linked g c =
     let i = idle c.args.id (g.S.SegmentSource.state c.args.source.now).live c.args.stages.now.entries c.requires.linked c.requires.fresh in
-    relinked c.args.id None _ _ c.args.stages.now.entries _ c.requires.linked (λ q. ap (λ l. l q) (no_memory_live c.args.id _ _ (g.S.SegmentSource.state c.args.source.now) (g.S.SegmentSource.state c.look.new.source) c.in-NoMemory.ensures) ∙ live_same c.args.id (g.S.SegmentSource.state c.args.source.now).live false i.1 q)
+    relinked c.args.id None _ _ c.args.stages.now.entries _ c.requires.linked
+    (λ q. ap (λ l. l q) (no_memory_live c.args.id _ _ (g.S.SegmentSource.state c.args.source.now)
+    (g.S.SegmentSource.state c.look.new.source) c.in-NoMemory.ensures) ∙ live_same c.args.id (g.S.SegmentSource.state c.args.source.now).live false i.1 q)
     (set_twice c.args.id None (Some stage.Looking) c.args.stages.now.entries _ _ c.in_ok-add_stage.ensures.ok c.end.ensures.stages)
 
 pub returns-in-NoMemory-clause-err : goal.returns-in-NoMemory-clause-err

@@ -39,7 +39,9 @@ pub returns-then-end_entry-clause-agree : goal.returns-then-end_entry-clause-agr
 returns-then-end_entry-clause-agree g c =
     let es = c.args.entries.now.entries in
     let others = sym c.take_holder.ensures.others ∙ c.if-take_holder.false in
-    let live : is_live (entry_at es c.args.id) ≡ true = sym (live_without c.args.number (entry_at es c.args.id) c.requires.held) ∙ sym (ap is_live (here c.args.id (Some (without_number c.args.number (entry_at es c.args.id))) es c.take_holder.new.entries.entries c.take_holder.ensures.moves)) ∙ sym c.end_entry.ensures.live ∙ c.if-end_entry.true in
+    let live : is_live (entry_at es c.args.id) ≡ true = sym (live_without c.args.number (entry_at es c.args.id) c.requires.held)
+    ∙ sym (ap is_live (here c.args.id (Some (without_number c.args.number (entry_at es c.args.id))) es c.take_holder.new.entries.entries
+    c.take_holder.ensures.moves)) ∙ sym c.end_entry.ensures.live ∙ c.if-end_entry.true in
     ends_agree (g.S.SegmentSource.state c.args.source.now).live (g.S.SegmentSource.state c.drop_request.new.self).live c.args.id c.args.number true es c.end_entry.new.entries.entries c.requires.agree c.requires.held others live c.drop_request.ensures.live
     (leaves c.args.id c.args.number None es c.end_entry.new.entries.entries (left_none c.args.number (entry_at es c.args.id) others)
     (moves_twice c.args.id None (Some (without_number c.args.number (entry_at es c.args.id))) es c.take_holder.new.entries.entries c.end_entry.new.entries.entries c.take_holder.ensures.moves c.end_entry.ensures.moves))
@@ -48,7 +50,9 @@ pub returns-else-end_entry-clause-agree : goal.returns-else-end_entry-clause-agr
 returns-else-end_entry-clause-agree g c =
     let es = c.args.entries.now.entries in
     let others = sym c.take_holder.ensures.others ∙ c.if-take_holder.false in
-    let live : is_live (entry_at es c.args.id) ≡ false = sym (live_without c.args.number (entry_at es c.args.id) c.requires.held) ∙ sym (ap is_live (here c.args.id (Some (without_number c.args.number (entry_at es c.args.id))) es c.take_holder.new.entries.entries c.take_holder.ensures.moves)) ∙ sym c.end_entry.ensures.live ∙ c.if-end_entry.false in
+    let live : is_live (entry_at es c.args.id) ≡ false = sym (live_without c.args.number (entry_at es c.args.id) c.requires.held)
+    ∙ sym (ap is_live (here c.args.id (Some (without_number c.args.number (entry_at es c.args.id))) es c.take_holder.new.entries.entries
+    c.take_holder.ensures.moves)) ∙ sym c.end_entry.ensures.live ∙ c.if-end_entry.false in
     ends_agree (g.S.SegmentSource.state c.args.source.now).live (g.S.SegmentSource.state c.args.source.now).live c.args.id c.args.number false es c.end_entry.new.entries.entries c.requires.agree c.requires.held others live refl
     (leaves c.args.id c.args.number None es c.end_entry.new.entries.entries (left_none c.args.number (entry_at es c.args.id) others)
     (moves_twice c.args.id None (Some (without_number c.args.number (entry_at es c.args.id))) es c.take_holder.new.entries.entries c.end_entry.new.entries.entries c.take_holder.ensures.moves c.end_entry.ensures.moves))

@@ -20,13 +20,17 @@ pub returns-in-Ok-clause-kept : goal.returns-in-Ok-clause-kept
 returns-in-Ok-clause-kept c =
     let lost : forgotten c.args.uses.now.cap c.args.key.now c.args.uses.now.entries ≡ Some c.in-Some.lost.now = search rules in
     let there : lookup (same_key c.in-Some.lost.now) c.args.pairs.now.entries ≡ Some c.in-Some-peek.held.now = search rules in
-    index_lost c.args.uses.now.cap c.args.key.now c.args.uses.now.entries c.args.order.now c.args.pairs.now.entries c.len-count.ensures.valid.1 c.len-len.ensures.valid.0 c.requires.indexed c.requires.fall.0 c.requires.fall.1 c.insert.new.self c.in-Some.lost.now c.in_ok-try_clone.field-0 c.in-Some-peek.held.now lost there c.in_ok-try_clone.ensures c.in-Ok.ensures.updates
+    index_lost c.args.uses.now.cap c.args.key.now c.args.uses.now.entries c.args.order.now c.args.pairs.now.entries c.len-count.ensures.valid.1
+    c.len-len.ensures.valid.0 c.requires.indexed c.requires.fall.0 c.requires.fall.1 c.insert.new.self c.in-Some.lost.now c.in_ok-try_clone.field-0
+    c.in-Some-peek.held.now lost there c.in_ok-try_clone.ensures c.in-Ok.ensures.updates
 
 pub returns-in-Ok-clause-counted : goal.returns-in-Ok-clause-counted
 returns-in-Ok-clause-counted c =
     let lost : forgotten c.args.uses.now.cap c.args.key.now c.args.uses.now.entries ≡ Some c.in-Some.lost.now = search rules in
     let there : lookup (same_key c.in-Some.lost.now) c.args.pairs.now.entries ≡ Some c.in-Some-peek.held.now = search rules in
-    index_moved c.args.uses.now.cap c.args.key.now c.args.uses.now.entries c.args.order.now c.args.pairs.now.entries c.len-count.ensures.valid.1 c.len-len.ensures.valid.0 c.requires.indexed c.requires.fall.0 c.requires.fall.1 c.insert.new.self c.in-Some.lost.now c.in_ok-try_clone.field-0 c.in-Some-peek.held.now lost there c.in_ok-try_clone.ensures c.in-Ok.ensures.updates c.len-count.ensures.valid.0
+    index_moved c.args.uses.now.cap c.args.key.now c.args.uses.now.entries c.args.order.now c.args.pairs.now.entries c.len-count.ensures.valid.1
+    c.len-len.ensures.valid.0 c.requires.indexed c.requires.fall.0 c.requires.fall.1 c.insert.new.self c.in-Some.lost.now c.in_ok-try_clone.field-0
+    c.in-Some-peek.held.now lost there c.in_ok-try_clone.ensures c.in-Ok.ensures.updates c.len-count.ensures.valid.0
 
 pub returns-clause-kept : goal.returns-clause-kept
 returns-clause-kept c = index_same c.args.uses.now.entries c.args.order.now c.insert.new.self c.args.pairs.now.entries c.in-Err.ensures.err c.requires.indexed

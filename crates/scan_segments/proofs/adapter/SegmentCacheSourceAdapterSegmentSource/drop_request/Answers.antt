@@ -11,4 +11,6 @@ invariant_of-self g c =
 
 pub invariant_of-self-else-was_asked : goal.invariant_of-self-else-was_asked
 invariant_of-self-else-was_asked g c =
-    relinked c.args.id None (g.S.SegmentSource.state c.self.inside.source).live _ c.self.inside.stages.entries _ c.self.invariant (live_same c.args.id (g.S.SegmentSource.state c.self.inside.source).live false (c.self.invariant c.args.id ∙ sym c.has_asked-was_asked.ensures ∙ c.if-was_asked.false)) c.end.ensures.stages
+    relinked c.args.id None (g.S.SegmentSource.state c.self.inside.source).live _ c.self.inside.stages.entries _ c.self.invariant
+    (live_same c.args.id (g.S.SegmentSource.state c.self.inside.source).live false
+    (c.self.invariant c.args.id ∙ sym c.has_asked-was_asked.ensures ∙ c.if-was_asked.false)) c.end.ensures.stages

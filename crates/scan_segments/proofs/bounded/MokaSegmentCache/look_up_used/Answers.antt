@@ -19,8 +19,18 @@ invariant_of-self-in-Ok-Some c =
     let old = plain-length s.pairs.entries in
     let new = plain-length c.use_key.new.pairs.entries in
     let few = i.2 in
-    let next : c.in-Some.next ≡ s.clock + 1 = search rules in
-    (i.0 ∙ sym w, i.1, omega arith, i.3, c.use_key.ensures.cap ∙ i.4, ap (λ l. l.cap) u.uses ∙ i.5, λ _. (subst (λ m. Falls m c.use_key.new.pairs.entries) (sym next) u.fall, subst (λ o. Indexed c.use_key.new.uses.entries c.use_key.new.order (behind (is_some o) c.use_key.new.pairs.entries)) c.in-Ok-Some.field-0-is u.indexed))
+    let next : c.in-Some.next ≡ s.clock + 1 = search rules in (
+      i.0 ∙ sym w,
+      i.1,
+      omega arith,
+      i.3,
+      c.use_key.ensures.cap ∙ i.4,
+      ap (λ l. l.cap) u.uses ∙ i.5,
+      λ _. (
+        subst (λ m. Falls m c.use_key.new.pairs.entries) (sym next) u.fall,
+        subst (λ o. Indexed c.use_key.new.uses.entries c.use_key.new.order (behind (is_some o) c.use_key.new.pairs.entries)) c.in-Ok-Some.field-0-is u.indexed,
+      ),
+    )
 
 pub invariant_of-self-in-Ok-None : goal.invariant_of-self-in-Ok-None
 invariant_of-self-in-Ok-None c =
@@ -32,8 +42,18 @@ invariant_of-self-in-Ok-None c =
     let old = plain-length s.pairs.entries in
     let new = plain-length c.use_key.new.pairs.entries in
     let few = i.2 in
-    let next : c.in-Some.next ≡ s.clock + 1 = search rules in
-    (i.0 ∙ sym w, i.1, omega arith, i.3, c.use_key.ensures.cap ∙ i.4, ap (λ l. l.cap) u.uses ∙ i.5, λ _. (subst (λ m. Falls m c.use_key.new.pairs.entries) (sym next) u.fall, subst (λ o. Indexed c.use_key.new.uses.entries c.use_key.new.order (behind (is_some o) c.use_key.new.pairs.entries)) c.in-Ok-None.field-0-is u.indexed))
+    let next : c.in-Some.next ≡ s.clock + 1 = search rules in (
+      i.0 ∙ sym w,
+      i.1,
+      omega arith,
+      i.3,
+      c.use_key.ensures.cap ∙ i.4,
+      ap (λ l. l.cap) u.uses ∙ i.5,
+      λ _. (
+        subst (λ m. Falls m c.use_key.new.pairs.entries) (sym next) u.fall,
+        subst (λ o. Indexed c.use_key.new.uses.entries c.use_key.new.order (behind (is_some o) c.use_key.new.pairs.entries)) c.in-Ok-None.field-0-is u.indexed,
+      ),
+    )
 
 pub returns-in-Ok-None : goal.returns-in-Ok-None
 returns-in-Ok-None c =

@@ -14,7 +14,11 @@ returns-in_default-clause-polled c = rw (← c.self.view_is) (
 )
 
 pub returns-in_default-clause-exact : goal.returns-in_default-clause-exact
-returns-in_default-clause-exact c = rw (← c.self.view_is) (inl (answers-missing c.args.id (the_view c.self.inside) (sym c.step.ensures.outcome ∙ c.in-Goes.is) (get-from_entries-lookup _ _ ∙ sym c.in_default.ensures.value)), c.end-in_default.ensures.after ∙ stepped_over c.args.id (the_view c.self.inside) c.step.new.self c.step.ensures.after)
+returns-in_default-clause-exact c = rw (← c.self.view_is) (
+  inl (answers-missing c.args.id (the_view c.self.inside) (sym c.step.ensures.outcome ∙ c.in-Goes.is)
+      (get-from_entries-lookup _ _ ∙ sym c.in_default.ensures.value)),
+  c.end-in_default.ensures.after ∙ stepped_over c.args.id (the_view c.self.inside) c.step.new.self c.step.ensures.after,
+)
 
 pub returns-clause-polled : goal.returns-clause-polled
 returns-clause-polled c = rw (← c.self.view_is) (
@@ -24,14 +28,20 @@ returns-clause-polled c = rw (← c.self.view_is) (
 )
 
 pub returns-clause-exact : goal.returns-clause-exact
-returns-clause-exact c = rw (← c.self.view_is) (inl (answers-bytes c.args.id _ (the_view c.self.inside) (sym c.step.ensures.outcome ∙ c.in-Goes.is) (get-from_entries-lookup _ _ ∙ (sym c.in-Some.ensures.value ∙ ap Some (sym c.in-Ok.ensures)))), c.end-2.ensures.after ∙ stepped_over c.args.id (the_view c.self.inside) c.step.new.self c.step.ensures.after)
+returns-clause-exact c = rw (← c.self.view_is) (
+  inl (answers-bytes c.args.id _ (the_view c.self.inside) (sym c.step.ensures.outcome ∙ c.in-Goes.is)
+      (get-from_entries-lookup _ _ ∙ (sym c.in-Some.ensures.value ∙ ap Some (sym c.in-Ok.ensures)))),
+  c.end-2.ensures.after ∙ stepped_over c.args.id (the_view c.self.inside) c.step.new.self c.step.ensures.after,
+)
 
 pub returns-in-Fails-clause-polled : goal.returns-in-Fails-clause-polled
 returns-in-Fails-clause-polled c =
     let moved = c.self-in-Fails.view_is ∙ c.end.ensures.after in
     let same : c.self-in-Fails.inside.faults ≡ c.self.inside.faults = ap (λ (m : MemoryState). m.faults) moved in
     rw (← c.self.view_is) (
-      ends c.args.id (the_view c.self.inside) _ c.step.new.self c.saturating_add-self-inside.result (ap (λ (m : MemoryState). record m { faults = c.saturating_add-self-inside.result }) moved) c.end.ensures.live c.step.ensures.turns (ap (λ (t : ScriptState). t.failing) c.step.ensures.after) (omega (arith, c.saturating_add-self-inside.ensures)),
+      ends c.args.id (the_view c.self.inside) _ c.step.new.self c.saturating_add-self-inside.result
+          (ap (λ (m : MemoryState). record m { faults = c.saturating_add-self-inside.result }) moved) c.end.ensures.live c.step.ensures.turns
+          (ap (λ (t : ScriptState). t.failing) c.step.ensures.after) (omega (arith, c.saturating_add-self-inside.ensures)),
       omega (arith, c.saturating_add-self-inside.ensures),
       can_fail (the_view c.self.inside).script (sym c.step.ensures.outcome ∙ c.in-Fails.is),
     )
