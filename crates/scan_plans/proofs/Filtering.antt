@@ -49,7 +49,7 @@ map_map f g (x ∷ xs) = ap (λ ys. f (g x) ∷ ys) (map_map f g xs)
 pub kept_read : (p : PlanTree) (store : Store) (k : ℕ) (bits : List Bool) (items : List Val) → map marked items ≡ map (value_at p store) (true_rows k bits) → by_rank bits (map (λ v. is_true (marked v)) items) ≡ kept p store k bits
 kept_read p store k bits items e = ap (by_rank bits) (map_map is_true marked items ∙ ap (map is_true) e) ∙ sym (kept_by p store k bits)
 
-kept_same : (f : Filter) (here : Came) (store : Store) (bits : List Bool) → Holds store here → Complete (wanted f.0 here (true_rows f.1 bits)) here → kept f.0 store f.1 bits ≡ kept f.0 (arrived here) f.1 bits
+pub kept_same : (f : Filter) (here : Came) (store : Store) (bits : List Bool) → Holds store here → Complete (wanted f.0 here (true_rows f.1 bits)) here → kept f.0 store f.1 bits ≡ kept f.0 (arrived here) f.1 bits
 kept_same f here store bits h c = kept_by f.0 store f.1 bits ∙ ap (λ (vs : List Marked). by_rank bits (map is_true vs)) (items_same f.0 here store (true_rows f.1 bits) h c) ∙ sym (kept_by f.0 (arrived here) f.1 bits)
 
 -- ---- steps

@@ -23,6 +23,7 @@ pub mod Columns
 pub mod Giving
 pub mod Checked
 pub mod Filtering
+pub mod Later
 pub mod ListWants
 pub mod Progressing
 pub mod Futures

@@ -1,24 +1,29 @@
 -- The array of a future: its masks first, then its values.
-use Rattle.std.proofs.Common.{◌≡◌, ◌+◌, ℕ, Bool, true, false, ◌||◌, List, [], ◌∷◌, map, drop, length, replicate, get_or, Some, None, Ok, Err, refl, ap, ◌∙◌, sym, arith}
-use Rattle.std.proofs.lemmas.List.{length-replicate}
+use Rattle.std.proofs.Common.{◌≡◌, ◌≤◌, ◌+◌, ◌^◌, ◌==◌, not, ℕ, Bool, true, false, ◌||◌, List, [], ◌∷◌, map, drop, length, replicate, get_or, Some, None, Result, Ok, Err, refl, ap, ◌∙◌, sym, arith}
+use Rattle.std.proofs.lemmas.Bool.Decides.{nat_tests}
+use Rattle.std.proofs.lemmas.List.{length-map, length-replicate}
+use Rattle.std.specs.List.{list_all}
 use Rattle.scan_values.specs.Arrays.{ArrayData}
 use Rattle.scan_values.specs.DataType.{DataType}
+use Rattle.scan_values.specs.Marked.{Marked}
 use Rattle.scan_values.specs.Val.{Val, null_val, marked}
 use Rattle.scan_segments.specs.Source.{Store}
 use Rattle.scan_plans.specs.Came.{Came, arrived, Holds}
 use Rattle.scan_plans.specs.Futures.{FutureData, masks_in, rows_of, SameFuture}
 use Rattle.scan_plans.specs.Given.{Gives}
-use Rattle.scan_plans.specs.MaskLists.{under, dtype_under, masks_overflow}
+use Rattle.scan_plans.specs.MaskLists.{under, nulled, dtype_under, masks_overflow}
+use Rattle.scan_plans.specs.Masks.{MaskData, mask_of}
 use Rattle.scan_plans.specs.Meaning.{value_at, overflow_on, plan_dtype, true_rows, Within}
 use Rattle.scan_plans.specs.PlanTree.{rows}
-use Rattle.scan_plans.specs.Projecting.{KnowsAll, IsUnder, under_known, Projects}
+use Rattle.scan_plans.specs.Projecting.{KnowsAll, IsUnder, under_known, Projects, KnowsItems}
 use Rattle.scan_plans.specs.Wants.{wanted, lacks, Complete, spoils, spoiled}
 use Rattle.scan_plans.specs.declared.fault.ReadFault.{ReadFault}
 use Rattle.scan_plans.specs.declared.fault.ReadFault.TheVariants.{Corrupt, Overflow, NoMemory}
 use Rattle.scan_plans.specs.declared.given.Given.TheVariants as given
+use Rattle.scan_plans.specs.declared.future.Items.{Items}
 use Rattle.scan_plans.specs.declared.future.Items.TheVariants.{Ready, Pending}
 use Rattle.scan_plans.proofs.Futures.{holds_itself, known_mask}
-use Rattle.scan_plans.proofs.Outer.{all_lacks, all_bad, all_spoils, all_within, all_under, all_dtype}
+use Rattle.scan_plans.proofs.Outer.{all_lacks, all_bad, all_spoils, all_within, all_under, all_dtype, nulled_length}
 use Rattle.scan_plans.proofs.Segments.{next_drop, at_drop}
 use Rattle.scan_plans.proofs.Transfer.{items_same, overflow_on_same}
 
@@ -40,6 +45,14 @@ none_over d vs store (i ∷ is) = none_over d vs store is
 
 pub array_within : (d : DataType) (vs : List Val) → Within (rows d vs) (0 + length (replicate (length vs) true))
 array_within d vs = let e = length-replicate (length vs) true in omega (arith, e)
+
+pub array_numbers : (n : ℕ) (vs : List Val) → n ≡ length vs → n ≤ 2 ^ 64 → 0 + length (replicate (length vs) true) ≤ 2 ^ 64
+array_numbers n vs e l = let r = length-replicate (length vs) true in omega (arith, e, r, l)
+
+-- it has no row where it has no item
+pub array_empty : (vs : List Val) → (length vs == 0) ≡ list_all not (replicate (length vs) true)
+array_empty [] = refl
+array_empty (v ∷ vs) = grind (arith, nat_tests)
 
 pub array_gives : (here : Came) (a b : ArrayData) → b ≡ a → Gives (rows a.dtype a.items) here (true_rows 0 (replicate (length a.items) true)) (Ok (given.Ready b))
 array_gives here a b e = (
@@ -87,6 +100,22 @@ module _ (here : Came) (new old : FutureData) (s : SameFuture here new old) (k :
   values_fault (Corrupt id) g = all_spoils (masks_in old) here (spoiled old.tree here (rows_of old (arrived here)) id) id k.1 ((λ i. spoiled (sym s.tree i) here (sym (rows_same (arrived here) (holds_itself here)) i) id) ∙ g)
   values_fault Overflow g = λ store h. ap (λ b. masks_overflow (masks_in old) store || b) (spilled_same store h g.0 ∙ g.1) ∙ or_true (masks_overflow (masks_in old) store)
   values_fault NoMemory g = tt
+
+  under_length : (store : Store) (ms : List MaskData) (vs : List Marked) → length (under store ms vs) ≡ length vs
+  under_length store [] vs = refl
+  under_length store (m ∷ ms) vs = under_length store ms (nulled (mask_of m store) vs) ∙ nulled_length (mask_of m store) vs
+
+  counts : (a : ArrayData) → Projects here old (Ok (Ready a)) → length a.items ≡ length rows_now
+  counts a p =
+      sym (length-map a.items marked) ∙ ap length (p.items (arrived here) (holds_itself here))
+      ∙ under_length (arrived here) old.outer (map (value_at old.tree (arrived here)) (rows_of old (arrived here)))
+      ∙ length-map (rows_of old (arrived here)) (value_at old.tree (arrived here))
+      ∙ ap length (sym (rows_same (arrived here) (holds_itself here)))
+
+  pub rows_known : (r : Result Items ReadFault) → Projects here old r → KnowsItems here old new r
+  rows_known (Ok (Ready a)) p = record { rows = rows_same; count = counts a p }
+  rows_known (Ok (Pending ids)) p = tt
+  rows_known (Err f) p = tt
 
 -- ---- where they are not
 pub masks_wait : (here : Came) (old : FutureData) (after : FutureData) (ids : List ℕ) → KnowsAll here (masks_in old) (masks_in after) (Ok (Some ids)) → Projects here old (Ok (Pending ids))

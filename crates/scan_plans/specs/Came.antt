@@ -18,3 +18,7 @@ arrived here id = option_and_then (λ bytes. bytes) (here id)
 -- what has arrived is what the store has
 abbrev pub Holds : Store → Came → Type 0
 Holds store here = (id : ℕ) (bytes : Option (List ℕ)) → here id ≡ Some bytes → store id ≡ bytes
+
+-- what has arrived of the first has arrived of the second
+abbrev pub Extends : Came → Came → Type 0
+Extends here more = (id : ℕ) (bytes : Option (List ℕ)) → here id ≡ Some bytes → more id ≡ Some bytes

@@ -1,5 +1,5 @@
 -- Arrays that may have to wait: projections of a plan under a mask, and arrays that are there, under further masks.
-use Rattle.std.specs.Prelude.{◌≡◌, ◌+◌, ◌||◌, ◌++◌, ℕ, Bool, true, false, List, [], ◌∷◌, length, map, replicate, refl}
+use Rattle.std.specs.Prelude.{◌≡◌, ◌≤◌, ◌+◌, ◌^◌, ◌||◌, ◌++◌, ℕ, Bool, true, false, List, [], ◌∷◌, length, map, replicate, refl}
 use Rattle.std.specs.Coded.{Coded, code_by, coded×, coded_list, coded_ℕ}
 use Rattle.scan_values.specs.Arrays.{ArrayData}
 use Rattle.scan_values.specs.DataType.{DataType}
@@ -58,6 +58,14 @@ future_dtype f = dtype_under f.outer (plan_dtype f.tree)
 abbrev pub rows_of : FutureData → Store → List ℕ
 rows_of f store = true_rows f.first (mask_of f.mask store)
 
+-- the rows of what is known of its mask
+abbrev pub known_rows : FutureData → List ℕ
+known_rows f = true_rows f.first (f.mask).known
+
+-- each row that its mask may give has a number
+abbrev pub InNumbers : FutureData → Type 0
+InNumbers f = f.first + length (f.mask).known ≤ 2 ^ 64
+
 -- their values, null outside the further masks
 abbrev pub items_of : FutureData → Store → List Marked
 items_of f store = under store f.outer (map (value_at f.tree store) (rows_of f store))
@@ -89,3 +97,8 @@ pub record GivesItems (here : Came) (f : FutureData) (a : ArrayData) : Type 0 wh
   pub dtype : a.dtype ≡ future_dtype f
   pub items : (store : Store) → Holds store here → map marked a.items ≡ items_of f store
   pub within : (store : Store) → Holds store here → future_overflow f store ≡ false
+
+-- what is known of its mask are the rows that it gave, whatever holds what has arrived, and an array has as many values
+pub record AreRows (here : Came) (old new : FutureData) (a : ArrayData) : Type 0 where
+  pub rows : (store : Store) → Holds store here → known_rows new ≡ rows_of old store
+  pub count : length a.items ≡ length (known_rows new)

@@ -8,9 +8,9 @@ use Rattle.scan_segments.specs.Source.{Store}
 use Rattle.scan_layout.specs.Places.{Place}
 use Rattle.scan_plans.specs.PlanTree.{PlanTree}
 use Rattle.scan_plans.specs.PlanCode.{plan_code}
-use Rattle.scan_plans.specs.Came.{Came, arrived, Holds}
+use Rattle.scan_plans.specs.Came.{Came, arrived, Extends, Holds}
 use Rattle.scan_plans.specs.Meaning.{value_at, overflow_on, plan_dtype, true_rows, Within}
-use Rattle.scan_plans.specs.Wants.{wanted, may, are_here, spoiled}
+use Rattle.scan_plans.specs.Wants.{wanted, may, are_here, lacks, spoiled}
 
 -- a plan that is to be true, and its row at which the mask begins
 abbrev pub Filter : Type 0
@@ -82,8 +82,11 @@ AreFilters n (f ∷ fs) = (Within f.0 (f.1 + n) × (is_bool_type (plan_dtype f.0
 abbrev pub IsMask : MaskData → Type 0
 IsMask m = AreFilters (length m.known) m.filters
 
--- two mask futures mean the same under every store that holds what has arrived, and the first wants no more
+-- Two mask futures mean the same under every store that holds what has arrived, and the first wants no more. Whatever
+-- arrives then, the same lacks for both, and what is no good for the first is none for the second.
 pub record SameMask (here : Came) (new old : MaskData) : Type 0 where
   pub mask : (store : Store) → Holds store here → mask_of new store ≡ mask_of old store
   pub overflow : (store : Store) → Holds store here → mask_overflow new store ≡ mask_overflow old store
   pub may : (id : ℕ) → is_among (mask_may new) id ≡ true → is_among (mask_may old) id ≡ true
+  pub lacking : (more : Came) → Extends here more → (id : ℕ) → lacks (mask_wanted new more) more id ≡ lacks (mask_wanted old more) more id
+  pub spoiling : (more : Came) → Extends here more → (id : ℕ) → mask_spoiled new more id ≡ true → mask_spoiled old more id ≡ true

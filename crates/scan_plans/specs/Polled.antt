@@ -5,7 +5,7 @@ use Rattle.scan_segments.specs.Source.{Store}
 use Rattle.scan_splits.specs.declared.poll.Poll.{Poll}
 use Rattle.scan_splits.specs.declared.poll.Poll.TheVariants.{Ready, Pending, Corrupt, Overflow, NoMemory}
 use Rattle.scan_plans.specs.Came.{Came, Holds}
-use Rattle.scan_plans.specs.Futures.{FutureData, GivesItems, future_wanted, future_spoiled, future_overflow}
+use Rattle.scan_plans.specs.Futures.{FutureData, AreRows, GivesItems, future_wanted, future_spoiled, future_overflow}
 use Rattle.scan_plans.specs.Given.{AreLacking}
 use Rattle.scan_plans.specs.Masks.{MaskData, mask_of, mask_overflow, mask_wanted, mask_spoiled}
 
@@ -18,6 +18,14 @@ Polls here f (Pending ids) = AreLacking (future_wanted f here) here ids
 Polls here f (Corrupt id) = future_spoiled f here id ≡ true
 Polls here f Overflow = (store : Store) → Holds store here → future_overflow f store ≡ true
 Polls here f NoMemory = Unit {0}
+
+-- After an array was given the rows of its values are known.
+abbrev pub KnowsRows : Came → FutureData → FutureData → Poll ArrayData → Type 0
+KnowsRows here old new (Ready a) = AreRows here old new a
+KnowsRows here old new (Pending ids) = Unit {0}
+KnowsRows here old new (Corrupt id) = Unit {0}
+KnowsRows here old new Overflow = Unit {0}
+KnowsRows here old new NoMemory = Unit {0}
 
 -- the same of a mask
 abbrev pub PollsMask : Came → MaskData → Poll (List Bool) → Type 0

@@ -6,7 +6,7 @@ use Rattle.scan_values.specs.Val.{marked}
 use Rattle.scan_segments.specs.Source.{Store}
 use Rattle.scan_layout.specs.Places.{Place}
 use Rattle.scan_plans.specs.Came.{Came, Holds}
-use Rattle.scan_plans.specs.Futures.{FutureData, GivesItems, future_wanted, future_spoiled, future_overflow}
+use Rattle.scan_plans.specs.Futures.{FutureData, AreRows, GivesItems, future_wanted, future_spoiled, future_overflow}
 use Rattle.scan_plans.specs.Given.{AreLacking}
 use Rattle.scan_plans.specs.MaskLists.{nulled, dtype_under, masks_overflow, masks_wanted, masks_spoiled}
 use Rattle.scan_plans.specs.Masks.{MaskData, mask_wanted}
@@ -63,3 +63,9 @@ Projects here f (Ok (Pending ids)) = AreLacking (future_wanted f here) here ids
 Projects here f (Err (Corrupt id)) = future_spoiled f here id ≡ true
 Projects here f (Err Overflow) = (store : Store) → Holds store here → future_overflow f store ≡ true
 Projects here f (Err NoMemory) = Unit {0}
+
+-- the rows of an array that is read are known from then on, and its values are as many
+abbrev pub KnowsItems : Came → FutureData → FutureData → Result Items ReadFault → Type 0
+KnowsItems here old new (Ok (Ready a)) = AreRows here old new a
+KnowsItems here old new (Ok (Pending ids)) = Unit {0}
+KnowsItems here old new (Err f) = Unit {0}

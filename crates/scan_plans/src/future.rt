@@ -1,5 +1,6 @@
 //! Arrays that may have to wait. An own type, after the Rust's `ArrayFuture`.
-ghost use Rattle.std.specs.Prelude.{◌≡◌, ◌+◌, ℕ, List, [], IfOk, Ok, Err, None, false, get_or, length, map};
+ghost use Rattle.std.specs.Prelude.{◌≡◌, ◌≤◌, ◌+◌, ◌^◌, ℕ, List, [], IfOk, Ok, Err, None, false, get_or, length, map, not};
+ghost use Rattle.std.specs.List.{list_all};
 ghost use Rattle.scan_values.specs.Arrays.{ArrayData};
 ghost use Rattle.scan_values.specs.DataType.{with_nullability};
 ghost use Rattle.scan_values.specs.Val.{marked};
@@ -7,15 +8,15 @@ ghost use Rattle.scan_values.specs.declared.ptype.Nullability.{Nullability};
 ghost use Rattle.scan_segments.specs.Source.{Store};
 ghost use Rattle.scan_plans.specs.Came.{Came, came};
 ghost use Rattle.scan_plans.specs.FutureView.{source_tree, source_first, source_mask};
-ghost use Rattle.scan_plans.specs.Futures.{FutureData, future_data, array_data, masked_data, future_dtype, future_wanted, future_may, items_of, masks_in, rows_of, SameFuture};
+ghost use Rattle.scan_plans.specs.Futures.{FutureData, future_data, array_data, masked_data, future_dtype, future_wanted, future_may, items_of, known_rows, masks_in, rows_of, SameFuture};
 ghost use Rattle.scan_plans.specs.Given.{Gives};
 ghost use Rattle.scan_plans.specs.Knowing.{Knows};
 ghost use Rattle.scan_plans.specs.MaskLists.{nulled, SameMasks};
 ghost use Rattle.scan_plans.specs.Masks.{mask_of, SameMask};
 ghost use Rattle.scan_plans.specs.Meaning.{Within, true_rows};
 ghost use Rattle.scan_plans.specs.PlanTree.{PlanTree};
-ghost use Rattle.scan_plans.specs.Polled.{Polls};
-ghost use Rattle.scan_plans.specs.Projecting.{KnowsAll, IsUnder, padded, as_given, Projects};
+ghost use Rattle.scan_plans.specs.Polled.{Polls, KnowsRows};
+ghost use Rattle.scan_plans.specs.Projecting.{KnowsAll, IsUnder, padded, as_given, Projects, KnowsItems};
 
 use crate::fault::ReadFault;
 use crate::given::{Given, give};
@@ -59,7 +60,7 @@ pub struct ArrayFuture {
 }
 
 impl Model for ArrayFuture {
-    ghost use Rattle.scan_plans.specs.Futures.{FutureData, future_code, IsFuture};
+    ghost use Rattle.scan_plans.specs.Futures.{FutureData, future_code, IsFuture, InNumbers};
 
     ghost Value = { FutureData };
 
@@ -69,7 +70,10 @@ impl Model for ArrayFuture {
 
     ghost view = { λ a. future_of a.source a.outer.items };
 
-    ghost invariant = { λ a. IsFuture (future_of a.source a.outer.items) };
+    ghost invariant = { λ a. record {
+      within : IsFuture (future_of a.source a.outer.items);
+      numbers : InNumbers (future_of a.source a.outer.items);
+    } };
 }
 
 impl Plan {
@@ -84,6 +88,7 @@ impl Plan {
         ensures { IfOk result (λ f. f ≡ future_data plan.now.value range.now.start mask) }
     {
         let alloc = mask.alloc();
+        let _end = range.end;
         Ok(ArrayFuture {
             source: Source::Plan(plan.clone()?, range.start, mask),
             outer: Vec::new(alloc),
@@ -120,6 +125,44 @@ impl Source {
             Source::Array(array) => Ok(Items::Ready(array.try_clone(alloc)?)),
         }
     }
+
+    /// Whether no row is true of what is known of its mask.
+    fn is_empty(&self) -> bool
+        ensures { result ≡ list_all not (source_mask self.now).known }
+    {
+        match self {
+            Source::Plan(_, _, mask) => mask.known().all_false(),
+            Source::Array(array) => array.is_empty(),
+        }
+    }
+
+    /// The numbers of the true rows of what is known of its mask.
+    fn rows(&self, alloc: Global) -> Result<Vec<u64>, NoMemory>
+        requires { source_first self.now + length (source_mask self.now).known ≤ 2 ^ 64 }
+        ensures { IfOk result (λ v. v.items ≡ true_rows (source_first self.now) (source_mask self.now).known) }
+    {
+        match self {
+            Source::Plan(_, first, mask) => true_numbers(alloc, *first, mask.known().as_slice()),
+            Source::Array(array) => {
+                let all = Mask::new_true(alloc, array.len())?;
+                true_numbers(alloc, 0, all.as_slice())
+            }
+        }
+    }
+}
+
+/// The numbers of the true rows of a mask that begins at a row.
+fn true_numbers(alloc: Global, first: u64, bits: &[bool]) -> Result<Vec<u64>, NoMemory>
+    requires { first + length bits.now ≤ 2 ^ 64 }
+    ensures { IfOk result (λ v. v.items ≡ true_rows first bits.now) }
+{
+    let mut rows = Vec::new(alloc);
+    for i in 0..bits.len() {
+        if bits[i] {
+            rows.push(first + i as u64)?;
+        }
+    }
+    Ok(rows)
 }
 
 /// The array of a column. It is made here, and nowhere before.
@@ -189,6 +232,7 @@ impl ArrayFuture {
         ensures wants { (here : Came) → future_wanted result here ≡ [] }
         ensures may { future_may result ≡ [] }
     {
+        let _count = array.len();
         ArrayFuture {
             source: Source::Array(array),
             outer: Vec::new(alloc),
@@ -235,6 +279,7 @@ impl ArrayFuture {
     fn read(&mut self, alloc: Global, inbox: &Inbox) -> Result<Items, ReadFault>
         ensures same { SameFuture (came inbox.now) self.new self.old }
         ensures answer { Projects (came inbox.now) self.old result }
+        ensures rows { KnowsItems (came inbox.now) self.old self.new result }
     {
         if let Some(ids) = self.know(alloc, inbox)? {
             return Ok(Items::Pending(ids));
@@ -246,17 +291,35 @@ impl ArrayFuture {
     pub fn poll(&mut self, alloc: Global, inbox: &Inbox) -> Poll<Array>
         ensures answer { Polls (came inbox.now) self.old result }
         ensures same { SameFuture (came inbox.now) self.new self.old }
+        ensures rows { KnowsRows (came inbox.now) self.old self.new result }
     {
         match self.read(alloc, inbox) {
             Ok(items) => answered(items),
             Err(fault) => refused(fault),
         }
     }
+
+    /// The numbers of the rows of what is known of its mask, in order. Once a poll gave an array these are the rows of
+    /// its values, of an array that is there the numbers of its items.
+    pub fn rows(&self, alloc: Global) -> Result<Vec<u64>, NoMemory>
+        ensures { IfOk result (λ v. v.items ≡ known_rows self.now) }
+    {
+        self.source.rows(alloc)
+    }
+
+    /// Whether no row is left of what is known of its mask, so that it gives none.
+    pub fn is_empty(&self) -> bool
+        ensures { result ≡ list_all not (self.now.mask).known }
+    {
+        self.source.is_empty()
+    }
 }
 
 /// The answer of a poll of which this is read.
 fn answered(items: Items) -> Poll<Array>
-    ensures { (here : Came) (f : FutureData) → Projects here f (Ok items) → Polls here f result }
+    ensures answer { (here : Came) (f : FutureData) → Projects here f (Ok items) → Polls here f result }
+    ensures rows { (here : Came) (old new : FutureData) → KnowsItems here old new (Ok items) →
+        KnowsRows here old new result }
 {
     match items {
         Items::Ready(array) => Poll::Ready(array),
@@ -266,7 +329,8 @@ fn answered(items: Items) -> Poll<Array>
 
 /// The answer of a poll that refuses.
 fn refused(fault: ReadFault) -> Poll<Array>
-    ensures { (here : Came) (f : FutureData) → Projects here f (Err fault) → Polls here f result }
+    ensures answer { (here : Came) (f : FutureData) → Projects here f (Err fault) → Polls here f result }
+    ensures rows { (here : Came) (old new : FutureData) → KnowsRows here old new result }
 {
     match fault {
         ReadFault::Corrupt(id) => Poll::Corrupt(id),

@@ -145,10 +145,35 @@ pub(crate) fn project_all(alloc: Global, plan: &Arc<Plan>) -> Result<ArrayFuture
     Ok(Plan::project(plan, &(0..3), mask)?)
 }
 
+/// The values of the last of the first three rows of a plan.
+pub(crate) fn project_last(alloc: Global, plan: &Arc<Plan>) -> Result<ArrayFuture, Fail>
+    requires { Within (plan.now.value).tree 3 }
+{
+    let mask = MaskFuture::new_true(alloc, 1)?;
+    Ok(Plan::project(plan, &(2..3), mask)?)
+}
+
+/// The values of the first three rows of a plan under a mask that may have to wait.
+pub(crate) fn project_under(plan: &Arc<Plan>, mask: MaskFuture) -> Result<ArrayFuture, Fail>
+    requires rows { Within (plan.now.value).tree 3 }
+    requires length { length mask.known ≡ 3 }
+{
+    Ok(Plan::project(plan, &(0..3), mask)?)
+}
+
+/// Whether the rows whose values a future gave are these.
+pub(crate) fn are_rows(alloc: Global, future: &ArrayFuture, numbers: &[u64]) -> bool {
+    match future.rows(alloc) {
+        Ok(rows) => rows.as_slice() == numbers,
+        Err(_) => false,
+    }
+}
+
 /// The first three rows of a plan, under a mask, that are true.
 pub(crate) fn filter(alloc: Global, plan: &Arc<Plan>, bits: [bool; 3]) -> Result<MaskFuture, Fail>
     requires rows { Within (plan.now.value).tree 3 }
     requires dtype { is_bool_type (plan_dtype (plan.now.value).tree) ≡ true }
+    ensures { IfOk result (λ m. length m.known ≡ 3) }
 {
     let mask = known(alloc, &bits)?;
     Ok(Plan::filter(plan, &(0..3), mask)?)

@@ -1,7 +1,7 @@
 //! Arrays that are there, arrays under masks, pruned masks, and futures that are polled by threads.
 use crate::fixtures::{
-    deliver, filter, gives_mask, gives_values, known, numbers, plan_above_one, plan_of_leaf,
-    project_all, prune, wants,
+    are_rows, deliver, filter, gives_mask, gives_values, known, numbers, plan_above_one,
+    plan_of_leaf, project, project_all, project_last, project_under, prune, wants,
 };
 use scan_plans::{ArrayFuture, MaskFuture};
 use scan_splits::Inbox;
@@ -40,6 +40,63 @@ fn an_array_that_is_there_is_given_at_once_and_again(rt: HostRuntime) -> Result<
     let mut future = ready(alloc)?;
     assert!(rt; gives(alloc, &mut future, &inbox, &[Some(1), Some(2), Some(3)]));
     assert!(rt; gives(alloc, &mut future, &inbox, &[Some(1), Some(2), Some(3)]));
+    Ok(())
+}
+
+#[test]
+fn the_rows_of_an_array_that_is_there_are_those_of_its_items(rt: HostRuntime) -> Result<(), Fail> {
+    let alloc = rt.alloc();
+    let inbox = Inbox::new(alloc);
+    let mut future = ready(alloc)?;
+    assert!(rt; gives(alloc, &mut future, &inbox, &[Some(1), Some(2), Some(3)]));
+    assert!(rt; are_rows(alloc, &future, &[0, 1, 2]));
+    Ok(())
+}
+
+#[test]
+fn the_rows_of_a_range_past_the_first_row_begin_with_its_start(
+    rt: HostRuntime,
+) -> Result<(), Fail> {
+    let alloc = rt.alloc();
+    let mut inbox = Inbox::new(alloc);
+    let plan = plan_of_leaf(alloc)?;
+    let mut future = project_last(alloc, &plan)?;
+    deliver(alloc, &mut inbox, 1, &[3, 0, 0, 0])?;
+    assert!(rt; gives(alloc, &mut future, &inbox, &[Some(3)]));
+    assert!(rt; are_rows(alloc, &future, &[2]));
+    Ok(())
+}
+
+#[test]
+fn a_projection_of_no_row_is_empty_before_it_is_polled(rt: HostRuntime) -> Result<(), Fail> {
+    let alloc = rt.alloc();
+    let plan = plan_of_leaf(alloc)?;
+    let none = project(alloc, &plan, [false, false, false])?;
+    let last = project_last(alloc, &plan)?;
+    assert!(rt; none.is_empty());
+    assert!(rt; !last.is_empty());
+    Ok(())
+}
+
+/// The rows of the leaf that are above 1.
+fn above_one(alloc: Global) -> Result<ArrayFuture, Fail> {
+    let above = plan_above_one(alloc)?;
+    let mask = filter(alloc, &above, [true, true, true])?;
+    let plan = plan_of_leaf(alloc)?;
+    project_under(&plan, mask)
+}
+
+#[test]
+fn the_rows_that_a_filter_drops_are_not_among_those_that_are_given(
+    rt: HostRuntime,
+) -> Result<(), Fail> {
+    let alloc = rt.alloc();
+    let mut inbox = Inbox::new(alloc);
+    let mut future = above_one(alloc)?;
+    deliver(alloc, &mut inbox, 0, &[1, 0, 0, 0, 2, 0, 0, 0])?;
+    deliver(alloc, &mut inbox, 1, &[3, 0, 0, 0])?;
+    assert!(rt; gives(alloc, &mut future, &inbox, &[Some(2), Some(3)]));
+    assert!(rt; are_rows(alloc, &future, &[1, 2]));
     Ok(())
 }
 

@@ -21,7 +21,7 @@ pub extends_then : (a b c : Came) → Extends a b → Extends b c → Extends a 
 extends_then a b c h k id bytes is = k id bytes (h id bytes is)
 
 pub mask_later : (here more : Came) (n m : MaskData) → Extends here more → SameMask here n m → SameMask more n m
-mask_later here more n m e s = record { mask = λ store h. s.mask store (holds_less store here more e h); overflow = λ store h. s.overflow store (holds_less store here more e h); may = s.may }
+mask_later here more n m e s = record { mask = λ store h. s.mask store (holds_less store here more e h); overflow = λ store h. s.overflow store (holds_less store here more e h); may = s.may; lacking = λ most x id. s.lacking most (extends_then here more most e x) id; spoiling = λ most x id h. s.spoiling most (extends_then here more most e x) id h }
 
 pub masks_later : (here more : Came) (ns ms : List MaskData) → Extends here more → SameMasks here ns ms → SameMasks more ns ms
 masks_later here more [] [] e s = tt
@@ -38,14 +38,14 @@ masks_then here [] [] (m ∷ ms) s t = absurd t
 masks_then here [] (n ∷ ns) ms s t = absurd s
 masks_then here (l ∷ ls) [] ms s t = absurd s
 masks_then here (l ∷ ls) (n ∷ ns) [] s t = absurd t
-masks_then here (l ∷ ls) (n ∷ ns) (m ∷ ms) s t = (record { mask = λ store h. s.0.mask store h ∙ t.0.mask store h; overflow = λ store h. s.0.overflow store h ∙ t.0.overflow store h; may = λ id h. t.0.may id (s.0.may id h) }, masks_then here ls ns ms s.1 t.1)
+masks_then here (l ∷ ls) (n ∷ ns) (m ∷ ms) s t = (record { mask = λ store h. s.0.mask store h ∙ t.0.mask store h; overflow = λ store h. s.0.overflow store h ∙ t.0.overflow store h; may = λ id h. t.0.may id (s.0.may id h); lacking = λ more x id. s.0.lacking more x id ∙ t.0.lacking more x id; spoiling = λ more x id h. t.0.spoiling more x id (s.0.spoiling more x id h) }, masks_then here ls ns ms s.1 t.1)
 
 pub future_then : (here : Came) (h g f : FutureData) → SameFuture here h g → SameFuture here g f → SameFuture here h f
 future_then here h g f s t = record { tree = s.tree ∙ t.tree; first = s.first ∙ t.first; masks = masks_then here (masks_in h) (masks_in g) (masks_in f) s.masks t.masks }
 
 masks_self : (here : Came) (ms : List MaskData) → SameMasks here ms ms
 masks_self here [] = tt
-masks_self here (m ∷ ms) = (record { mask = λ store h. refl; overflow = λ store h. refl; may = λ id h. h }, masks_self here ms)
+masks_self here (m ∷ ms) = (record { mask = λ store h. refl; overflow = λ store h. refl; may = λ id h. h; lacking = λ more x id. refl; spoiling = λ more x id h. h }, masks_self here ms)
 
 pub future_self : (here : Came) (f : FutureData) → SameFuture here f f
 future_self here f = record { tree = refl; first = refl; masks = masks_self here (masks_in f) }

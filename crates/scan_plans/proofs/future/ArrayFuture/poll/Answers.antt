@@ -2,7 +2,13 @@ use Rattle.scan_plans.specs.Came.{came}
 use Rattle.scan_plans.proofs.future.ArrayFuture.poll.Goals as goal
 
 pub returns-in-Ok-clause-answer : goal.returns-in-Ok-clause-answer
-returns-in-Ok-clause-answer c = c.answered.ensures (came c.args.inbox.now) c.args.self.now c.in-Ok.ensures.answer
+returns-in-Ok-clause-answer c = c.answered.ensures.answer (came c.args.inbox.now) c.args.self.now c.in-Ok.ensures.answer
 
 pub returns-in-Err-clause-answer : goal.returns-in-Err-clause-answer
-returns-in-Err-clause-answer c = c.refused.ensures (came c.args.inbox.now) c.args.self.now c.in-Err.ensures.answer
+returns-in-Err-clause-answer c = c.refused.ensures.answer (came c.args.inbox.now) c.args.self.now c.in-Err.ensures.answer
+
+pub returns-in-Ok-clause-rows : goal.returns-in-Ok-clause-rows
+returns-in-Ok-clause-rows c = c.answered.ensures.rows (came c.args.inbox.now) c.args.self.now c.read.new.self c.in-Ok.ensures.rows
+
+pub returns-in-Err-clause-rows : goal.returns-in-Err-clause-rows
+returns-in-Err-clause-rows c = c.refused.ensures.rows (came c.args.inbox.now) c.args.self.now c.read.new.self
