@@ -51,12 +51,12 @@ filter_twice p q (x ∷ xs) = go (p x) (q x) refl (filter_twice p q xs)
     go true false e rest = rw e rest
 
 module _ (s : ReaderState) (store : Store) where
-  rows_kept : (c : Bound) (first : ℕ) (bits : List Bool) → true_rows first (rows_true s c store first bits) ≡ filter (λ i. is_true (value_of s c store i)) (true_rows first bits)
+  pub rows_kept : (c : Bound) (first : ℕ) (bits : List Bool) → true_rows first (rows_true s c store first bits) ≡ filter (λ i. is_true (value_of s c store i)) (true_rows first bits)
   rows_kept c first [] = refl
   rows_kept c first (false ∷ bits) = rows_kept c (first + 1) bits
   rows_kept c first (true ∷ bits) = ap (λ xs. cond (is_true (value_of s c store first)) (first ∷ xs) xs) (rows_kept c (first + 1) bits)
 
-  rows_passed : (cs : List Bound) (first : ℕ) (bits : List Bool) → true_rows first (passed s cs store first bits) ≡ filter (passes s cs store) (true_rows first bits)
+  pub rows_passed : (cs : List Bound) (first : ℕ) (bits : List Bool) → true_rows first (passed s cs store first bits) ≡ filter (passes s cs store) (true_rows first bits)
   rows_passed [] first bits = sym (filter_all (true_rows first bits))
   rows_passed (c ∷ cs) first bits =
       rows_passed cs first (rows_true s c store first bits)

@@ -71,7 +71,7 @@ one_here : (p : Place) (here : Came) (id : ℕ) (b c d : Bool) → (p.id == id) 
 one_here p here id true c d e s r w = sym w ∙ some_none (here id) (subst (λ (n : ℕ). is_some (here n) ≡ true) (eqb-true p.id id e) s)
 one_here p here id false c d e s r w = r
 
-here_complete : (ps : List Place) (here : Came) → are_here ps here ≡ true → Complete ps here
+pub here_complete : (ps : List Place) (here : Came) → are_here ps here ≡ true → Complete ps here
 here_complete [] here h = λ id. refl
 here_complete (p ∷ ps) here h = λ id. one_here p here id (p.id == id) (names_id id ps) (is_none (here id)) refl (and_left (is_some (here p.id)) (are_here ps here) h) (here_complete ps here (and_right (is_some (here p.id)) (are_here ps here) h) id) refl
 
@@ -98,7 +98,7 @@ spilled_is s c p store first bits is w = sym (or_false (overflow_on p.tree store
 kept_same : (p : PlanTree) (k : ℕ) (here : Came) (store : Store) (bits : List Bool) → Holds store here → Complete (wanted p here (true_rows k bits)) here → kept p store k bits ≡ kept p (arrived here) k bits
 kept_same p k here store bits h c = kept_by p store k bits ∙ ap (λ (vs : List Marked). by_rank bits (map is_true vs)) (items_same p here store (true_rows k bits) h c) ∙ sym (kept_by p (arrived here) k bits)
 
-rows_length : (s : ReaderState) (e : Bound) (store : Store) (k : ℕ) (bits : List Bool) → length (rows_true s e store k bits) ≡ length bits
+pub rows_length : (s : ReaderState) (e : Bound) (store : Store) (k : ℕ) (bits : List Bool) → length (rows_true s e store k bits) ≡ length bits
 rows_length s e store k [] = refl
 rows_length s e store k (b ∷ bits) = ap suc (rows_length s e store (k + 1) bits)
 
@@ -106,7 +106,7 @@ rows_length s e store k (b ∷ bits) = ap suc (rows_length s e store (k + 1) bit
 next_within : (s : ReaderState) (c : Bound) (store : Store) (first : ℕ) (bits : List Bool) → first + length bits ≤ s.rows → first + length (rows_true s c store first bits) ≤ s.rows
 next_within s c store first bits w = let same = rows_length s c store first bits in omega (arith, same, w)
 
-filters_pass : (s : ReaderState) (cs : List Bound) (ps : List PlanData) (store : Store) (first : ℕ) (bits : List Bool) → ArePlansOf s cs ps → first + length bits ≤ s.rows → filtered store bits (filters_from first ps) ≡ passed s cs store first bits
+pub filters_pass : (s : ReaderState) (cs : List Bound) (ps : List PlanData) (store : Store) (first : ℕ) (bits : List Bool) → ArePlansOf s cs ps → first + length bits ≤ s.rows → filtered store bits (filters_from first ps) ≡ passed s cs store first bits
 filters_pass s [] [] store first bits a w = refl
 filters_pass s [] (p ∷ ps) store first bits a w = absurd a
 filters_pass s (c ∷ cs) [] store first bits a w = absurd a

@@ -1,5 +1,5 @@
 -- The splits of streams.
-use Rattle.std.proofs.Common.{◌≡◌, ◌≤◌, ◌<◌, ◌+◌, ◌-◌, ◌&&◌, ◌==◌, ◌++◌, ℕ, zero, suc, Bool, true, false, List, [], ◌∷◌, length, map, filter, nat_le, nat_lt, if◌then◌else◌, Option, Some, None, refl, ap, sym, subst, ◌∙◌, arith}
+use Rattle.std.proofs.Common.{◌≡◌, ◌≤◌, ◌<◌, ◌+◌, ◌-◌, ◌&&◌, ◌==◌, min, max, ◌++◌, ℕ, zero, suc, Bool, true, false, List, [], ◌∷◌, length, map, filter, nat_le, nat_lt, if◌then◌else◌, Option, Some, None, refl, ap, sym, subst, ◌∙◌, arith}
 use Rattle.std.proofs.lemmas.Bool.Decides.{nat_tests}
 use Rattle.std.proofs.lemmas.List.FromFn.{length-map-range_with_len}
 use Rattle.std.specs.declared.ops.Range.{Range}
@@ -15,9 +15,9 @@ use Rattle.scan_streams.specs.Queues.{AreWithin, queued, split_of_rows, picked_m
 use Rattle.scan_streams.specs.Splits.{AllOf, new_split, reach}
 use Rattle.scan_streams.specs.declared.queue.SplitRows.{SplitRows}
 use Rattle.scan_core.specs.Given.{Rises}
-use Rattle.scan_core.specs.RowRanges.{AreForward, AreRanges, IsRange, is_in, narrowed}
+use Rattle.scan_core.specs.RowRanges.{AreForward, AreRanges, IsRange, is_in, most_in, narrowed}
 use Rattle.scan_core.specs.ScanData.{ScanData, IsScan, scan_ranges}
-use Rattle.scan_core.specs.SplitRanges.{Follow, common, cut_at, last_from, neighbours, span_of, spanned, split_ranges}
+use Rattle.scan_core.specs.SplitRanges.{Follow, common, cut_at, last_from, neighbours, rows, span_of, spanned, split_ranges}
 use Rattle.scan_core.specs.Streaming.{split_rows, cut_to, first_rows, all_rows, rows_within}
 use Rattle.scan_core.proofs.Fewer.{reach_fewer}
 use Rattle.scan_core.proofs.Following.{splits_of_a_range, splits_of_all}
@@ -173,8 +173,35 @@ split_total : (n : ℕ) (bs : List ℕ) (o : Option (Range ℕ)) → is_rising b
 split_total n bs None h i = neighbours_total n bs h i
 split_total n bs (Some r) h i = cut_total n bs r h i
 
-pub stream_reach : {M : Type 0} (c : ScanData M) (r : Option (Range ℕ)) (s : Selection) (limit : Option ℕ) → IsScan c → AreRanges c.rows (scan_ranges c r) → reach (map new_split (queued c.plans s (rows_within s limit (map (narrowed s) (scan_ranges c r))))) ≤ c.rows
+-- and of those of a range no more than there are in it
+cut_size : (n : ℕ) (bs : List ℕ) (q r : Range ℕ) → is_rising bs ≡ true → AreRanges n (cut_at bs q) → r.start ≤ q.start → q.end ≤ r.end → total (cut_at bs q) ≤ r.end - r.start
+cut_size n bs q r h i low high = go (nat_lt q.start q.end) refl
+  where
+    go : (b : Bool) → nat_lt q.start q.end ≡ b → total (cut_at bs q) ≤ r.end - r.start
+    go true e =
+        let some : q.start < q.end = grind (arith, nat_tests, e) in
+        let sum = (follow_total n q.start q.end (cut_at bs q) (splits_of_a_range bs q h (omega (arith, some))) i).0 in
+        omega (arith, sum, low, high)
+    go false e = rw e (omega arith)
+
+both_size : (n : ℕ) (bs : List ℕ) (a r : Range ℕ) (o : Option (Range ℕ)) → is_rising bs ≡ true → r.start ≤ a.start → a.end ≤ r.end → AreRanges n (split_ranges bs (common (Some a) o)) → total (split_ranges bs (common (Some a) o)) ≤ r.end - r.start
+both_size n bs a r None h low high i = cut_size n bs a r h i low high
+both_size n bs a r (Some b) h low high i = cut_size n bs (rows (max a.start b.start) (min a.end b.end)) r h i (grind (arith, low)) (grind (arith, high))
+
+size_within : (n : ℕ) (bs : List ℕ) (own o : Option (Range ℕ)) (r : Range ℕ) → is_rising bs ≡ true → AreRanges n (split_ranges bs (common (common own (Some r)) o)) → total (split_ranges bs (common (common own (Some r)) o)) ≤ r.end - r.start
+size_within n bs None o r h i = both_size n bs r r o h (omega arith) (omega arith) i
+size_within n bs (Some q) o r h i = both_size n bs (rows (max q.start r.start) (min q.end r.end)) r o h (grind arith) (grind arith) i
+
+asked_size : (n : ℕ) (bs : List ℕ) (own asked o : Option (Range ℕ)) → is_rising bs ≡ true → AreRanges n (split_ranges bs (common (common own asked) o)) → total (split_ranges bs (common (common own asked) o)) ≤ most_in asked n
+asked_size n bs own None o h i = split_total n bs (common (common own None) o) h i
+asked_size n bs own (Some r) o h i =
+    let all = split_total n bs (common (common own (Some r)) o) h i in
+    let few = size_within n bs own o r h i in
+    grind (arith, all, few)
+
+pub stream_reach : {M : Type 0} (c : ScanData M) (r : Option (Range ℕ)) (s : Selection) (limit : Option ℕ) → IsScan c → AreRanges c.rows (scan_ranges c r)
+    → reach (map new_split (queued c.plans s (rows_within s limit (map (narrowed s) (scan_ranges c r))))) ≤ most_in r c.rows
 stream_reach c r s limit h i =
     let few = rows_reach_total c.plans s limit (scan_ranges c r) in
-    let all = split_total c.rows c.boundaries (common (common c.range r) (span_of c.selection c.rows)) h.rising i in
+    let all = asked_size c.rows c.boundaries c.range r (span_of c.selection c.rows) h.rising i in
     omega (arith, few, all)

@@ -1,5 +1,5 @@
 -- Ranges of so many rows, and what a selection picks of them.
-use Rattle.std.specs.Prelude.{◌≤◌, ℕ, ◌||◌, ◌&&◌, nat_lt, nat_le, Bool, false, List, [], ◌∷◌, filter, Option, Some, None}
+use Rattle.std.specs.Prelude.{◌≤◌, ◌-◌, ℕ, min, ◌||◌, ◌&&◌, nat_lt, nat_le, Bool, false, List, [], ◌∷◌, filter, Option, Some, None}
 use Rattle.std.specs.declared.ops.Range.{Range}
 use Rattle.scan_values.specs.declared.selection.Selection.{Selection}
 use Rattle.scan_values.specs.declared.selection.Selection.TheVariants.{All, IncludeByIndex, ExcludeByIndex}
@@ -9,6 +9,11 @@ use Rattle.scan_core.specs.SplitRanges.{last_from, spanned}
 abbrev pub is_past : Option (Range ℕ) → ℕ → Bool
 is_past None n = false
 is_past (Some r) n = nat_lt r.end r.start || nat_lt n r.end
+
+-- no more of so many rows are in a range, or in all
+abbrev pub most_in : Option (Range ℕ) → ℕ → ℕ
+most_in None n = n
+most_in (Some r) n = min n (r.end - r.start)
 
 -- a range of so many rows
 abbrev pub IsRange : ℕ → Range ℕ → Type 0

@@ -2,8 +2,9 @@
 ghost use Rattle.std.specs.Prelude.{◌≡◌, ◌≤◌, ◌<◌, ◌^◌, ℕ, IfOk, None, Some, false, map};
 ghost use Rattle.scan_expr.specs.Infer.{infer};
 ghost use Rattle.scan_streams.specs.Grants.{HasRoom};
+ghost use Rattle.scan_streams.specs.Plans.{has_filter};
 ghost use Rattle.scan_streams.specs.Splits.{AllOf, new_split, reach};
-ghost use Rattle.scan_core.specs.RowRanges.{is_past, AreRanges, IsRange};
+ghost use Rattle.scan_core.specs.RowRanges.{is_past, most_in, AreRanges, IsRange};
 ghost use Rattle.scan_core.specs.ScanData.{array_of, scan_data, scan_ranges, split_of, splits_of, IsScan};
 ghost use Rattle.scan_core.specs.Setup.{Refuses, range_fault, unlimited};
 ghost use Rattle.scan_core.specs.Streaming.{IsOwnSeat, IsStreamOf, IsStreamWith, limit_after, limit_before, scan_dtype, streamed};
@@ -87,6 +88,20 @@ impl<M> RepeatedScan<M> {
         self.plans.dtype()
     }
 
+    /// Whether it has a filter.
+    pub fn has_filter(&self) -> bool
+        ensures { result ≡ has_filter self.now.plans }
+    {
+        self.plans.has_filter()
+    }
+
+    /// Which rows it selects.
+    pub fn selection(&self) -> &Selection
+        ensures { result.now ≡ self.now.selection }
+    {
+        &self.options.selection
+    }
+
     /// The ranges of the splits within a range of rows, or within all. They lie within the scan's own range too, and
     /// where it selects rows by their indices, between the first and the last of these.
     ///
@@ -125,6 +140,32 @@ impl<M> RepeatedScan<M> {
 }
 
 impl<M: Drop> RepeatedScan<M> {
+    /// The same scan with another limit, or without one. It shares the plans.
+    ///
+    /// # Errors
+    /// `NoMemory` alone.
+    pub fn with_some_limit(&self, limit: Option<u64>) -> Result<RepeatedScan<M>, NoMemory>
+        ensures { IfOk result (λ s. s ≡ record self.now { limit = limit }) }
+    {
+        let options = ScanOptions {
+            row_range: copy_of(&self.options.row_range),
+            selection: self.options.selection.clone()?,
+            limit,
+            ordered: self.options.ordered,
+            concurrency: self.options.concurrency,
+        };
+        let plans = self.plans.clone()?;
+        let boundaries = self.boundaries.clone()?;
+        let step = self.step.clone()?;
+        Ok(RepeatedScan {
+            plans,
+            row_count: self.row_count,
+            boundaries,
+            options,
+            step,
+        })
+    }
+
     /// A future of each split within a range of rows, or within all, in order. Each is of the rows that the scan
     /// selects, of which its filter is true.
     ///
@@ -217,7 +258,8 @@ impl<M: MapStep + Drop> RepeatedScan<M> {
         Ok(self.stream(alloc, row_range, claims)?)
     }
 
-    /// The same of a scan without a limit of its own: what is given is claimed from a limit that others claim from too.
+    /// The same of a scan without a limit of its own: what is given is claimed from a limit that others claim from too,
+    /// by a seat that has room for the rows of the range.
     ///
     /// # Errors
     /// `RowRange` exactly where the range is reversed or its end passes the row count. Else `NoMemory` alone.
@@ -228,7 +270,7 @@ impl<M: MapStep + Drop> RepeatedScan<M> {
         claims: Claims,
     ) -> Result<ScanStream<M>, SetupFault>
         requires none { self.old.limit ≡ None }
-        requires room { self.old.rows ≤ claims.room }
+        requires room { most_in row_range self.old.rows ≤ claims.room }
         ensures stream { IfOk result (λ t. IsStreamWith self.old row_range (Some claims) t) }
         ensures fault { Refuses result (range_fault row_range self.old.rows) }
         ensures same { self.new ≡ self.old }
@@ -247,7 +289,7 @@ impl<M: MapStep + Drop> RepeatedScan<M> {
         claims: Option<Claims>,
     ) -> Result<ScanStream<M>, NoMemory>
         requires past { is_past row_range self.now.rows ≡ false }
-        requires room { HasRoom claims self.now.rows }
+        requires room { HasRoom claims (most_in row_range self.now.rows) }
         ensures { IfOk result (λ t. IsStreamWith self.now row_range claims t) }
     {
         let queue = self.queue(alloc, row_range)?;
@@ -268,7 +310,7 @@ impl<M: MapStep + Drop> RepeatedScan<M> {
         requires { is_past row_range self.now.rows ≡ false }
         ensures splits { IfOk result (λ q. q ≡ streamed self.now row_range) }
         ensures dtype { IfOk result (λ q. AllOf (scan_dtype self.now) (map new_split q)) }
-        ensures reach { IfOk result (λ q. reach (map new_split q) ≤ self.now.rows) }
+        ensures reach { IfOk result (λ q. reach (map new_split q) ≤ most_in row_range self.now.rows) }
     {
         let ranges = self.ranges_within(alloc, row_range)?;
         let selection = self.options.selection.clone()?;

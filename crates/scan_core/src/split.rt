@@ -56,6 +56,16 @@ impl<M> SplitFuture<M> {
     }
 }
 
+impl<M: Drop> SplitFuture<M> {
+    /// The array future, of which nothing is made.
+    pub fn into_array(self) -> ArrayFuture
+        ensures { result ≡ self.future }
+    {
+        let SplitFuture { array, step: _step } = self;
+        array
+    }
+}
+
 impl<M: MapStep> SplitFuture<M> {
     /// What is made of the rows of the split, or what is wanted next. Its step is one that may be applied to any array.
     /// After any answer but `Pending` and `NoMemory` it is not to be polled again.

@@ -4,7 +4,7 @@ use Rattle.scan_plans.specs.Meaning.{plan_dtype}
 use Rattle.scan_streams.specs.Plans.{PlansData, ReachTo}
 use Rattle.scan_streams.specs.Queues.{AreWithin}
 use Rattle.scan_streams.specs.Splits.{AllOf, new_split, reach}
-use Rattle.scan_core.specs.RowRanges.{AreForward, AreRanges}
+use Rattle.scan_core.specs.RowRanges.{AreForward, AreRanges, most_in}
 use Rattle.scan_core.specs.ScanData.{IsScan, scan_ranges}
 use Rattle.scan_core.specs.Streaming.{limit_before, scan_dtype, streamed}
 use Rattle.scan_core.proofs.Streaming.{forward, stream_within, stream_dtype, stream_reach}
@@ -38,4 +38,4 @@ returns-clause-reach g c =
     let is : c.new.result ≡ streamed s c.args.row_range = search rules in
     let scan : IsScan s = subst IsScan c.self.view_is c.self.invariant in
     let i : AreRanges s.rows (scan_ranges s c.args.row_range) = subst (AreRanges s.rows) c.in_ok-ranges.ensures.ranges c.in_ok-ranges.ensures.within in
-    subst (λ z. reach (map new_split z) ≤ s.rows) (sym is) (stream_reach s c.args.row_range s.selection (limit_before s) scan i)
+    subst (λ z. reach (map new_split z) ≤ most_in c.args.row_range s.rows) (sym is) (stream_reach s c.args.row_range s.selection (limit_before s) scan i)
