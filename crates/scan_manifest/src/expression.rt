@@ -335,3 +335,18 @@ pub(crate) fn read_expr(alloc: Global, json: &Value) -> Result<Expression, Parse
 {
     read_expr_within(alloc, json, MOST_LEVELS)
 }
+
+/// The expression that a JSON value says; none exactly where it says no expression.
+///
+/// # Errors
+///
+/// `NoMemory`.
+pub fn read_expression(alloc: Global, json: &Value) -> Result<Option<Expression>, NoMemory>
+    ensures { IfOk result (λ e. e ≡ expr_in (view json.now)) }
+{
+    match read_expr(alloc, json) {
+        Ok(e) => Ok(Some(e)),
+        Err(ParseFault::Bad) => Ok(None),
+        Err(ParseFault::NoMemory) => Err(NoMemory),
+    }
+}

@@ -1,19 +1,18 @@
 //! A manifest: a dtype, files and a request, read from JSON.
-ghost use Rattle.std.specs.Prelude.{◌≡◌, ◌≢◌, ◌<◌, ◌≤◌, [], ℕ, List, length, IfOk, IfErr, Some, None, option_map, option_and_then, codes, true};
+ghost use Rattle.std.specs.Prelude.{◌≡◌, ◌≢◌, ◌<◌, ◌≤◌, [], length, IfOk, Some, None, option_map, option_and_then, codes, true};
 ghost use Rattle.std.specs.Result.{result_ok};
 ghost use Rattle.hex.specs.Hex.{decode_of};
-ghost use Rattle.serde_json.specs.Data.{Data};
 ghost use Rattle.serde_json.specs.View.{view, items_view};
 ghost use Rattle.serde_json.specs.Find.{get, as_str, as_array};
 ghost use Rattle.scan_manifest.specs.Parse.{IsParse, IsParseBy};
 ghost use Rattle.scan_manifest.specs.Json.{number_of, number_to, optional, each, list_in};
-ghost use Rattle.scan_manifest.specs.declared.manifest.FileSpec.{FileSpec};
-ghost use Rattle.scan_manifest.specs.Manifest.{maybe, rising, rising_in, range_in, selection_from, selection_in, wanted_in, request_in, segment_in, segments_from, segments_in, no_calls, calls_in, file_in, files_in, eviction_named, from_one, cache_in, usual_cache, manifest_with, manifest_in, IsManifest};
+ghost use Rattle.scan_manifest.specs.Manifest.{maybe, rising, rising_in, range_in, selection_from, selection_in, wanted_in, request_in, segment_in, segments_from, segments_in, same_segments, no_calls, calls_in, file_in, files_in, eviction_named, from_one, cache_in, usual_cache, manifest_with, manifest_in, IsManifest};
 ghost use Rattle.scan_manifest.specs.DTypes.{dtype_in};
 ghost use Rattle.scan_manifest.specs.Layouts.{layout_in};
 ghost use Rattle.scan_manifest.specs.Exprs.{expr_in};
 ghost use Rattle.scan_values.specs.StrictSorted.{is_rising};
 
+use crate::agreement::files_agree;
 use crate::dtype::read_dtype;
 use crate::expression::read_expr;
 use crate::json::{
@@ -24,7 +23,7 @@ use crate::layout::read_layout;
 use scan_expr::{Expression, ScanRequest};
 use scan_layout::LayoutRef;
 use scan_segments::{ByteBuffer, SegmentEviction, SegmentId};
-use scan_values::{DType, Selection, StrictSorted, Text};
+use scan_values::{DType, NoMemory, Selection, StrictSorted, Text};
 use serde_json::Value;
 use std::alloc::Global;
 use std::collections::BTreeMap;
@@ -93,6 +92,24 @@ impl Segments {
         Segments { map }
     }
 
+    /// Whether these are the same ids, each with the same bytes.
+    pub fn same(&self, other: &Segments) -> bool
+        ensures { result ≡ same_segments self.now other.now }
+    {
+        if self.map.len() != other.map.len() {
+            return false;
+        }
+        for ((id, bytes), (other_id, other_bytes)) in self.map.iter().zip(other.map.iter()) {
+            if id != other_id {
+                return false;
+            }
+            if bytes.as_slice() != other_bytes.as_slice() {
+                return false;
+            }
+        }
+        true
+    }
+
     /// Its map.
     pub fn into_map(self) -> BTreeMap<SegmentId, ByteBuffer>
         ensures { result.entries ≡ self }
@@ -138,6 +155,13 @@ impl Files {
         ensures { result ≡ items.items }
     {
         Files { items }
+    }
+
+    /// The list, lent.
+    pub fn as_slice(&self) -> &[FileSpec]
+        ensures { result.now ≡ self.now }
+    {
+        self.items.as_slice()
     }
 
     /// Its list.
@@ -510,32 +534,36 @@ fn read_workers(json: &Value) -> Result<usize, ParseFault>
     }
 }
 
-/// The files of a manifest, of which there is one.
-fn read_one_file(alloc: Global, json: &Value, dtype: &DType) -> Result<Files, ParseFault>
-    ensures ok { IfOk result (λ fs. (files_in dtype.now (view json.now) ≡ Some fs) × (length fs ≡ 1)) }
-    ensures bad { result ≡ Err ParseFault.Bad → (fs : List FileSpec) → files_in dtype.now (view json.now) ≡ Some fs → length fs ≢ 1 }
+fn read_file_list(alloc: Global, list: &[Value], dtype: &DType) -> Result<Vec<FileSpec>, ParseFault>
+    ensures { IsParseBy (λ v. v.items) (each (file_in dtype.now) (items_view list.now)) result }
 {
-    let list = read_items(member(json, "files")?)?;
-    if list.len() != 1 {
-        return Err(ParseFault::Bad);
-    }
-    let file = read_file(alloc, &list[0], dtype)?;
     let mut files = Vec::new(alloc);
-    files.push(file)?;
-    Ok(Files::new(files))
+    for json in list {
+        files.push(read_file(alloc, json, dtype)?)?;
+    }
+    Ok(files)
 }
 
-/// The rest of a manifest of one file.
-#[tactic(auto, using(crate::proofs::Manifests::one_agrees))]
+/// The files of a manifest of this dtype.
+fn read_files(alloc: Global, json: &Value, dtype: &DType) -> Result<Files, ParseFault>
+    ensures { IsParse (files_in dtype.now (view json.now)) result }
+{
+    let list = read_items(member(json, "files")?)?;
+    Ok(Files::new(read_file_list(alloc, list, dtype)?))
+}
+
+/// The rest of a manifest of this dtype and these files.
 fn read_rest(
     alloc: Global,
     json: &Value,
     dtype: DType,
     files: Files,
 ) -> Result<Manifest, ParseFault>
-    requires { length files ≡ 1 }
     ensures { IsParse (manifest_with (view json.now) dtype files) result }
 {
+    if !files_agree(alloc, files.as_slice())? {
+        return Err(ParseFault::Bad);
+    }
     let workers = read_workers(json)?;
     let cache = read_maybe_cache(json)?;
     let request = read_request(alloc, member(json, "request")?)?;
@@ -548,29 +576,41 @@ fn read_rest(
     })
 }
 
-/// What a JSON value says as a manifest of one file.
-#[tactic(auto, using(crate::proofs::Manifests::manifest_steps))]
 fn read_manifest(alloc: Global, json: &Value) -> Result<Manifest, ParseFault>
-    ensures ok { IfOk result (λ m. (manifest_in (view json.now) ≡ Some m) × (length m.files ≡ 1)) }
-    ensures bad { result ≡ Err ParseFault.Bad → (m : Manifest) → manifest_in (view json.now) ≡ Some m → length m.files ≢ 1 }
+    ensures { IsParse (manifest_in (view json.now)) result }
 {
     if !has_form(Form::Manifest, json) {
         return Err(ParseFault::Bad);
     }
     let dtype = read_dtype(alloc, member(json, "dtype")?)?;
-    let files = read_one_file(alloc, json, &dtype)?;
+    let files = read_files(alloc, json, &dtype)?;
     read_rest(alloc, json, dtype, files)
 }
 
-/// The manifest that some bytes are: one JSON value in UTF-8, with nothing behind it, that says a manifest of one file.
-/// A manifest of another number of files is not served so far.
+/// The manifest that a JSON value says, of any number of files; none exactly where it says no manifest.
 ///
 /// # Errors
 ///
-/// `Bad` exactly where the bytes are no manifest of one file, and `NoMemory`.
-pub fn parse_manifest(alloc: Global, bytes: &[u8]) -> Result<Manifest, ParseFault>
-    ensures ok { IfOk result (λ m. IsManifest bytes.now m × (length m.files ≡ 1)) }
-    ensures bad { result ≡ Err ParseFault.Bad → (m : Manifest) → IsManifest bytes.now m → length m.files ≢ 1 }
+/// `NoMemory`.
+pub fn manifest_of(alloc: Global, json: &Value) -> Result<Option<Manifest>, NoMemory>
+    ensures { IfOk result (λ m. m ≡ manifest_in (view json.now)) }
+{
+    match read_manifest(alloc, json) {
+        Ok(manifest) => Ok(Some(manifest)),
+        Err(ParseFault::Bad) => Ok(None),
+        Err(ParseFault::NoMemory) => Err(NoMemory),
+    }
+}
+
+/// The manifest that some bytes are, of any number of files: one JSON value in UTF-8, with nothing behind it, that says
+/// a manifest.
+///
+/// # Errors
+///
+/// `Bad` exactly where the bytes are no manifest, and `NoMemory`.
+pub fn manifest_of_bytes(alloc: Global, bytes: &[u8]) -> Result<Manifest, ParseFault>
+    ensures ok { IfOk result (λ m. IsManifest bytes.now m) }
+    ensures bad { result ≡ Err ParseFault.Bad → (m : Manifest) → ¬ IsManifest bytes.now m }
 {
     match Value::from_slice(alloc, bytes) {
         Ok(json) => read_manifest(alloc, &json),
@@ -582,4 +622,21 @@ pub fn parse_manifest(alloc: Global, bytes: &[u8]) -> Result<Manifest, ParseFaul
             }
         }
     }
+}
+
+/// The manifest of one file that some bytes are, as `manifest_of_bytes` reads it. A manifest of another number of files
+/// is not served so far.
+///
+/// # Errors
+///
+/// `Bad` exactly where the bytes are no manifest of one file, and `NoMemory`.
+pub fn parse_manifest(alloc: Global, bytes: &[u8]) -> Result<Manifest, ParseFault>
+    ensures ok { IfOk result (λ m. IsManifest bytes.now m × (length m.files ≡ 1)) }
+    ensures bad { result ≡ Err ParseFault.Bad → (m : Manifest) → IsManifest bytes.now m → length m.files ≢ 1 }
+{
+    let manifest = manifest_of_bytes(alloc, bytes)?;
+    if manifest.files.as_slice().len() != 1 {
+        return Err(ParseFault::Bad);
+    }
+    Ok(manifest)
 }
