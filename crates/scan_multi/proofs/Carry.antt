@@ -1,15 +1,14 @@
 -- A plan's dtype and request are those of the scan.
-use Rattle.std.proofs.Common.{◌≡◌, ◌≢◌, ℕ, List, Bool, true, sym, ap, ◌∙◌, subst, inl, inr}
-use Rattle.std.specs.Prelude.{Option, None, Some, IfSome, Result, Ok, Err, IfOk}
+use Rattle.std.proofs.Common.{◌≡◌, ℕ, List, Bool, true, false, sym, ap, ◌∙◌, subst}
+use Rattle.std.specs.Prelude.{◌↔◌, Result, Ok, Err, IfOk}
 use Rattle.scan_values.specs.DataType.{DataType}
 use Rattle.scan_expr.specs.Bound.{Bound}
 use Rattle.scan_expr.specs.Infer.{infer}
 use Rattle.scan_expr.specs.declared.request.ScanRequest.{ScanRequest}
-use Rattle.scan_multi.specs.Served.{is_built, early_fault}
-use Rattle.scan_multi.specs.Plan.{IsPlan, IsPlanFault}
-use Rattle.scan_multi.specs.declared.scan.files.ScanFault.{ScanFault}
-use Rattle.scan_multi.specs.declared.scan.files.ScanFault.TheVariants as fault
-use Rattle.scan_multi.proofs.Built.{built-early}
+use Rattle.scan_multi.specs.Served.{is_built}
+use Rattle.scan_multi.specs.Plan.{IsPlan}
+use Rattle.scan_multi.specs.declared.scan.fault.ScanFault.{ScanFault}
+use Rattle.scan_multi.specs.declared.scan.fault.ScanFault.TheVariants as fault
 
 -- whether a scan is built, by the number of its files
 pub built-as : (workers counted files : ℕ) (d : DataType) (q : ScanRequest) (x t : Bool) → counted ≡ files → x ≡ is_built workers counted d q → x ≡ t → is_built workers files d q ≡ t
@@ -28,19 +27,10 @@ module _ (d : DataType) (q r : ScanRequest) (b : Bound) (places : List ℕ) (cho
   pub carried-plan : IsPlan b.scope r b places chosen
   carried-plan = subst (λ z. IsPlan z r b places chosen) (sym plan-scope) (subst (λ z. IsPlan d z b places chosen) (sym e) p)
 
--- the answer where no plan is made
-pub plan-answer : {T : Type 0} (r : Result T ScanFault) (workers files : ℕ) (d : DataType) (q : ScanRequest) (e : ScanFault) → r ≡ Err e → is_built workers files d q ≡ true → IsPlanFault d q e → r ≢ Err fault.NoMemory → IfSome (early_fault workers files d q) (λ x. r ≡ Err x)
-plan-answer r workers files d q e is h (inl want) other = absurd (other (is ∙ ap Err want))
-plan-answer r workers files d q e is h (inr bind) other = subst (λ o. IfSome o (λ x. r ≡ Err x)) (sym (built-early workers files d q h ∙ bind)) is
-
--- no fault comes before that of a file
-pub late-answer : {T : Type 0} (r : Result T ScanFault) (workers files : ℕ) (d : DataType) (q : ScanRequest) → early_fault workers files d q ≡ None → IfSome (early_fault workers files d q) (λ x. r ≡ Err x)
-late-answer r workers files d q none = subst (λ o. IfSome o (λ x. r ≡ Err x)) (sym none) tt
-
-pub always : (A : Type 0) (o : Option ScanFault) → A → IfSome o (λ e. A)
-always A None a = tt
-always A (Some e) a = a
-
 pub ok_always : {T E : Type 0} (r : Result T E) (A : Type 0) → A → IfOk r (λ x. A)
 ok_always (Ok x) A a = a
 ok_always (Err e) A a = tt
+
+-- a scan that is built is not refused as one that is not
+pub built_only : (A : Type 0) (b : Bool) → b ≡ true → (A → ⊥) → A ↔ (b ≡ false)
+built_only A b h other = (λ a. absurd (other a), λ f. let t : true ≡ false = sym h ∙ f in cc)

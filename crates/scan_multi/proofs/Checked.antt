@@ -11,9 +11,9 @@ use Rattle.scan_layout.specs.declared.fault.LayoutFault.{LayoutFault}
 use Rattle.scan_layout.proofs.Forms.{well_formed}
 use Rattle.scan_multi.specs.Opener.{Given, skip, layout_of}
 use Rattle.scan_multi.specs.Plan.{IsChecked, NamesFile}
-use Rattle.scan_multi.specs.Causes.{IsSkippedOrRead}
-use Rattle.scan_multi.specs.declared.scan.files.ScanFault.{ScanFault}
-use Rattle.scan_multi.specs.declared.scan.files.ScanFault.TheVariants as fault
+use Rattle.scan_multi.specs.FileCauses.{IsSkippedOrFormed}
+use Rattle.scan_multi.specs.declared.scan.fault.ScanFault.{ScanFault}
+use Rattle.scan_multi.specs.declared.scan.fault.ScanFault.TheVariants as fault
 
 pub other-type : (a b : DataType) → true ≡ not (same_type a b) → a ≢ b
 other-type a b h e = both_ways false refl (sym (h ∙ ap not ((same_type-Decides a b).1 e)))
@@ -48,12 +48,12 @@ fault-names d l file fault.Concurrency h = absurd h
 fault-names d l file (fault.Overflow place) h = absurd h
 fault-names d l file fault.NotBuilt h = absurd h
 
-pub read-skip : (d : DataType) (gives : Option Given) → IfSome gives (λ g. g ≡ skip) → IfSome gives (IsSkippedOrRead d)
+pub read-skip : (d : DataType) (gives : Option Given) → IfSome gives (λ g. g ≡ skip) → IfSome gives (IsSkippedOrFormed d)
 read-skip d None e = tt
-read-skip d (Some g) e = subst (IsSkippedOrRead d) (sym e) tt
+read-skip d (Some g) e = subst (IsSkippedOrFormed d) (sym e) tt
 
-pub read-layout : (d : DataType) (gives : Option Given) (l : Layout) → IfSome gives (λ g. g ≡ layout_of l) → first_fault l d ≡ None → IfSome gives (IsSkippedOrRead d)
-read-layout d gives l e f = told-layout gives l (IsSkippedOrRead d) e (well_typed l d f, f)
+pub read-layout : (d : DataType) (gives : Option Given) (l : Layout) → IfSome gives (λ g. g ≡ layout_of l) → first_fault l d ≡ None → IfSome gives (IsSkippedOrFormed d)
+read-layout d gives l e f = told-layout gives l (IsSkippedOrFormed d) e (well_typed l d f, f)
 
 pub good-form : (d : DataType) (l : Layout) → is_none (first_fault l d) ≡ true → first_fault l d ≡ None
 good-form d l e = go (first_fault l d) e where

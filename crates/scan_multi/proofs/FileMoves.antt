@@ -31,10 +31,14 @@ use Rattle.scan_multi.specs.Answer.{Item, finding, drops, row_items, part_of}
 use Rattle.scan_multi.specs.Output.{ChunkData}
 use Rattle.scan_multi.specs.Named.{named, named_places}
 use Rattle.scan_multi.specs.Plan.{IsPlan, IsScanned, items_in, row_item, IsChecked, NamesFile}
-use Rattle.scan_multi.specs.Causes.{IfTold, IsRead, IsOfOtherType, IsIllFormed, told_file, Tells, FileMoves, IsFileCause}
+use Rattle.scan_multi.specs.Checks.{IsOfOtherType, IsIllFormed}
+use Rattle.scan_multi.specs.Lawful.{told_file, Tells}
+use Rattle.scan_multi.specs.Moves.{FileMoves}
+use Rattle.scan_multi.specs.FileCauses.{IfTold, IsFormed, AsksWhereTold, IsFileCause}
+use Rattle.scan_multi.proofs.Traffic.{asked-is}
 use Rattle.scan_multi.specs.declared.scan.files.ScanFile.{ScanFile}
-use Rattle.scan_multi.specs.declared.scan.files.ScanFault.{ScanFault}
-use Rattle.scan_multi.specs.declared.scan.files.ScanFault.TheVariants as fault
+use Rattle.scan_multi.specs.declared.scan.fault.ScanFault.{ScanFault}
+use Rattle.scan_multi.specs.declared.scan.fault.ScanFault.TheVariants as fault
 use Rattle.scan_multi.proofs.Members.{In}
 use Rattle.scan_multi.proofs.Agree.{id_of}
 use Rattle.scan_multi.proofs.Checked.{well_typed, told-layout}
@@ -80,7 +84,7 @@ module _ (d : DataType) (request : ScanRequest) (b : Bound) (places : List ℕ) 
 -- ---- files
 module _ {O S : Type 0} (opener : O → OpenerState) (source : S → SourceState) (d : DataType) (request : ScanRequest) (b : Bound) (places : List ℕ) (chosen : List Bool) (plan : IsPlan d request b places chosen) where
   -- the opener alone was called
-  pub opened_moves : (old : ScanFile O S) (o : O) → Opens (opener old.opener) (opener o) → FileMoves opener source d request old (record old { opener = o })
+  pub opened_moves : (old : ScanFile O S) (o : O) → Opens (opener old.opener) (opener o) → FileMoves opener source old (record old { opener = o })
   opened_moves old o p = record {
     source_id = refl;
     gives = p.gives;
@@ -96,8 +100,13 @@ module _ {O S : Type 0} (opener : O → OpenerState) (source : S → SourceState
     live = refl;
     ids = [];
     asked = sym (append-nil _);
-    among = All-nil (λ id. IfTold (opener old.opener).gives (source old.source).holds (λ g store. Contains (named d request g store) id));
   }
+
+  -- and nothing was asked
+  pub opened_asks : (old : ScanFile O S) (o : O) → AsksWhereTold opener source d request old (record old { opener = o })
+  opened_asks old o =
+      rw (asked-is [] (source old.source) (source old.source) (sym (append-nil _)))
+      (All-nil (λ id. IfTold (opener old.opener).gives (source old.source).holds (λ g store. Contains (named d request g store) id)))
 
   may : (gives : Option Given) (holds : Option Store) (l : Layout) (ps : List Place) (id : ℕ) → IfSome gives (λ g. g ≡ layout_of l)
       → ((store : Store) (q : Place) → In q ps → Named' (named_places d request (layout_of l) store) q) → IsIdOf ps id
@@ -113,14 +122,14 @@ module _ {O S : Type 0} (opener : O → OpenerState) (source : S → SourceState
   may-bad (Some g) None l ps id e h w = tt
   may-bad (Some g) (Some store) l ps id e h w = subst (λ z. HasBad store (named_places d request z store) id) (sym e) (bad-named d request (layout_of l) store ps id (h store) w)
 
-  is-read : (gives : Option Given) (l : Layout) → IfSome gives (λ g. g ≡ layout_of l) → first_fault l d ≡ None → IfSome gives (IsRead d)
+  is-read : (gives : Option Given) (l : Layout) → IfSome gives (λ g. g ≡ layout_of l) → first_fault l d ≡ None → IfSome gives (IsFormed d)
   is-read None l e f = tt
-  is-read (Some g) l e f = subst (IsRead d) (sym e) (well_typed l d f, f)
+  is-read (Some g) l e f = subst (IsFormed d) (sym e) (well_typed l d f, f)
 
   pub layout_moves : (old : ScanFile O S) (o : O) (s : S) (l : Layout) (name : List ℕ) (before after : CacheState SegmentKey)
       → Opens (opener old.opener) (opener o) → IfSome (opener old.opener).gives (λ g. g ≡ layout_of l) → first_fault l d ≡ None
       → (source old.source).live ≡ none_live → Fetches name (ids_of (chosen_in l chosen)) before after (source old.source) (source s)
-      → FileMoves opener source d request old (record old { opener = o; source = s })
+      → FileMoves opener source old (record old { opener = o; source = s })
   layout_moves old o s l name before after p e f idle r = record {
     source_id = refl;
     gives = p.gives;
@@ -136,9 +145,15 @@ module _ {O S : Type 0} (opener : O → OpenerState) (source : S → SourceState
     live = r.asks.live ∙ sym idle;
     ids = r.ids;
     asked = r.asks.asked;
-    among = All-weaker (Contains (ids_of (chosen_in l chosen))) (λ id. IfTold (opener old.opener).gives (source old.source).holds (λ g store. Contains (named d request g store) id))
-        (λ id w. may (opener old.opener).gives (source old.source).holds l (chosen_in l chosen) id e (each-named d request b places chosen l plan f) (id_of (chosen_in l chosen) id w)) r.ids r.among;
   }
+
+  pub layout_asks : (old : ScanFile O S) (o : O) (s : S) (l : Layout) (name : List ℕ) (before after : CacheState SegmentKey)
+      → IfSome (opener old.opener).gives (λ g. g ≡ layout_of l) → first_fault l d ≡ None → Fetches name (ids_of (chosen_in l chosen)) before after (source old.source) (source s)
+      → AsksWhereTold opener source d request old (record old { opener = o; source = s })
+  layout_asks old o s l name before after e f r =
+      rw (asked-is r.ids (source old.source) (source s) r.asks.asked)
+      (All-weaker (Contains (ids_of (chosen_in l chosen))) (λ id. IfTold (opener old.opener).gives (source old.source).holds (λ g store. Contains (named d request g store) id))
+      (λ id w. may (opener old.opener).gives (source old.source).holds l (chosen_in l chosen) id e (each-named d request b places chosen l plan f) (id_of (chosen_in l chosen) id w)) r.ids r.among)
 
   -- a layout of another dtype, or not well-formed, is a fault of its file
   pub fault-cause : (cache : CacheState SegmentKey) (old : ScanFile O S) (o : O) (l : Layout) (file : ℕ) (x : ScanFault) → IfSome (opener old.opener).gives (λ g. g ≡ layout_of l) → IsChecked file d l (Some x) → IsFileCause opener source d request cache old (record old { opener = o }) x

@@ -18,7 +18,7 @@ use Rattle.scan_multi.specs.declared.scan.fetch.FetchFault.{FetchFault}
 use Rattle.scan_multi.specs.declared.scan.fetch.FetchFault.TheVariants as fetch
 use Rattle.scan_multi.specs.declared.scan.read.ReadFault.{ReadFault}
 use Rattle.scan_multi.specs.declared.scan.read.ReadFault.TheVariants as read
-use Rattle.scan_multi.specs.declared.scan.files.ScanFault.{ScanFault}
+use Rattle.scan_multi.specs.declared.scan.fault.ScanFault.{ScanFault}
 use Rattle.scan_multi.specs.declared.scan.report.ScanReport.{ScanReport}
 use Rattle.scan_multi.proofs.Agree.{bad_as_held, place_id}
 

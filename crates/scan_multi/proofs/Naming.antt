@@ -36,7 +36,8 @@ use Rattle.scan_multi.specs.Named.{field_masks, expressions, range_from, range_t
 use Rattle.scan_multi.specs.Places.{IsIdOf, HasBad}
 use Rattle.scan_multi.specs.Columns.{nodes_in, spelling_of, segments_of, segment_places, leaf_places, child_places, chosen_places}
 use Rattle.scan_multi.specs.Choice.{field_place, field_count, places_of, flags_of}
-use Rattle.scan_multi.specs.Served.{is_plain, are_plain, is_all, is_of_all_rows, has_no_partitions}
+use Rattle.scan_multi.specs.Request.{is_all, has_no_partitions}
+use Rattle.scan_multi.specs.Served.{is_plain, are_plain, is_of_all_rows}
 use Rattle.scan_multi.proofs.Members.{In, In-from, In-to, In-left, In-right, In-append, In-map, In-flat_map, In-filter}
 use Rattle.scan_multi.proofs.PlainForms.{PlainKid, PlainKids, PlainForm, nth_type, and-left, and-right}
 use Rattle.scan_multi.proofs.Fields.{place-below, type-there, flag-at, In-map-back}

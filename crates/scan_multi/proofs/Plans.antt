@@ -11,8 +11,9 @@ use Rattle.scan_expr.specs.Expr.{Expr}
 use Rattle.scan_expr.specs.Choices.{root_select}
 use Rattle.scan_expr.specs.Typing.{Fault, have_fields, bind_fault}
 use Rattle.scan_multi.specs.Choice.{field_place, field_count, places_of}
-use Rattle.scan_multi.specs.Served.{is_plain_struct, are_plain, is_choice, bound_fault, of_bind}
-use Rattle.scan_multi.specs.declared.scan.files.ScanFault.TheVariants as fault
+use Rattle.scan_multi.specs.Request.{bound_fault, of_bind}
+use Rattle.scan_multi.specs.Served.{is_plain_struct, are_plain, is_choice}
+use Rattle.scan_multi.specs.declared.scan.fault.ScanFault.TheVariants as fault
 use Rattle.scan_multi.proofs.Members.{In}
 use Rattle.scan_multi.proofs.Fields.{place-below, In-range-back, In-map-back}
 use Rattle.scan_multi.proofs.Cells.{Chooses, chooses, have-each}

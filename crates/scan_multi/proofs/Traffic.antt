@@ -4,8 +4,6 @@ use Rattle.std.specs.Prelude.{◌⊎◌, Option, None, Some, IfSome, IsSome, opt
 use Rattle.std.proofs.Math.Seq.{drop-append_seam}
 use Rattle.std.proofs.lemmas.List.{length-map}
 use Rattle.std.proofs.lemmas.List.Elements.{All-nil, All-cons, All-head}
-use Rattle.scan_values.specs.DataType.{DataType}
-use Rattle.scan_expr.specs.declared.request.ScanRequest.{ScanRequest}
 use Rattle.scan_segments.specs.Source.{SourceState, Store}
 use Rattle.scan_segments.specs.Cache.{Entries, CacheState, Both}
 use Rattle.scan_segments.specs.Events.{missed_keys, found_keys, offered_keys}
@@ -15,13 +13,14 @@ use Rattle.scan_multi.specs.Opener.{OpenerState}
 use Rattle.scan_multi.specs.Traffic.{key_of, asked_since, ended_since, KeepsContent, capped_report, IsReport, asked_keys, LooksUpFirst, PutsWhatItAsked, IsFedBy, CacheMoves}
 use Rattle.scan_multi.specs.Fetch.{IsFed, Feeds, Fetches, PutsWhatCame, held_among}
 use Rattle.scan_multi.specs.FileScan.{FetchesSome, Counts}
-use Rattle.scan_multi.specs.Causes.{Tells, Agrees, IsLawful, FileMoves}
+use Rattle.scan_multi.specs.Lawful.{Tells, Agrees, IsLawful}
+use Rattle.scan_multi.specs.Moves.{FileMoves}
 use Rattle.scan_multi.specs.declared.scan.files.ScanFile.{ScanFile}
 use Rattle.scan_multi.specs.declared.scan.report.ScanReport.{ScanReport}
 use Rattle.scan_multi.proofs.FileScan.{same-events, same-count}
 
 -- ---- what came since
-asked-is : (ids : List ℕ) (s t : SourceState) → t.asked ≡ s.asked ++ ids → asked_since s t ≡ ids
+pub asked-is : (ids : List ℕ) (s t : SourceState) → t.asked ≡ s.asked ++ ids → asked_since s t ≡ ids
 asked-is ids s t e = ap (drop (length s.asked)) e ∙ drop-append_seam s.asked ids
 
 -- what holds of the events holds of those that a cache tells
@@ -142,8 +141,8 @@ module _ {O S : Type 0} (opener : O → OpenerState) (source : S → SourceState
       count : length (asked_keys source (x ∷ []) (y ∷ [])) ≡ length s.fetches.ids
       count = rw (asked-one s.wants s.fetches, length-map) refl
 
-    lawful-one : (t : DataType) (q : ScanRequest) → FileMoves opener source t q x y → FetchesSome x.source_id c d (source x.source) (source y.source) → IsLawful opener source (x ∷ []) c → IsLawful opener source (y ∷ []) d
-    lawful-one t q m s l = record {
+    lawful-one : FileMoves opener source x y → FetchesSome x.source_id c d (source x.source) (source y.source) → IsLawful opener source (x ∷ []) c → IsLawful opener source (y ∷ []) d
+    lawful-one m s l = record {
       tells = All-cons (Tells opener source) y [] (record { gives = rw m.gives told.gives; holds = rw m.holds told.holds }) (All-nil (Tells opener source));
       same = same;
       cache_tells = still-tells c.entries d.entries (Feeds x.source_id s.fetches.ids (source x.source)) s.fetches.entries l.cache_tells;
@@ -173,5 +172,5 @@ module _ {O S : Type 0} (opener : O → OpenerState) (source : S → SourceState
     pub report_of : (report : ScanReport) → Counts x.source_id c d (source x.source) (source y.source) report → IsReport (length (asked_keys source files (set files 0 y))) (ended_since c d) report
     report_of report s = on-one (λ fs gs. IsReport (length (asked_keys source fs gs)) (ended_since c d) report) files x y n e (report-one x y c d report s)
 
-    pub lawful_of : (t : DataType) (q : ScanRequest) → FileMoves opener source t q x y → FetchesSome x.source_id c d (source x.source) (source y.source) → IsLawful opener source files c → IsLawful opener source (set files 0 y) d
-    lawful_of t q m s = on-one (λ fs gs. IsLawful opener source fs c → IsLawful opener source gs d) files x y n e (lawful-one x y c d t q m s)
+    pub lawful_of : FileMoves opener source x y → FetchesSome x.source_id c d (source x.source) (source y.source) → IsLawful opener source files c → IsLawful opener source (set files 0 y) d
+    lawful_of m s = on-one (λ fs gs. IsLawful opener source fs c → IsLawful opener source gs d) files x y n e (lawful-one x y c d m s)

@@ -10,8 +10,8 @@ use Rattle.scan_multi.specs.Traffic.{key_of, Trusts, IsKept, capped_report}
 use Rattle.scan_multi.specs.Fetch.{Fetches, SourceFailed, PutsWhatCame, held_among}
 use Rattle.scan_multi.specs.Places.{WasAsked, HasBad}
 use Rattle.scan_multi.specs.Columns.{nodes_in, chosen_places}
-use Rattle.scan_multi.specs.declared.scan.files.ScanFault.{ScanFault}
-use Rattle.scan_multi.specs.declared.scan.files.ScanFault.TheVariants as fault
+use Rattle.scan_multi.specs.declared.scan.fault.ScanFault.{ScanFault}
+use Rattle.scan_multi.specs.declared.scan.fault.ScanFault.TheVariants as fault
 use Rattle.scan_multi.specs.declared.scan.report.ScanReport.{ScanReport}
 
 abbrev pub ids_of : List Place → List ℕ

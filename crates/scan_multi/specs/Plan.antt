@@ -19,13 +19,14 @@ use Rattle.scan_multi.specs.declared.scan.fetch.FetchFault.{FetchFault}
 use Rattle.scan_multi.specs.declared.scan.fetch.FetchFault.TheVariants as fetch
 use Rattle.scan_multi.specs.declared.scan.read.ReadFault.{ReadFault}
 use Rattle.scan_multi.specs.declared.scan.read.ReadFault.TheVariants as read
-use Rattle.scan_multi.specs.declared.scan.files.ScanFault.{ScanFault}
-use Rattle.scan_multi.specs.declared.scan.files.ScanFault.TheVariants as fault
+use Rattle.scan_multi.specs.declared.scan.fault.ScanFault.{ScanFault}
+use Rattle.scan_multi.specs.declared.scan.fault.ScanFault.TheVariants as fault
 use Rattle.scan_multi.specs.Read.{IsReadFault}
 use Rattle.scan_multi.specs.Answer.{Item, finding}
 use Rattle.scan_multi.specs.Output.{ChunkData, chunk_items, IsChunk}
 use Rattle.scan_multi.specs.Choice.{field_count, places_of, flags_of}
-use Rattle.scan_multi.specs.Served.{is_plain_struct, are_plain, is_choice, is_of_all_rows, of_bind}
+use Rattle.scan_multi.specs.Request.{of_bind}
+use Rattle.scan_multi.specs.Served.{is_plain_struct, are_plain, is_choice, is_of_all_rows}
 
 pub record IsPlannable (d : DataType) (request : ScanRequest) : Type 0 where
   pub plain : is_plain_struct d ≡ true

@@ -1,5 +1,5 @@
 -- What a run of the program does.
-use Rattle.std.specs.Prelude.{◌≡◌, ◌≢◌, ℕ, List, [], ◌∷◌, ◌++◌, length, map, Bool, true, false, Option, None, Some, IfSome, option_map, Contains, if◌then◌else◌, codes}
+use Rattle.std.specs.Prelude.{◌≡◌, ◌≢◌, ◌≤◌, ◌^◌, ℕ, List, [], ◌∷◌, ◌++◌, length, map, Bool, true, false, Option, None, Some, IfSome, option_map, Contains, if◌then◌else◌, codes}
 use Rattle.std.specs.Str.{bytes_eq}
 use Rattle.std.specs.List.{flat_map}
 use Rattle.std.specs.Ordering.{nat_cmp}
@@ -11,14 +11,13 @@ use Rattle.scan_expr.specs.Infer.{infer}
 use Rattle.scan_multi.specs.Opener.{Given, skip, layout_of}
 use Rattle.scan_multi.specs.Answer.{Item, ToldFile, answer}
 use Rattle.scan_multi.specs.Output.{ChunkData, Admits, given}
-use Rattle.scan_multi.specs.Served.{early_fault, first_request_fault, is_built}
+use Rattle.scan_multi.specs.Request.{first_request_fault}
+use Rattle.scan_multi.specs.Served.{is_built}
 use Rattle.scan_segments.specs.Script.{has_number}
-use Rattle.scan_multi.specs.Causes.{IsRead, IsOfOtherType, IsIllFormed}
+use Rattle.scan_multi.specs.Checks.{IsRead, IsOfOtherType, IsIllFormed, EndsPast, rows_in}
+use Rattle.scan_multi.specs.Damaged.{IsDamaged}
 use Rattle.scan_multi.specs.Overflow.{OverflowsIn}
-use Rattle.scan_multi.specs.Places.{HasBad}
-use Rattle.scan_multi.specs.Named.{named_places}
-use Rattle.scan_multi.specs.declared.scan.files.ScanFault.TheVariants as fault
-use Rattle.scan_expr.specs.declared.op.BindFault.{BindFault}
+use Rattle.scan_multi.specs.declared.scan.fault.ScanFault.{ScanFault}
 use Rattle.scan_layout.specs.declared.fault.LayoutFault.{LayoutFault}
 use Rattle.scan_run.specs.Io.{InputState, OutputState, WasRead}
 use Rattle.scan_manifest.specs.declared.manifest.FileSpec.{FileSpec}
@@ -90,20 +89,23 @@ pub record IsFound (input input' : InputState) (P : Manifest → Type 0) : Type 
   pub is : IfSome input.left (λ bytes. IsManifest bytes manifest)
   pub fact : P manifest
 
--- the request does not bind
+-- the request has a fault: no workers, partitions, a reversed range, or an expression that does not bind
 abbrev pub IsUnbound : Manifest → Type 0
-IsUnbound m = (f : BindFault) × (early_fault m.workers (length m.files) m.dtype m.request ≡ Some (fault.Bind f))
+IsUnbound m = (e : ScanFault) × (first_request_fault m.workers m.dtype m.request ≡ Some e)
 
--- what is wrong with a file: its layout is of another dtype, or not well-formed, a named segment is missing or damaged, or an expression overflows
+-- What is wrong with a file: its layout is of another dtype, or not well-formed, or has fewer rows than the range; a named
+-- segment is missing or damaged; an expression overflows; or it stands among files of 2 ^ 64 rows or more.
 pub data IsBadFile (m : Manifest) (f : FileSpec) : Type 0 where
   of_type : IsOfOtherType m.dtype (given_by f) → IsBadFile m f
   of_layout : (fault : LayoutFault) → IsIllFormed m.dtype fault (given_by f) → IsBadFile m f
+  of_range : EndsPast m.dtype m.request (given_by f) → IsBadFile m f
+  of_segment : (id : ℕ) → IsDamaged m.dtype m.request (told_by f) id → IsBadFile m f
   of_overflow : OverflowsIn m.dtype m.request (given_by f) (store_of f.segments) → IsBadFile m f
-  of_segment : (id : ℕ) → HasBad (store_of f.segments) (named_places m.dtype m.request (given_by f) (store_of f.segments)) id → IsBadFile m f
+  of_rows : 2 ^ 64 ≤ rows_in (map told_by m.files) → IsBadFile m f
 
 -- the request itself has no fault
 abbrev pub HasNoFault : Manifest → Type 0
-HasNoFault m = early_fault m.workers (length m.files) m.dtype m.request ≡ None
+HasNoFault m = first_request_fault m.workers m.dtype m.request ≡ None
 
 -- the request has no fault, and a file can't be read
 pub record IsUnreadable (m : Manifest) : Type 0 where
@@ -115,7 +117,7 @@ pub record IsUnreadable (m : Manifest) : Type 0 where
 -- what of a file may fail, where a call of its script does: its opener, or the source of a file that is read
 pub data CanFail (m : Manifest) (f : FileSpec) : Type 0 where
   of_opener : has_number f.opener.fail ≡ true → CanFail m f
-  of_source : has_number f.source.fail ≡ true → IsRead m.dtype (given_by f) → CanFail m f
+  of_source : has_number f.source.fail ≡ true → IsRead m.dtype m.request (given_by f) → CanFail m f
 
 -- the request has no fault, and what may fail of a file did
 pub record IsFailing (m : Manifest) : Type 0 where

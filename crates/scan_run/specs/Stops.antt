@@ -1,8 +1,9 @@
 -- Why a run stops before it prints, and what it may have written.
 use Rattle.std.specs.Prelude.{◌≡◌, ◌⊎◌, ℕ, List, ◌++◌, option_map, IfSome}
 use Rattle.scan_multi.specs.Output.{ChunkData}
-use Rattle.scan_multi.specs.declared.scan.files.ScanFault.{ScanFault}
-use Rattle.scan_multi.specs.declared.scan.files.ScanFault.TheVariants as fault
+use Rattle.scan_multi.specs.declared.scan.fault.RangeFault.TheVariants.{Reversed, Past}
+use Rattle.scan_multi.specs.declared.scan.fault.ScanFault.{ScanFault}
+use Rattle.scan_multi.specs.declared.scan.fault.ScanFault.TheVariants as fault
 use Rattle.scan_run.specs.declared.run.Stop.{Stop}
 use Rattle.scan_run.specs.declared.run.Stop.TheVariants.{Unserved, Unbound, Unreadable, Failed, NoMemory}
 use Rattle.scan_manifest.specs.declared.manifest.Manifest.{Manifest}
@@ -18,12 +19,13 @@ stop_of (fault.Opener file) = Failed
 stop_of (fault.Source file segment) = Failed
 stop_of (fault.DTypeMismatch file) = Unreadable
 stop_of (fault.Bind f) = Unbound
-stop_of fault.Partitions = Unserved
-stop_of (fault.RowRange f) = Unserved
+stop_of fault.Partitions = Unbound
+stop_of (fault.RowRange Reversed) = Unbound
+stop_of (fault.RowRange (Past file)) = Unreadable
 stop_of (fault.Layout file f) = Unreadable
 stop_of (fault.Corrupt file segment) = Unreadable
-stop_of (fault.TooManyRows file) = Unserved
-stop_of fault.Concurrency = Unserved
+stop_of (fault.TooManyRows file) = Unreadable
+stop_of fault.Concurrency = Unbound
 stop_of (fault.Overflow file) = Unreadable
 stop_of fault.NotBuilt = Unserved
 

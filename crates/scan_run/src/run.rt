@@ -6,12 +6,12 @@ ghost use Rattle.scan_segments.specs.Bounded.{bounded, keyed_state};
 ghost use Rattle.scan_multi.specs.Opener.{skip, layout_of};
 ghost use Rattle.scan_multi.specs.OpenerMemory.{given_of};
 ghost use Rattle.scan_multi.specs.Output.{ChunkData};
-ghost use Rattle.scan_multi.specs.declared.scan.files.ScanFault.TheVariants as fault;
+ghost use Rattle.scan_multi.specs.declared.scan.fault.ScanFault.TheVariants as fault;
 ghost use Rattle.scan_run.specs.ReadAll.{TookMore};
 ghost use Rattle.scan_run.specs.Run.{is_scan_words, IsScanned, printed, IsDone, IsUnserved, IsRefused, IsFound, IsUnbound, IsUnreadable, IsFailing, WroteNone};
 ghost use Rattle.scan_run.specs.Printed.{chunks_lines};
 ghost use Rattle.scan_run.specs.Stops.{stop_of, status_of, IsStop, IsTextOf, WroteFrontOfLines, IsGiven, Halts, IsReady, Ends};
-ghost use Rattle.scan_run.specs.FileOf.{IsFileOf, AreFilesOf};
+ghost use Rattle.scan_run.specs.FileOf.{IsFileOf, AreFilesOf, AreReady};
 ghost use Rattle.scan_run.specs.AskedOf.{IsAsked};
 ghost use Rattle.scan_manifest.specs.declared.manifest.FileSpec.{FileSpec};
 ghost use Rattle.scan_manifest.specs.declared.manifest.Manifest.{Manifest};
@@ -22,7 +22,7 @@ use crate::print::push_chunks;
 use scan_expr::ScanRequest;
 use scan_layout::LayoutRef;
 use scan_manifest::{CacheSpec, FileSpec, Files, LayoutTree, Manifest, ParseFault, parse_manifest};
-use scan_multi::{Gate, MemoryOpener, ScanFault, ScanFile, ScanOutput, scan_files};
+use scan_multi::{Gate, MemoryOpener, RangeFault, ScanFault, ScanFile, ScanOutput, scan_files};
 use scan_segments::{MemorySource, MokaSegmentCache, SegmentSourceId};
 use scan_values::{DType, NoMemory};
 use std::alloc::Global;
@@ -95,15 +95,16 @@ fn stop_of(e: ScanFault) -> Stop
         } => Stop::Failed,
         ScanFault::DTypeMismatch { file: _ } => Stop::Unreadable,
         ScanFault::Bind(_) => Stop::Unbound,
-        ScanFault::Partitions => Stop::Unserved,
-        ScanFault::RowRange(_) => Stop::Unserved,
+        ScanFault::Partitions => Stop::Unbound,
+        ScanFault::RowRange(RangeFault::Reversed) => Stop::Unbound,
+        ScanFault::RowRange(RangeFault::Past { file: _ }) => Stop::Unreadable,
         ScanFault::Layout { file: _, fault: _ } => Stop::Unreadable,
         ScanFault::Corrupt {
             file: _,
             segment: _,
         } => Stop::Unreadable,
-        ScanFault::TooManyRows { file: _ } => Stop::Unserved,
-        ScanFault::Concurrency => Stop::Unserved,
+        ScanFault::TooManyRows { file: _ } => Stop::Unreadable,
+        ScanFault::Concurrency => Stop::Unbound,
         ScanFault::Overflow { file: _ } => Stop::Unreadable,
         ScanFault::NotBuilt => Stop::Unserved,
     }
@@ -200,7 +201,7 @@ fn scan_made<R: Threads + Sync, G: Gate>(
     made: Vec<ScanFile<MemoryOpener, MemorySource>>,
     gate: &G,
 ) -> Result<ScanOutput, Stop>
-    requires { (files : List FileSpec) × AreFilesOf files made.items }
+    requires { AreReady made.items }
     ensures ok { IfOk result (λ out. (m : Manifest) → IsAsked m asked.now → AreFilesOf m.files made.items → IsScanned m out.chunks) }
     ensures stop { IfErr result (λ s. (m : Manifest) → IsAsked m asked.now → AreFilesOf m.files made.items → IsStop m s) }
 {

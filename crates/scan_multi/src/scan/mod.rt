@@ -1,10 +1,21 @@
 //! After the Rust's `scan`.
 mod choice;
+mod fault;
 mod fetch;
-pub mod files;
-pub mod multi;
+mod file;
+mod files;
+mod multi;
 mod open;
+mod output;
+mod plan;
 mod read;
-pub mod report;
+mod report;
 mod rows;
+mod served;
 mod wants;
+
+pub use fault::{RangeFault, ScanFault};
+pub use files::{ScanFile, scan_files};
+pub use multi::{BoxedFactory, LayoutReaderFactory, MemoryOpener, Opening};
+pub use output::{ScanChunk, ScanOutput};
+pub use report::ScanReport;

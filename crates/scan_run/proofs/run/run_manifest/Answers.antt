@@ -1,13 +1,12 @@
-use Rattle.std.proofs.Common.{List, refl, rules}
+use Rattle.std.proofs.Common.{refl, rules}
 use Rattle.std.proofs.lemmas.Result.{IfOk-weaker, IfErr-weaker}
-use Rattle.scan_manifest.specs.declared.manifest.FileSpec.{FileSpec}
-use Rattle.scan_run.specs.FileOf.{AreFilesOf}
+use Rattle.scan_run.proofs.Stopping.{ready}
 use Rattle.scan_run.proofs.run.run_manifest.Goals as goal
 
 pub scan_made-requires : goal.scan_made-requires
 scan_made-requires g c =
-    let files : (files : List FileSpec) × AreFilesOf files c.in-Ok.made.items = (c.args.manifest.files, c.in-Ok.ensures) in
-    search (rules, files)
+    let are = ready c.args.manifest.files c.in-Ok.made.items c.requires c.in-Ok.ensures in
+    search (rules, are)
 
 pub returns-in-Ok-clause-ok : goal.returns-in-Ok-clause-ok
 returns-in-Ok-clause-ok g c = IfOk-weaker c.scan_made.result _ _ (λ o h. h c.args.manifest (record { dtype = refl; request = refl; workers = refl }) c.in-Ok.ensures) c.scan_made.ensures.ok

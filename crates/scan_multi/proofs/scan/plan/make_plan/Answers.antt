@@ -4,7 +4,7 @@ use Rattle.scan_expr.specs.Typing.{bind_fault}
 use Rattle.std.proofs.lemmas.Result.{err_from_is_err_and}
 use Rattle.scan_multi.proofs.Fields.{count-fields}
 use Rattle.scan_multi.proofs.Plans.{struct-there, struct-is, bound-ok, names-there, places-below, plan-fault}
-use Rattle.scan_multi.proofs.scan.files.make_plan.Goals as goal
+use Rattle.scan_multi.proofs.scan.plan.make_plan.Goals as goal
 
 pub unreachable-requires : goal.unreachable-requires
 unreachable-requires c = struct-there c.args.dtype.now c.requires.plain c.in_default.ensures

@@ -8,7 +8,7 @@ use Rattle.scan_multi.specs.FileScan.{ids_of, chosen_in}
 use Rattle.scan_multi.proofs.Layouts.{nodes-in, even-kids}
 use Rattle.scan_multi.proofs.Wants.{wants_of}
 use Rattle.scan_multi.proofs.FileScan.{fetches_nothing, counted, fetch_fault, read_fault}
-use Rattle.scan_multi.proofs.scan.files.scan_opened.Goals as goal
+use Rattle.scan_multi.proofs.scan.file.scan_opened.Goals as goal
 
 pub wanted-requires : goal.wanted-requires
 wanted-requires g c =

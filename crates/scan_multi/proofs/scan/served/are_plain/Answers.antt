@@ -1,7 +1,7 @@
 use Rattle.std.proofs.Common.{◌≡◌, ◌∙◌, sym, refl, true, false, arith}
 use Rattle.scan_multi.specs.Served.{is_plain}
 use Rattle.scan_multi.proofs.Fields.{plain_step, plain_past}
-use Rattle.scan_multi.proofs.scan.files.are_plain.Goals as goal
+use Rattle.scan_multi.proofs.scan.served.are_plain.Goals as goal
 
 pub returns-then-not-is_plain : goal.returns-then-not-is_plain
 returns-then-not-is_plain c =

@@ -2,12 +2,12 @@ use Rattle.std.proofs.Common.{◌≡◌, [], refl, subst, arith, None, Some, IfS
 use Rattle.std.proofs.lemmas.Result.{IfOk-weaker, IfErr-weaker}
 use Rattle.scan_layout.specs.Check.{first_fault}
 use Rattle.scan_multi.specs.Plan.{IsChecked}
-use Rattle.scan_multi.specs.Causes.{IsSkippedOrRead}
+use Rattle.scan_multi.specs.FileCauses.{IsSkippedOrFormed}
 use Rattle.scan_multi.proofs.Carry.{ok_always}
 use Rattle.scan_multi.proofs.Checked.{fault-names, read-skip, read-layout}
-use Rattle.scan_multi.proofs.FileMoves.{opened_moves, fault-cause, skip_given, layout_moves, layout_given, layout_cause, layout_names}
+use Rattle.scan_multi.proofs.FileMoves.{opened_moves, opened_asks, fault-cause, skip_given, layout_moves, layout_asks, layout_given, layout_cause, layout_names}
 use Rattle.scan_multi.proofs.FileScan.{fetches_nothing, counts_nothing}
-use Rattle.scan_multi.proofs.scan.files.scan_file.Goals as goal
+use Rattle.scan_multi.proofs.scan.file.scan_file.Goals as goal
 
 pub returns-in-Some-clause-moves : goal.returns-in-Some-clause-moves
 returns-in-Some-clause-moves g c =
@@ -54,7 +54,7 @@ returns-in-Layout-clause-moves g c =
 pub returns-in-Layout-clause-read : goal.returns-in-Layout-clause-read
 returns-in-Layout-clause-read g c =
     let form : first_fault c.in-Layout.layout.value c.args.plan.now.projection.scope ≡ None = rw (c.deref.ensures, c.scope.ensures) at c.in-None.ensures in
-    ok_always c.scan_opened.result (IfSome (g.O.LayoutReaderFactory.opener c.args.file.now.opener).gives (IsSkippedOrRead c.args.plan.now.projection.scope))
+    ok_always c.scan_opened.result (IfSome (g.O.LayoutReaderFactory.opener c.args.file.now.opener).gives (IsSkippedOrFormed c.args.plan.now.projection.scope))
     (read-layout c.args.plan.now.projection.scope
     (g.O.LayoutReaderFactory.opener c.args.file.now.opener).gives c.in-Layout.layout.value c.in-Layout.ensures.1 form)
 
@@ -135,3 +135,31 @@ returns-in-Layout-clause-counts g c = c.scan_opened.ensures.counts
 
 pub returns-in-Skipped-clause-counts : goal.returns-in-Skipped-clause-counts
 returns-in-Skipped-clause-counts g c = counts_nothing c.args.file.now.source_id (g.C.KeyedSegmentCache.cache c.args.cache.now) (g.S.SegmentSource.state c.args.file.now.source) c.default.result c.requires.idle c.default.ensures
+
+pub returns-in-Some-clause-asks : goal.returns-in-Some-clause-asks
+returns-in-Some-clause-asks g c =
+    opened_asks g.O.LayoutReaderFactory.opener g.S.SegmentSource.state c.args.plan.now.projection.scope c.args.plan.now.request.now c.args.plan.now.projection
+    c.args.plan.now.places.items c.args.plan.now.chosen.items c.requires.plan c.args.file.now c.open_file.new.opener
+
+pub returns-in-Skipped-clause-asks : goal.returns-in-Skipped-clause-asks
+returns-in-Skipped-clause-asks g c =
+    opened_asks g.O.LayoutReaderFactory.opener g.S.SegmentSource.state c.args.plan.now.projection.scope c.args.plan.now.request.now c.args.plan.now.projection
+    c.args.plan.now.places.items c.args.plan.now.chosen.items c.requires.plan c.args.file.now c.open_file.new.opener
+
+pub returns-in-Failed-clause-asks : goal.returns-in-Failed-clause-asks
+returns-in-Failed-clause-asks g c =
+    opened_asks g.O.LayoutReaderFactory.opener g.S.SegmentSource.state c.args.plan.now.projection.scope c.args.plan.now.request.now c.args.plan.now.projection
+    c.args.plan.now.places.items c.args.plan.now.chosen.items c.requires.plan c.args.file.now c.open_file.new.opener
+
+pub returns-clause-asks : goal.returns-clause-asks
+returns-clause-asks g c =
+    opened_asks g.O.LayoutReaderFactory.opener g.S.SegmentSource.state c.args.plan.now.projection.scope c.args.plan.now.request.now c.args.plan.now.projection
+    c.args.plan.now.places.items c.args.plan.now.chosen.items c.requires.plan c.args.file.now c.open_file.new.opener
+
+pub returns-in-Layout-clause-asks : goal.returns-in-Layout-clause-asks
+returns-in-Layout-clause-asks g c =
+    let form : first_fault c.in-Layout.layout.value c.args.plan.now.projection.scope ≡ None = rw (c.deref.ensures, c.scope.ensures) at c.in-None.ensures in
+    layout_asks g.O.LayoutReaderFactory.opener g.S.SegmentSource.state c.args.plan.now.projection.scope c.args.plan.now.request.now c.args.plan.now.projection
+    c.args.plan.now.places.items c.args.plan.now.chosen.items c.requires.plan c.args.file.now c.open_file.new.opener c.scan_opened.new.source c.in-Layout.layout.value c.args.file.now.source_id
+    (g.C.KeyedSegmentCache.cache c.args.cache.now) (g.C.KeyedSegmentCache.cache c.scan_opened.new.cache) c.in-Layout.ensures.1 form
+    (rw c.deref-in-None.ensures at c.scan_opened.ensures.fetches)

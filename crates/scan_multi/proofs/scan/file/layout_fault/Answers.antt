@@ -1,6 +1,6 @@
 use Rattle.std.proofs.Common.{◌≢◌, refl, sym, ◌∙◌, subst}
 use Rattle.scan_multi.proofs.Checked.{other-type, of-type}
-use Rattle.scan_multi.proofs.scan.files.layout_fault.Goals as goal
+use Rattle.scan_multi.proofs.scan.file.layout_fault.Goals as goal
 
 pub returns-then-ne : goal.returns-then-ne
 returns-then-ne c =

@@ -1,7 +1,7 @@
 use Rattle.std.proofs.Common.{arith}
 use Rattle.scan_multi.specs.Columns.{row_of}
 use Rattle.scan_multi.proofs.Steps.{rows-fit}
-use Rattle.scan_multi.proofs.scan.files.chunk_of.Goals as goal
+use Rattle.scan_multi.proofs.scan.file.chunk_of.Goals as goal
 
 pub of_fitting-requires : goal.of_fitting-requires
 of_fitting-requires c =

@@ -5,7 +5,7 @@ use Rattle.scan_multi.specs.Columns.{nodes_in, AreFound}
 use Rattle.scan_multi.specs.Fetch.{store_of}
 use Rattle.scan_multi.proofs.Agree.{found_as_held}
 use Rattle.scan_multi.proofs.Layouts.{nodes-in, even-kids, scalar-kids, rows-there, row-fits-of, whole-scan-of}
-use Rattle.scan_multi.proofs.scan.files.rows_of.Goals as goal
+use Rattle.scan_multi.proofs.scan.file.rows_of.Goals as goal
 
 pub read_columns-requires-clause-even : goal.read_columns-requires-clause-even
 read_columns-requires-clause-even c =
