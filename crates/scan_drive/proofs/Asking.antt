@@ -6,7 +6,6 @@ use Rattle.scan_segments.specs.Source.{SourceState, Stays}
 use Rattle.scan_splits.specs.Wanted.{no_repeats}
 use Rattle.scan_drive.specs.Sources.{SourceMoves}
 use Rattle.scan_drive.specs.Desks.{Waiters, waiters_at, waits, is_in, added, Moves, Asks}
-use Rattle.scan_drive.specs.Links.{Asked}
 use Rattle.scan_drive.proofs.Desking.{moved, among_snoc}
 
 pub moves_none : (May : ℕ → Type 0) (s t : SourceState) → t.holds ≡ s.holds → t.asked ≡ s.asked → s.faults ≤ t.faults → t.turns ≤ s.turns → t.can_fail ≡ s.can_fail → SourceMoves May s t
@@ -85,57 +84,12 @@ waits_added id place d e m q p = ap (λ o. is_in o p) (moved id (Some (added pla
         let off : eqb id q ≡ false = grind (arith, nat_tests) in
         or_false (is_in (waiters_at d q) p) ∙ ap (λ b. is_in (waiters_at d q) p || (b && eqb place p)) (sym off)
 
--- the rest of the ids is still to be asked for
-pub record Asking (rest ids : List ℕ) (place : ℕ) (old now : Waiters) : Type 0 where
-  pub asked : (id p : ℕ) → (waits now id p || (is_among rest id && eqb place p)) ≡ (waits old id p || (is_among ids id && eqb place p))
-  pub new : (id : ℕ) → is_among rest id ≡ true → waits now id place ≡ false
-  pub once : no_repeats rest ≡ true
-
-pub asking_all : (ids : List ℕ) (place : ℕ) (d : Waiters) → ((id : ℕ) → waits d id place ≡ false) → no_repeats ids ≡ true → Asking ids ids place d d
-asking_all ids place d n o = record { asked = λ id p. refl; new = λ id m. n id; once = o }
-
-turn : (w a b e : Bool) → ((w || (a && e)) || (b && e)) ≡ (w || ((a || b) && e))
-turn true a b e = refl
-turn false true b true = refl
-turn false true true false = refl
-turn false true false false = refl
-turn false false b e = refl
-
-and_both : (a b : Bool) → (a && b) ≡ true → (a ≡ true) × (b ≡ true)
-and_both true b h = (refl, h)
-and_both false b h = absurd cc
-
-not_true : (b : Bool) → not b ≡ true → b ≡ false
-not_true true h = absurd cc
-not_true false h = refl
-
-pub asking_next : (id : ℕ) (rest ids : List ℕ) (place : ℕ) (old now next : Waiters) → Asking (id ∷ rest) ids place old now → Moves id (Some (added place (waiters_at now id))) now next → Asking rest ids place old next
-asking_next id rest ids place old now next h m =
-    let parts = and_both (not (is_among rest id)) (no_repeats rest) h.once in
-    let off = not_true (is_among rest id) parts.0 in
-    record {
-      asked = λ q p. ap (λ b. b || (is_among rest q && eqb place p)) (waits_added id place now next m q p) ∙ turn (waits now q p) (eqb id q) (is_among rest q) (eqb place p) ∙ h.asked q p;
-      new = λ q n. waits_added id place now next m q place ∙ apart q n off (eqb id q) refl;
-      once = parts.1;
-    }
+pub among_one : (ids : List ℕ) (id : ℕ) → is_among ids id ≡ true → (q : ℕ) → is_among (id ∷ []) q ≡ true → is_among ids q ≡ true
+among_one ids id h q m = go (eqb id q) refl
   where
-    or_right : (a b : Bool) → b ≡ true → (a || b) ≡ true
-    or_right true b e = refl
-    or_right false b e = e
-
-    apart : (q : ℕ) → is_among rest q ≡ true → is_among rest id ≡ false → (b : Bool) → eqb id q ≡ b → (waits now q place || (eqb id q && eqb place place)) ≡ false
-    apart q n off true e = let same : id ≡ q = grind (arith, nat_tests) in let bad = sym (ap (is_among rest) same ∙ n) ∙ off in absurd cc
-    apart q n off false e = rw (e, h.new q (or_right (eqb id q) (is_among rest q) n)) refl
-
-pub asking_done : (rest ids : List ℕ) (place : ℕ) (old now : Waiters) → rest ≡ [] → Asking rest ids place old now → Asked ids place old now
-asking_done rest ids place old now e h id p = or_false (waits now id p) ∙ sym (ap (λ xs. waits now id p || (is_among xs id && eqb place p)) e) ∙ h.asked id p
-  where
-    or_false : (a : Bool) → a ≡ (a || false)
-    or_false true = refl
-    or_false false = refl
-
-pub asking_head : (id : ℕ) (rest ids : List ℕ) (place : ℕ) (old now : Waiters) → Asking (id ∷ rest) ids place old now → waits now id place ≡ false
-asking_head id rest ids place old now h = h.new id (let on : eqb id id ≡ true = grind (arith, nat_tests) in rw on refl)
+    go : (b : Bool) → eqb id q ≡ b → is_among ids q ≡ true
+    go true e = let same : q ≡ id = grind (arith, nat_tests) in ap (is_among ids) same ∙ h
+    go false e = let bad : false ≡ true = rw e at m in absurd cc
 
 pub among_at : (ids : List ℕ) (i d : ℕ) → i < length ids → is_among ids (get_or ids i d) ≡ true
 among_at [] i d lt = absurd (omega arith)

@@ -62,7 +62,7 @@ module _ {I : Type 0} where
       ap (λ k. grouped file (take n (x ∷ xs)) ++ cut k rest) z ∙ ap (λ gs. grouped file (take n (x ∷ xs)) ++ gs) (cut_zero rest) ∙ append-nil (grouped file (take n (x ∷ xs)))
 
 module _ {I R : Type 0} (items : R → List I) where
-  cut_past : (chunks : List (Chunk R)) (k : ℕ) (rest : List (Group I)) → cut (count (given items chunks) + k) (given items chunks ++ rest) ≡ given items chunks ++ cut k rest
+  pub cut_past : (chunks : List (Chunk R)) (k : ℕ) (rest : List (Group I)) → cut (count (given items chunks) + k) (given items chunks ++ rest) ≡ given items chunks ++ cut k rest
   cut_past [] k rest = let z : 0 + k ≡ k = omega arith in ap (λ n. cut n rest) z
   cut_past (c ∷ chunks) k rest =
       let xs = items c.rows in
@@ -138,12 +138,19 @@ module _ {W I R : Type 0} (split : W → SplitState I) (comes : W → Arrivals �
   cut_rows file rows old mid new chunks now chunks' left here seats keeps m f g = record {
     most = count (given items now) + g.most;
     was = sym m.counts.limit ∙ ap (limit_of (count (given items now))) g.was;
-    groups = λ tale all ok.
+    groups = λ tale all ok later.
+        let n = count (given items now) + g.most in
+        let rows_now = grouped file (items rows) in
+        let left_new = groups_left split comes items tale new in
+        let left_mid = groups_left split comes items tale mid in
         g.groups
-        ∙ ap (λ gs. given items now ++ gs) (sym (cut_within file (items rows) g.most (groups_left split comes items tale new) g.within))
-        ∙ sym (cut_past items now g.most (grouped file (items rows) ++ groups_left split comes items tale new))
-        ∙ ap (λ gs. cut (count (given items now) + g.most) (given items now ++ gs)) (sym (front_groups tale file rows mid new seats f all (keeps tale ok)))
-        ∙ ap (cut (count (given items now) + g.most)) (m.groups tale all ok);
+        ∙ ap (λ gs. given items now ++ gs) (sym (cut_within file (items rows) g.most (left_new ++ later) g.within))
+        ∙ sym (cut_past items now g.most (rows_now ++ (left_new ++ later)))
+        ∙ ap (λ gs. cut n (given items now ++ gs)) (sym (append_assoc rows_now left_new later))
+        ∙ ap (λ gs. cut n (given items now ++ (gs ++ later))) (sym (front_groups tale file rows mid new seats f all (keeps tale ok)))
+        ∙ ap (cut n) (sym (append_assoc (given items now) left_mid later))
+        ∙ ap (λ gs. cut n (gs ++ later)) (m.groups tale all ok)
+        ∙ ap (cut n) (append_assoc (given items chunks) (groups_left split comes items tale old) later);
   }
 
   halt_told : (o : Option (Part I)) (s : Option Store) (h : Halt) (P : Part I → Store → Type 0) → ((p : Part I) (store : Store) → P p store → HaltAt p store h) → IfSome o (λ p. IfSome s (λ store. P p store)) → IfSome o (λ p. IfSome s (λ store. HaltAt p store h))

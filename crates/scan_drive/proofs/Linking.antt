@@ -11,8 +11,8 @@ use Rattle.scan_splits.specs.declared.inbox.Arrival.{Arrival}
 use Rattle.scan_splits.specs.declared.inbox.Arrival.TheVariants as arrival
 use Rattle.scan_drive.specs.Desks.{Waiters, waiters_at, waits, is_in, Moves, Tells}
 use Rattle.scan_drive.specs.Files.{Part}
-use Rattle.scan_drive.specs.Links.{Asked, Linked, OfFile, StaysLinked, KeepsTold, MayAsk}
-use Rattle.scan_drive.specs.Looks.{FoundWaits}
+use Rattle.scan_drive.specs.Links.{Linked, OfFile, StaysLinked, KeepsTold}
+use Rattle.scan_drive.specs.Looks.{FoundWaits, is_ended}
 use Rattle.scan_drive.specs.Runs.{RunData, run_waits, is_ready, is_nil, with_arrival}
 use Rattle.scan_drive.specs.Slots.{slot_at, stage_waits, is_fresh, is_reading, is_halted, stage_handed, stage_given_up, handed, given_up, at_each, HasNews, MayTake, AllTake, SlotKeeps, StageOk, wanted_in}
 use Rattle.scan_drive.specs.Splits.{SplitState, Event, wants, lacks}
@@ -44,7 +44,7 @@ waits_before id d e m q p h = go (eqb q id) refl (sym (ap (λ o. is_in o p) (mov
     go true k w = absurd cc
     go false k w = (ne_of q id k, w)
 
-waits_still : (id : ℕ) (d e : Waiters) → Moves id None d e → (q p : ℕ) → q ≢ id → waits d q p ≡ true → waits e q p ≡ true
+pub waits_still : (id : ℕ) (d e : Waiters) → Moves id None d e → (q p : ℕ) → q ≢ id → waits d q p ≡ true → waits e q p ≡ true
 waits_still id d e m q p n h = ap (λ o. is_in o p) (moved id None d e m q) ∙ ap (λ t. is_in (cond t None (waiters_at d q)) p) (ne_off q id n) ∙ h
 
 pub waits_not_ready : {W : Type 0} (r : RunData W) (id : ℕ) → run_waits r id ≡ true → is_ready r ≡ false
@@ -107,7 +107,7 @@ module _ {W R : Type 0} where
           let off : eqb k p ≡ false = grind (arith, nat_tests) in
           rw (off, at_set_other slots k p x n) refl
 
-  each_length : (f : Slot W R → Slot W R) (ps : List ℕ) (slots : List (Slot W R)) → length (at_each f ps slots) ≡ length slots
+  pub each_length : (f : Slot W R → Slot W R) (ps : List ℕ) (slots : List (Slot W R)) → length (at_each f ps slots) ≡ length slots
   each_length f [] slots = refl
   each_length f (p ∷ ps) slots = each_length f ps (set slots p (f (slot_at slots p))) ∙ length-set slots p (f (slot_at slots p))
 
@@ -272,86 +272,10 @@ module _ {W R : Type 0} where
       go false e = e
       go true e = absurd (fresh_takes (slot_at slots place).stage id f (l.takes id place e))
 
-  -- a split that waited for nothing is not read any further
-  pub linked_done : (place : ℕ) (d : Waiters) (slots : List (Slot W R)) (s : Slot W R) → place < length slots → Linked (slot_at slots place).file d slots → is_fresh (slot_at slots place).stage ≡ true → is_reading s.stage ≡ false →
-      Linked (slot_at slots place).file d (set slots place s)
-  linked_done place d slots s lt l f r =
-      let none = new_place (slot_at slots place).file place d slots l f in
-      record {
-        file_is = λ id q w. subst (λ (x : Slot W R). x.file ≡ (slot_at slots place).file) (sym (at_set_other slots place q s (elsewhere none id q w))) (l.file_is id q w);
-        takes = λ id q w. subst (MayTake id) (sym (at_set_other slots place q s (elsewhere none id q w))) (l.takes id q w);
-        live = λ id q g w. live id q g w (cases_eq q place);
-      }
-    where
-      elsewhere : ((id : ℕ) → waits d id place ≡ false) → (id q : ℕ) → waits d id q ≡ true → q ≢ place
-      elsewhere none id q w e = let bad = sym w ∙ ap (waits d id) e ∙ none id in absurd cc
-
-      live : (id q : ℕ) → (slot_at (set slots place s) q).file ≡ (slot_at slots place).file → stage_waits (slot_at (set slots place s) q).stage id ≡ true → (q ≡ place) ⊎ (q ≢ place) → waits d id q ≡ true
-      live id q g w (inl is) = let bad = sym w ∙ ap (λ k. stage_waits (slot_at (set slots place s) k).stage id) is ∙ ap (λ (x : Slot W R). stage_waits x.stage id) (at_set_same slots place s lt) ∙ still_waits s.stage id r in absurd cc
-      live id q g w (inr n) = l.live id q (sym (ap (λ (x : Slot W R). x.file) (at_set_other slots place q s n)) ∙ g) (sym (ap (λ (x : Slot W R). stage_waits x.stage id) (at_set_other slots place q s n)) ∙ w)
-
 module _ {W I R : Type 0} (split : W → SplitState I) (comes : W → Arrivals → Store → Event → Type 0) (items : R → List I) where
-  -- a split waits for what it wants now
-  pub linked_waits : (place : ℕ) (d e : Waiters) (slots : List (Slot W R)) (s : Slot W R) → place < length slots → Linked (slot_at slots place).file d slots → s.file ≡ (slot_at slots place).file → FoundWaits split comes items (slot_at slots place).stage s.stage →
-      Asked (wanted_in s.stage) place d e → Linked (slot_at slots place).file e (set slots place s)
-  linked_waits place d e slots s lt l same f asked =
-      record {
-        file_is = λ id q w. file_is id q (cases_eq q place) (or_cases (waits d id q) (is_among (wanted_in s.stage) id && eqb place q) (sym (asked id q) ∙ w));
-        takes = λ id q w. takes id q (cases_eq q place) (or_cases (waits d id q) (is_among (wanted_in s.stage) id && eqb place q) (sym (asked id q) ∙ w));
-        live = λ id q g w. asked id q ∙ live id q g w (cases_eq q place);
-      }
-    where
-      fresh : is_fresh (slot_at slots place).stage ≡ true
-      fresh = ap is_fresh f.was ∙ f.ready
-
-      none : (id : ℕ) → waits d id place ≡ false
-      none = new_place (slot_at slots place).file place d slots l fresh
-
-      here : slot_at (set slots place s) place ≡ s
-      here = at_set_same slots place s lt
-
-      wanted_is : wanted_in s.stage ≡ f.next.wanted
-      wanted_is = ap wanted_in f.now
-
-      file_is : (id q : ℕ) → (q ≡ place) ⊎ (q ≢ place) → (waits d id q ≡ true) ⊎ ((is_among (wanted_in s.stage) id && eqb place q) ≡ true) → (slot_at (set slots place s) q).file ≡ (slot_at slots place).file
-      file_is id q (inl is) w = ap (λ k. (slot_at (set slots place s) k).file) is ∙ ap (λ (x : Slot W R). x.file) here ∙ same
-      file_is id q (inr n) (inl w) = ap (λ (x : Slot W R). x.file) (at_set_other slots place q s n) ∙ l.file_is id q w
-      file_is id q (inr n) (inr w) = let b = (and_both (is_among (wanted_in s.stage) id) (eqb place q) w).1 in let e : place ≡ q = grind (arith, nat_tests) in absurd (n (sym e))
-
-      lacking : (id : ℕ) → is_among (wanted_in s.stage) id ≡ true → stage_waits s.stage id ≡ true
-      lacking id m =
-          let k : is_among f.next.wanted id ≡ true = ap (λ (xs : List ℕ). is_among xs id) (sym wanted_is) ∙ m in
-          let x : lacks f.next.inbox id ≡ true = ap (λ (i : Arrivals). lacks i id) f.inbox ∙ f.lacking.lacking id k in
-          let both : run_waits f.next id ≡ true = rw (k, x) refl in
-          ap (λ (z : Stage W R). stage_waits z id) f.now ∙ both
-
-      takes : (id q : ℕ) → (q ≡ place) ⊎ (q ≢ place) → (waits d id q ≡ true) ⊎ ((is_among (wanted_in s.stage) id && eqb place q) ≡ true) → MayTake id (slot_at (set slots place s) q)
-      takes id q (inl is) (inl w) = let bad = sym w ∙ ap (waits d id) is ∙ none id in absurd cc
-      takes id q (inl is) (inr w) = let m = (and_both (is_among (wanted_in s.stage) id) (eqb place q) w).0 in subst (λ k. MayTake id (slot_at (set slots place s) k)) (sym is) (subst (MayTake id) (sym here) (λ h. lacking id m))
-      takes id q (inr n) (inl w) = subst (MayTake id) (sym (at_set_other slots place q s n)) (l.takes id q w)
-      takes id q (inr n) (inr w) = let b = (and_both (is_among (wanted_in s.stage) id) (eqb place q) w).1 in let e : place ≡ q = grind (arith, nat_tests) in absurd (n (sym e))
-
-      or_left : (a b : Bool) → a ≡ true → (a || b) ≡ true
-      or_left true b e = refl
-      or_left false b e = absurd cc
-
-      or_right : (a b : Bool) → b ≡ true → (a || b) ≡ true
-      or_right true b e = refl
-      or_right false b e = e
-
-      live : (id q : ℕ) → (slot_at (set slots place s) q).file ≡ (slot_at slots place).file → stage_waits (slot_at (set slots place s) q).stage id ≡ true → (q ≡ place) ⊎ (q ≢ place) → (waits d id q || (is_among (wanted_in s.stage) id && eqb place q)) ≡ true
-      live id q g w (inl is) =
-          let v : stage_waits s.stage id ≡ true = sym (ap (λ (x : Slot W R). stage_waits x.stage id) here) ∙ sym (ap (λ k. stage_waits (slot_at (set slots place s) k).stage id) is) ∙ w in
-          let u : run_waits f.next id ≡ true = sym (ap (λ (z : Stage W R). stage_waits z id) f.now) ∙ v in
-          let m : is_among (wanted_in s.stage) id ≡ true = ap (λ (xs : List ℕ). is_among xs id) wanted_is ∙ (and_both (is_among f.next.wanted id) (lacks f.next.inbox id) u).0 in
-          let on : eqb place q ≡ true = grind (arith, nat_tests) in
-          or_right (waits d id q) (is_among (wanted_in s.stage) id && eqb place q) (rw (m, on) refl)
-      live id q g w (inr n) = or_left (waits d id q) (is_among (wanted_in s.stage) id && eqb place q) (l.live id q (sym (ap (λ (x : Slot W R). x.file) (at_set_other slots place q s n)) ∙ g)
-          (sym (ap (λ (x : Slot W R). stage_waits x.stage id) (at_set_other slots place q s n)) ∙ w))
-
   -- what a split wants now its file names
-  pub may_ask : (holds : Option Store) (s : Slot W R) (new : Stage W R) → FoundWaits split comes items s.stage new → (id : ℕ) → is_among (wanted_in new) id ≡ true → MayAsk split comes items holds s id
-  may_ask holds s new f id m p store e ok =
+  pub may_ask : (p : Part I) (store : Store) (old new : Stage W R) → FoundWaits split comes items old new → StageOk split comes items p store old → (id : ℕ) → is_among (wanted_in new) id ≡ true → p.named store id ≡ true
+  may_ask p store old new f ok id m =
       let run = subst (StageOk split comes items p store) f.was ok in
       let k : is_among f.next.wanted id ≡ true = ap (λ (xs : List ℕ). is_among xs id) (sym (ap wanted_in f.now)) ∙ m in
       run.within f.run.inbox (wants id) (λ q a h. h) run.agrees (f.lacking.comes_to id store k run.agrees)
@@ -386,7 +310,7 @@ module _ {W I R : Type 0} (split : W → SplitState I) (comes : W → Arrivals �
       go (x ∷ ids) a h = rw (h x (among_head x ids)) refl
 
   nowhere : Part I
-  nowhere = record { splits = λ store. []; named = λ store id. false; bad = λ store id. false; overflow = λ store. false }
+  nowhere = record { row_count = 0; splits = λ store. []; named = λ store id. false; bad = λ store id. false; overflow = λ store. false }
 
   pub keeps_file : (old new : Slot W R) → ((p : Part I) (store : Store) → SlotKeeps split comes items p store old new) → new.file ≡ old.file
   keeps_file old new k = (k nowhere (λ id. None)).file_is
@@ -394,8 +318,8 @@ module _ {W I R : Type 0} (split : W → SplitState I) (comes : W → Arrivals �
 pub fresh_some : {W R : Type 0} (x y : Stage W R) → is_fresh x ≡ true → x ≡ stage.Empty → y ≡ stage.Empty
 fresh_some x y f e = let bad = sym (ap is_fresh e) ∙ f in absurd cc
 
-pub done_settled : {W R : Type 0} (x : Stage W R) → is_reading x ≡ false → is_fresh x ≡ false
-done_settled stage.Empty r = refl
+pub done_settled : {W R : Type 0} (x : Stage W R) → is_ended x ≡ true → is_fresh x ≡ false
+done_settled stage.Empty r = absurd cc
 done_settled (stage.Reads x) r = absurd cc
 done_settled (stage.Read rows) r = refl
 done_settled (stage.Halted x h) r = refl

@@ -55,7 +55,7 @@ module _ {W F : Type 0} where
 module _ {W I F : Type 0} (split : W → SplitState I) (comes : W → Arrivals → Store → Event → Type 0) where
   pub spent_left : (place : ℕ) (t : Told I) (p : Phase W F) → IsSpent p → phase_left split comes place t p ≡ []
   spent_left place t phase.Unopened h = absurd h
-  spent_left place t (phase.Queued ws) h = ap (flat_map (work_groups split comes place t)) h
+  spent_left place t (phase.Queued ws rows) h = ap (flat_map (work_groups split comes place t)) h
   spent_left place t (phase.Held f) h = absurd h
 
   -- the first groups of the first file that has some are taken out

@@ -8,9 +8,9 @@ use Rattle.scan_values.specs.Selections.{is_among}
 use Rattle.scan_segments.specs.Source.{SourceState, Store, none_live}
 use Rattle.scan_splits.specs.Arrivals.{Arrivals}
 use Rattle.scan_drive.specs.Desks.{Waiters, Agree}
-use Rattle.scan_drive.specs.Drives.{desk_at, EachLinked, FilesWithin, DesksAgree, IsIdle, SourcesMove, NoneOf, MayBeAsked, SlotsKeep}
+use Rattle.scan_drive.specs.Drives.{desk_at, EachLinked, DesksAgree, IsIdle, SourcesMove, NoneOf, SlotsKeep}
 use Rattle.scan_drive.specs.Files.{Part}
-use Rattle.scan_drive.specs.Links.{Linked, OfFile, MayAsk, KeepsTold}
+use Rattle.scan_drive.specs.Links.{Linked, OfFile, KeepsTold}
 use Rattle.scan_drive.specs.Slots.{slot_at, is_fresh, HasNews, SlotKeeps, EachKeeps}
 use Rattle.scan_drive.specs.Sources.{SourceMoves}
 use Rattle.scan_drive.specs.Splits.{SplitState, Event}
@@ -116,9 +116,6 @@ module _ {W R : Type 0} where
   pub linked_at : (desks : List Waiters) (i : ℕ) (d : Waiters) (slots : List (Slot W R)) → EachLinked desks slots → i < length desks → d ≡ get_or desks i d → Linked i d slots
   linked_at desks i d slots l lt e = subst (λ (w : Waiters). Linked i w slots) (sym (e ∙ get_or_default desks i d [] lt)) (l i lt)
 
-  pub within_set : (n file : ℕ) (old new : List (Slot W R)) → FilesWithin n old → OfFile file old new → FilesWithin n new
-  within_set n file old new w o place lt = let l : length new ≡ length old = o.len in let f = w place (omega arith) in let e : (slot_at new place).file ≡ (slot_at old place).file = o.files place in omega arith
-
   -- a place whose split has no news now is off the list
   pub news_popped : (old new : List (Slot W R)) (place : ℕ) (news rest : List ℕ) → news ≡ place ∷ rest → HasNews old news → ((q : ℕ) → q ≢ place → slot_at new q ≡ slot_at old q) → is_fresh (slot_at new place).stage ≡ false → HasNews new rest
   news_popped old new place news rest e h others off q f = go (eqb place q) refl
@@ -131,23 +128,6 @@ module _ {W R : Type 0} where
           sym (ap (λ b. b || is_among rest q) i) ∙ sym (ap (λ (xs : List ℕ). is_among xs q) e) ∙ there
 
 module _ {O S W I R : Type 0} (source : S → SourceState) (split : W → SplitState I) (comes : W → Arrivals → Store → Event → Type 0) (items : R → List I) where
-  -- what a split may ask now its file could be asked before
-  pub asked_now : (old now : List (ScanFile O S)) (before slots : List (Slot W R)) (place k : ℕ) (x : ScanFile O S) → SourcesMove source (MayBeAsked source split comes items old before) old now → ((p : Part I) (store : Store) → EachKeeps split comes items p store before slots) →
-      k < length now → x ≡ get_or now k x → k ≡ (slot_at slots place).file → (id : ℕ) → MayAsk split comes items (source x.source).holds (slot_at slots place) id → MayBeAsked source split comes items old before k id
-  asked_now old now before slots place k x m keeps lt e f id may g p store told ok =
-      let at : x ≡ get_or now k g = e ∙ get_or_default now k x g lt in
-      let holds = ap (λ (z : ScanFile O S). (source z.source).holds) at ∙ (m.moves k g).holds ∙ told in
-      let kept = (keeps p store).at place in
-      may p store holds (kept.ok (ok place (sym kept.file_is ∙ sym f)))
-
-  pub source_asked : (old now : List (ScanFile O S)) (before slots : List (Slot W R)) (place k : ℕ) (x y : ScanFile O S) → SourcesMove source (MayBeAsked source split comes items old before) old now →
-      ((p : Part I) (store : Store) → EachKeeps split comes items p store before slots) →
-      k < length now → x ≡ get_or now k x → k ≡ (slot_at slots place).file → y.opener ≡ x.opener → y.source_id ≡ x.source_id → SourceMoves (MayAsk split comes items (source x.source).holds (slot_at slots place)) (source x.source) (source y.source) → SourcesMove source
-      (MayBeAsked source split comes items old before) old (set now k y)
-  source_asked old now before slots place k x y m keeps lt e f o n h =
-      sources_moved source (MayBeAsked source split comes items old before) old now k x y m lt e o n (moves_weaker (MayAsk split comes items (source x.source).holds (slot_at slots place)) (MayBeAsked source split comes items old before k) (source x.source) (source y.source)
-      (asked_now old now before slots place k x m keeps lt e f) h)
-
   pub slots_self : (files : List (ScanFile O S)) (slots : List (Slot W R)) → SlotsKeep source split comes items files slots slots
   slots_self files slots f p store place e = keeps_refl split comes items p store (slot_at slots place)
 

@@ -1,5 +1,5 @@
 -- The places of the active splits and those that are free, as splits become active and end.
-use Rattle.std.proofs.Common.{◌≡◌, ◌≢◌, ℕ, zero, suc, ◌+◌, ◌<◌, List, [], ◌∷◌, ◌++◌, length, set, get_or, Bool, true, false, not, ◌||◌, eqb, inl, inr, refl, sym, ap, ◌∙◌, arith, append_assoc, append-nil}
+use Rattle.std.proofs.Common.{◌≡◌, ◌≢◌, ℕ, zero, suc, ◌+◌, ◌<◌, List, [], ◌∷◌, ◌++◌, length, set, get_or, Bool, true, false, not, ◌||◌, eqb, Option, Some, None, inl, inr, refl, sym, ap, ◌∙◌, arith, append_assoc, append-nil}
 use Rattle.std.specs.Prelude.{◌⊎◌}
 use Rattle.std.proofs.lemmas.Bool.{cases_eq}
 use Rattle.std.proofs.lemmas.Bool.Decides.{nat_tests}
@@ -67,6 +67,10 @@ eq_of a b e = grind (arith, nat_tests)
 
 ne_of : (a b : ℕ) → eqb a b ≡ false → b ≢ a
 ne_of a b e f = let same : a ≡ b = sym f in let here : eqb a b ≡ true = grind (arith, nat_tests) in let bad = sym e ∙ here in absurd cc
+
+pub none_of : {T : Type 0} (o : Option T) → ((x : T) → o ≡ Some x → ⊥) → o ≡ None
+none_of None h = refl
+none_of (Some x) h = absurd (h x refl)
 
 module _ {W R : Type 0} where
   pub slot_is : (s : Slot W R) (x : Stage W R) → s.stage ≡ x → s ≡ record { file = s.file; stage = x }

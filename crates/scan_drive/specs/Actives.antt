@@ -9,6 +9,7 @@ use Rattle.scan_drive.specs.Files.{Group, Told, told_at, IfTold, AllTell}
 use Rattle.scan_drive.specs.Runs.{RunData, new_run}
 use Rattle.scan_drive.specs.Slots.{slot_at, HasNews, StageOk, slot_groups}
 use Rattle.scan_drive.specs.Splits.{SplitState, Event}
+use Rattle.scan_drive.specs.Turns.{FrontWaits}
 use Rattle.scan_drive.specs.declared.active.Active.{Active}
 use Rattle.scan_drive.specs.declared.active.Front.{Front}
 use Rattle.scan_drive.specs.declared.active.Front.TheVariants as front
@@ -73,7 +74,7 @@ module _ {W R : Type 0} where
   -- the split whose turn it is
   abbrev pub IsFront : Active W R → Active W R → Front R → Type 0
   IsFront old new front.Nothing = (old.turns.items ≡ []) × Stays old new
-  IsFront old new front.Waits = Stays old new
+  IsFront old new front.Waits = Stays old new × FrontWaits old
   IsFront old new (front.Rows file rows) = GivesRows file rows old new
   IsFront old new (front.Halted file h) = IsHalted file h old × Stays old new
 

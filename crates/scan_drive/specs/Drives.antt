@@ -4,8 +4,10 @@ use Rattle.scan_segments.specs.Source.{SourceState, Store, none_live}
 use Rattle.scan_splits.specs.Arrivals.{Arrivals}
 use Rattle.scan_drive.specs.Desks.{Waiters, Agree}
 use Rattle.scan_drive.specs.Files.{Part}
+use Rattle.scan_drive.specs.Fetches.{BringsNearer}
 use Rattle.scan_drive.specs.Links.{Linked}
-use Rattle.scan_drive.specs.Slots.{slot_at, StageOk, SlotKeeps}
+use Rattle.scan_drive.specs.Measures.{is_there}
+use Rattle.scan_drive.specs.Slots.{slot_at, SlotKeeps}
 use Rattle.scan_drive.specs.Sources.{SourceMoves}
 use Rattle.scan_drive.specs.Splits.{SplitState, Event}
 use Rattle.scan_drive.specs.declared.files.ScanFile.{ScanFile}
@@ -20,9 +22,9 @@ module _ {W R : Type 0} where
   abbrev pub EachLinked : List Waiters → List (Slot W R) → Type 0
   EachLinked desks slots = (k : ℕ) → k < length desks → Linked k (desk_at desks k) slots
 
-  -- each slot is of one of so many files
+  -- each split is of one of so many files
   abbrev pub FilesWithin : ℕ → List (Slot W R) → Type 0
-  FilesWithin n slots = (place : ℕ) → place < length slots → (slot_at slots place).file < n
+  FilesWithin n slots = (place : ℕ) → is_there (slot_at slots place).stage ≡ true → (slot_at slots place).file < n
 
 module _ {O S : Type 0} (source : S → SourceState) where
   -- the live requests of each file's source are those of its desk
@@ -46,14 +48,14 @@ abbrev pub NoneOf : ℕ → ℕ → Type 0
 NoneOf k id = ⊥
 
 module _ {O S W I R : Type 0} (source : S → SourceState) (split : W → SplitState I) (comes : W → Arrivals → Store → Event → Type 0) (items : R → List I) where
-  -- where the store of a file is told and the slots of its splits are as it has them, it names this id
-  abbrev pub MayBeAsked : List (ScanFile O S) → List (Slot W R) → ℕ → ℕ → Type 0
-  MayBeAsked files slots k id =
-      (f : ScanFile O S) (p : Part I) (store : Store) → (source (slice_index_or files k f).source).holds ≡ Some store
-      → ((place : ℕ) → (slot_at slots place).file ≡ k → StageOk split comes items p store (slot_at slots place).stage) → p.named store id ≡ true
-
   -- slots after a step keep the rows of their splits, as far as the stores of their files are told
   abbrev pub SlotsKeep : List (ScanFile O S) → List (Slot W R) → List (Slot W R) → Type 0
   SlotsKeep files old new =
       (f : ScanFile O S) (p : Part I) (store : Store) (place : ℕ) → (source (slice_index_or files (slot_at old place).file f).source).holds ≡ Some store
       → SlotKeeps split comes items p store (slot_at old place) (slot_at new place)
+
+module _ {O S W I R : Type 0} (source : S → SourceState) (split : W → SplitState I) where
+  -- the source of this file has put off an answer, or each split that waited for it is nearer to its end
+  abbrev pub BringsFileNearer : ℕ → List (ScanFile O S) → List (ScanFile O S) → List Waiters → List (Slot W R) → List (Slot W R) → Type 0
+  BringsFileNearer k files files' desks old new =
+      (f : ScanFile O S) (id : ℕ) → BringsNearer split id (source (slice_index_or files k f).source) (source (slice_index_or files' k f).source) (desk_at desks k) old new

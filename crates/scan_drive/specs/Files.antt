@@ -2,11 +2,17 @@
 use Rattle.std.specs.Prelude.{ℕ, ◌+◌, ◌-◌, Bool, List, [], ◌∷◌, ◌++◌, Option, None, Some, IfSome, IsSome, All, map, take, length, slice_index_or}
 use Rattle.std.specs.List.{flat_map}
 use Rattle.scan_segments.specs.Source.{Store}
+use Rattle.scan_values.specs.Marked.{Marked}
 use Rattle.scan_drive.specs.Splits.{Event, wants, spoils}
 
--- a file, as its opener tells it: the rows of each of its splits over a store, the ids that may be asked, those whose
--- segments are no good, and whether an evaluation overflows
+-- a row of a file, with its number
+abbrev pub Item : Type 0
+Item = ℕ × Marked
+
+-- a file, as its opener tells it: how many rows it has, those of each of its splits over a store, the ids that may be
+-- asked, those whose segments are no good, and whether an evaluation overflows
 pub record Part (I : Type 0) : Type 0 where
+  pub row_count : ℕ
   pub splits : Store → List (List I)
   pub named : Store → ℕ → Bool
   pub bad : Store → ℕ → Bool

@@ -14,10 +14,6 @@ use Rattle.scan_drive.specs.declared.slot.Stage.TheVariants as stage
 abbrev pub Among : List ℕ → ℕ → Type 0
 Among ids id = is_among ids id ≡ true
 
--- a place waits for each of these ids too
-abbrev pub Asked : List ℕ → ℕ → Waiters → Waiters → Type 0
-Asked ids place old new = (id p : ℕ) → waits new id p ≡ (waits old id p || (is_among ids id && nat_eq place p))
-
 module _ {W R : Type 0} where
   -- those that wait at the desk of a file are splits of it, which wait or are given up; and each that waits does so there
   pub record Linked (file : ℕ) (d : Waiters) (slots : List (Slot W R)) : Type 0 where
@@ -37,10 +33,6 @@ module _ {W R : Type 0} where
   StaysLinked d e old new = (file : ℕ) → Linked file d old → Linked file e new × OfFile file old new
 
 module _ {W I R : Type 0} (split : W → SplitState I) (comes : W → Arrivals → Store → Event → Type 0) (items : R → List I) where
-  -- where the store is told and the slot is as its file has it, the file names this id
-  abbrev pub MayAsk : Option Store → Slot W R → ℕ → Type 0
-  MayAsk holds s id = (p : Part I) (store : Store) → holds ≡ Some store → StageOk split comes items p store s.stage → p.named store id ≡ true
-
   -- a step keeps slots as their files have them, whose store is this where it is told
   abbrev pub KeepsTold : Option Store → List (Slot W R) → List (Slot W R) → Type 0
   KeepsTold holds old new = (p : Part I) (store : Store) → holds ≡ Some store → EachKeeps split comes items p store old new

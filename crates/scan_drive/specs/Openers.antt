@@ -1,5 +1,5 @@
 -- What an opener of a file is to a drive, and what a poll of it answers.
-use Rattle.std.specs.Prelude.{◌≡◌, ◌≤◌, ◌<◌, ℕ, Bool, true, false, List, All, map, Option, IfSome}
+use Rattle.std.specs.Prelude.{◌≡◌, ◌≤◌, ◌<◌, ◌⊎◌, ℕ, Bool, true, false, List, [], ◌∷◌, All, map, Option, IfSome}
 use Rattle.scan_segments.specs.Faults.{RaisedBy}
 use Rattle.scan_segments.specs.Source.{Store}
 use Rattle.scan_splits.specs.Arrivals.{Arrivals}
@@ -39,23 +39,51 @@ as_number false = 0
 
 module _ {W I : Type 0} (split : W → SplitState I) (comes : W → Arrivals → Store → Event → Type 0) where
   -- the splits of a file, in order: they have its rows, and come to nothing that it does not
-  pub record AreSplits (p : Part I) (ws : List W) : Type 0 where
-    pub rows : (store : Store) → map (λ w. (split w).rows store) ws ≡ p.splits store
+  pub record AreSplits (p : Part I) (rows : ℕ) (ws : List W) : Type 0 where
+    pub count : rows ≡ p.row_count
+    pub splits : (store : Store) → map (λ w. (split w).rows store) ws ≡ p.splits store
     pub ok : (store : Store) → All (λ w. RunOk split comes p store (new_run w)) ws
 
-module _ {O W I F : Type 0} (split : W → SplitState I) (comes : W → Arrivals → Store → Event → Type 0) (opener : O → OpenerState I) (refuses : O → O → F → Type 0) where
+module _ {O W I F : Type 0} (split : W → SplitState I) (comes : W → Arrivals → Store → Event → Type 0) (state : O → OpenerState I) (refuses : O → O → F → Type 0) where
   -- the answer of a poll
   abbrev pub PollsOpen : O → O → Opening W F → Type 0
-  PollsOpen old new opening.Pending = PolledOnce (opener old) (opener new) × ((opener new).turns < (opener old).turns)
-  PollsOpen old new (opening.Opened ws) = PolledOnce (opener old) (opener new) × IfSome (opener old).gives (λ p. AreSplits split comes p ws.items)
-  PollsOpen old new (opening.Refused f) = PolledOnce (opener old) (opener new) × refuses old new f
-  PollsOpen old new opening.NoMemory = PolledOnce (opener old) (opener new)
+  PollsOpen old new opening.Pending = PolledOnce (state old) (state new) × ((state new).turns < (state old).turns)
+  PollsOpen old new (opening.Opened ws rows) = PolledOnce (state old) (state new) × IfSome (state old).gives (λ p. AreSplits split comes p rows ws.items)
+  PollsOpen old new (opening.Refused f) = PolledOnce (state old) (state new) × refuses old new f
+  PollsOpen old new opening.NoMemory = PolledOnce (state old) (state new)
 
+module _ {O : Type 0} (polls : O → O → Type 0) where
+  -- one poll after the other, with the opener after each
+  abbrev pub Chain : O → List O → O → Type 0
+  Chain old [] new = new ≡ old
+  Chain old (o ∷ os) new = polls old o × Chain o os new
+
+  -- some polls
+  pub record SomePolls (old new : O) : Type 0 where
+    pub between : List O
+    pub chain : Chain old between new
+
+module _ {O I : Type 0} (state : O → OpenerState I) (polls : O → O → Type 0) where
+  -- an opener after some polls
+  pub record Opens (old new : O) : Type 0 where
+    pub moves : OpenerMoves (state old) (state new)
+    pub polled : SomePolls polls old new
+
+module _ {O W F : Type 0} (refuses : O → O → F → Type 0) where
   -- a file that is not read waits with what its opener said
   abbrev pub IsHeldFor : O → O → Phase W F → Phase W F → Type 0
   IsHeldFor old new p phase.Unopened = Unit {0}
-  IsHeldFor old new p (phase.Queued ws) = Unit {0}
-  IsHeldFor old new p (phase.Held f) = (p ≡ phase.Unopened) → refuses old new f
+  IsHeldFor old new p (phase.Queued ws rows) = Unit {0}
+  IsHeldFor old new p (phase.Held f) = (p ≡ phase.Held f) ⊎ refuses old new f
+
+module _ {O F I : Type 0} (state : O → OpenerState I) (polls : O → O → Type 0) (refuses : O → O → F → Type 0) where
+  -- one of the polls said that the file is not read
+  pub record IsRefused (old new : O) (f : F) : Type 0 where
+    pub before : O
+    pub after : O
+    pub opens : Opens state polls old before
+    pub said : refuses before after f
+    pub later : Opens state polls after new
 
 module _ {W I F : Type 0} (split : W → SplitState I) (comes : W → Arrivals → Store → Event → Type 0) where
   -- the groups of a file that is told are the same, and its splits are as it has them

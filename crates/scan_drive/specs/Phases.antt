@@ -1,9 +1,10 @@
 -- How far files are, and the groups of their rows for which no split is active yet.
-use Rattle.std.specs.Prelude.{◌≡◌, ◌<◌, ◌+◌, ◌++◌, ℕ, List, [], ◌∷◌, All, slice_index_or}
+use Rattle.std.specs.Prelude.{◌≡◌, ◌<◌, ◌+◌, ◌++◌, ℕ, List, [], ◌∷◌, All, IfSome, slice_index_or}
 use Rattle.std.specs.List.{flat_map, sum_by}
 use Rattle.scan_segments.specs.Source.{Store}
 use Rattle.scan_splits.specs.Arrivals.{Arrivals}
 use Rattle.scan_drive.specs.Files.{Group, grouped, Told, told_at, over, part_groups, IfTold}
+use Rattle.scan_drive.specs.Measures.{work_steps, phase_steps}
 use Rattle.scan_drive.specs.Runs.{new_run}
 use Rattle.scan_drive.specs.Slots.{RunOk}
 use Rattle.scan_drive.specs.Splits.{SplitState, Event}
@@ -16,7 +17,7 @@ module _ {W F : Type 0} where
   -- a file that is not open yet
   abbrev pub is_unopened : Phase W F → ℕ
   is_unopened phase.Unopened = 1
-  is_unopened (phase.Queued ws) = 0
+  is_unopened (phase.Queued ws rows) = 0
   is_unopened (phase.Held f) = 0
 
   -- how many files are not open yet
@@ -26,8 +27,20 @@ module _ {W F : Type 0} where
   -- its splits are known, and none is left for which none is active
   abbrev pub IsSpent : Phase W F → Type 0
   IsSpent phase.Unopened = ⊥
-  IsSpent (phase.Queued ws) = ws.items ≡ []
+  IsSpent (phase.Queued ws rows) = ws.items ≡ []
   IsSpent (phase.Held f) = ⊥
+
+  -- its splits are not known
+  abbrev pub IsShut : Phase W F → Type 0
+  IsShut phase.Unopened = Unit {0}
+  IsShut (phase.Queued ws rows) = ⊥
+  IsShut (phase.Held f) = Unit {0}
+
+  -- its splits are known
+  abbrev pub IsQueued : Phase W F → Type 0
+  IsQueued phase.Unopened = ⊥
+  IsQueued (phase.Queued ws rows) = Unit {0}
+  IsQueued (phase.Held f) = ⊥
 
   -- the phase of a file
   abbrev pub phase_at : List (Phase W F) → ℕ → Phase W F
@@ -50,7 +63,7 @@ module _ {W I F : Type 0} (split : W → SplitState I) (comes : W → Arrivals �
   -- the groups of a file for which no split is active
   abbrev pub phase_left : ℕ → Told I → Phase W F → List (Group I)
   phase_left place t phase.Unopened = part_groups place t
-  phase_left place t (phase.Queued ws) = flat_map (work_groups split comes place t) ws.items
+  phase_left place t (phase.Queued ws rows) = flat_map (work_groups split comes place t) ws.items
   phase_left place t (phase.Held f) = part_groups place t
 
   -- the same of files, the first of which has this place
@@ -65,7 +78,7 @@ module _ {W I F : Type 0} (split : W → SplitState I) (comes : W → Arrivals �
   -- such are the splits of a file
   abbrev pub PhaseOk : Told I → Phase W F → Type 0
   PhaseOk t phase.Unopened = Unit {0}
-  PhaseOk t (phase.Queued ws) = All (WorkOk split comes t) ws.items
+  PhaseOk t (phase.Queued ws rows) = All (WorkOk split comes t) ws.items × IfSome t.part (λ p. rows ≡ p.row_count)
   PhaseOk t (phase.Held f) = Unit {0}
 
   abbrev pub PhasesOk : List (Told I) → List (Phase W F) → Type 0
@@ -76,9 +89,11 @@ module _ {W I F : Type 0} (split : W → SplitState I) (comes : W → Arrivals �
     pub left : (place : ℕ) (t : Told I) → phase_left place t old ≡ work_groups split comes place t w ++ phase_left place t new
     pub work_ok : (t : Told I) → PhaseOk t old → WorkOk split comes t w
     pub phase_ok : (t : Told I) → PhaseOk t old → PhaseOk t new
+    pub queued : IsQueued new
+    pub steps : phase_steps split old ≡ work_steps split w + phase_steps split new
 
   -- the first split is taken, or the phase has none, or its splits are not known
   abbrev pub Takes : Phase W F → Phase W F → Taken W → Type 0
   Takes old new (taken.Split w) = TakesSplit old new w
   Takes old new taken.Spent = IsSpent old × (new ≡ old)
-  Takes old new taken.Waits = new ≡ old
+  Takes old new taken.Waits = (new ≡ old) × IsShut old

@@ -1,5 +1,5 @@
 //! The splits that are active, over all files. An own type: the Rust buffers the tasks of one file at a time.
-ghost use Rattle.std.specs.Prelude.{◌≡◌, ◌<◌, ◌++◌, ◌∷◌, [], true, false, ℕ, OnOk, IfOk, IfSome, MatchOption, length, drop};
+ghost use Rattle.std.specs.Prelude.{◌≡◌, ◌<◌, ◌++◌, ◌∷◌, [], true, false, None, ℕ, OnOk, IfOk, IfSome, MatchOption, length, drop};
 ghost use Rattle.scan_values.specs.Selections.{is_among};
 ghost use Rattle.scan_drive.specs.Actives.{Seated, Becomes, IsRoom, Seats, IsFront};
 ghost use Rattle.scan_drive.specs.Runs.{RunData};
@@ -75,6 +75,7 @@ fn take_rows<W: Drop, R: Drop>(slot: &mut Slot<W, R>) -> Option<R>
 /// Why the split in a slot is given up, where it is.
 fn halt_of<W, R>(slot: &Slot<W, R>) -> Option<Halt>
     ensures some { IfSome result (λ h. (r : RunData W) × (slot.now.stage ≡ stage.Halted r h)) }
+    ensures none { result ≡ None → is_halted slot.now.stage ≡ false }
 {
     match &slot.stage {
         Stage::Halted(_, halt) => Some(*halt),
@@ -83,7 +84,7 @@ fn halt_of<W, R>(slot: &Slot<W, R>) -> Option<Halt>
 }
 
 /// The first of some places.
-fn first_of(places: &VecDeque<usize>) -> Option<usize>
+pub(crate) fn first_of(places: &VecDeque<usize>) -> Option<usize>
     ensures { MatchOption result (places.now.items ≡ []) (λ p. places.now.items ≡ p ∷ drop 1 places.now.items) }
 {
     match places.front() {

@@ -1,10 +1,12 @@
 //! What is given, in turn and up to a limit. After the Rust's buffers of tasks, which keep the order.
 ghost use Rattle.std.specs.Prelude.{◌≡◌, ◌≤◌, ◌-◌, ◌++◌, List, OnOk, IfOk, IfErr, MatchOption, Option, Some, None, length, option_map};
-ghost use Rattle.scan_values.specs.Marked.{Marked};
+ghost use Rattle.scan_drive.specs.Files.{Item};
 ghost use Rattle.scan_drive.specs.Actives.{Seated, AllOk};
 ghost use Rattle.scan_drive.specs.Chunks.{HasRoom, Fits, fault_of, given, Gives, IsDelivered, IsDeliverFault, IsCause};
 ghost use Rattle.scan_drive.specs.Files.{Told, grouped};
 ghost use Rattle.scan_drive.specs.Slots.{HasNews};
+ghost use Rattle.scan_drive.specs.Turns.{GivesOn, TurnsWait};
+ghost use Rattle.scan_drive.specs.declared.delivery.Delivered.TheVariants as delivered;
 
 use crate::active::{Active, Front};
 use crate::slot::Halt;
@@ -131,13 +133,14 @@ pub fn deliver<W: SplitWork + Drop>(
     ensures seated { OnOk result (Seated active.new) }
     ensures news { OnOk result (HasNews active.old.slots.items active.old.news.items →
         HasNews active.new.slots.items active.new.news.items) }
-    ensures ok { OnOk result ((tale : List (Told Marked)) → AllOk W.split W.comes W.items tale active.old →
+    ensures ok { OnOk result ((tale : List (Told Item)) → AllOk W.split W.comes W.items tale active.old →
         AllOk W.split W.comes W.items tale active.new) }
+    ensures gives { IfOk result (λ d. d ≡ delivered.More → GivesOn W.split active.old active.new × TurnsWait active.new) }
     ensures delivered { IfOk result (λ d. IsDelivered W.split W.comes W.items active.old active.new
         chunks.old.items chunks.new.items left.old left.new d) }
     ensures fault { IfErr result (λ e. IsDeliverFault W.split W.comes W.items active.old active.new
         chunks.old.items chunks.new.items left.old left.new e) }
-    ensures cause { IfErr result (λ e. (tale : List (Told Marked)) →
+    ensures cause { IfErr result (λ e. (tale : List (Told Item)) →
         AllOk W.split W.comes W.items tale active.old → IsCause tale e) }
 {
     'turns: loop {

@@ -3,9 +3,12 @@ ghost use Rattle.std.specs.Prelude.{◌≡◌, [], true, false, None, Some, is_s
 ghost use Rattle.scan_segments.specs.Source.{Begins, Stays, none_live};
 ghost use Rattle.scan_drive.specs.Sources.{SourceMoves, NoId};
 ghost use Rattle.scan_drive.specs.Desks.{Waiters, waiters_at, waits, Agree, live_ids, added, is_in, Stay, Moves, Asks, Replies};
+ghost use Rattle.scan_drive.specs.Ledger.{KeepsLedger, KeepsWant, KeepsReply};
+ghost use Rattle.scan_drive.specs.Wants.{IsWanted, IsUnwanted, PutsWhatCame, missed_by};
 
+use crate::cached::{Looked, Wanted, look_up, offer_reply};
 use crate::places::Places;
-use scan_segments::{Polled, SegmentId, SegmentSource};
+use scan_segments::{KeyedSegmentCache, Polled, SegmentId, SegmentKey, SegmentSource};
 use scan_splits::Arrival;
 use scan_values::NoMemory;
 use std::alloc::Global;
@@ -73,8 +76,68 @@ impl Desk {
         Ok(ids)
     }
 
+    /// A want of a place: it is looked up in the cache, by a lookup of its own that is polled to its end. What is not
+    /// there is shared with the live request of its id, or else asked of the source.
+    pub fn want<S: SegmentSource, C: KeyedSegmentCache>(
+        &mut self,
+        alloc: Global,
+        key: &SegmentKey,
+        place: usize,
+        source: &mut S,
+        cache: &mut C,
+    ) -> Result<Wanted, NoMemory>
+        requires agree { Agree (S.state source.old).live self.old }
+        requires new { waits self.old key.now.segment place ≡ false }
+        ensures ok { IfOk result (λ w. IsWanted key.now place (C.cache cache.old) (C.cache cache.new)
+            (S.state source.old) (S.state source.new) self.old self.new w) }
+        ensures err { OnErr result (IsUnwanted (C.cache cache.old) (C.cache cache.new)
+            (S.state source.old) (S.state source.new) self.old self.new) }
+        ensures agree { Agree (S.state source.new).live self.new }
+        ensures ledger { KeepsLedger key.now.source_id (S.state source.old) (S.state source.new)
+            (C.cache cache.old) (C.cache cache.new) }
+        ensures balance { IfOk result (λ w. KeepsWant key.now.source_id (S.state source.old) (S.state source.new)
+            (C.cache cache.old) (C.cache cache.new) w) }
+    {
+        match look_up(alloc, key, cache) {
+            Looked::Hit(bytes) => Ok(Wanted::Hit(bytes)),
+            Looked::NoMemory => Err(NoMemory),
+            Looked::Missed => {
+                let shared = self.is_live(key.segment);
+                match self.ask(alloc, key.segment, place, source) {
+                    Ok(()) => Ok(missed(shared)),
+                    Err(refused) => Err(refused),
+                }
+            }
+        }
+    }
+
+    /// Polls the live request of an id, which is gone where it has ended. Bytes that came are put into the cache, by a
+    /// put that is polled to its end.
+    pub fn collect<S: SegmentSource, C: KeyedSegmentCache>(
+        &mut self,
+        alloc: Global,
+        key: &SegmentKey,
+        source: &mut S,
+        cache: &mut C,
+    ) -> Reply
+        requires agree { Agree (S.state source.old).live self.old }
+        requires live { is_some (waiters_at self.old key.now.segment) ≡ true }
+        ensures replies { Replies key.now.segment (S.state source.old) (S.state source.new) self.old self.new result }
+        ensures puts { PutsWhatCame key.now (C.cache cache.old) (C.cache cache.new) result }
+        ensures agree { Agree (S.state source.new).live self.new }
+        ensures source { SourceMoves NoId (S.state source.old) (S.state source.new) }
+        ensures ledger { KeepsLedger key.now.source_id (S.state source.old) (S.state source.new)
+            (C.cache cache.old) (C.cache cache.new) }
+        ensures balance { KeepsReply key.now.source_id (S.state source.old) (S.state source.new)
+            (C.cache cache.old) (C.cache cache.new) result }
+    {
+        let reply = self.poll(alloc, key.segment, source);
+        offer_reply(alloc, key, &reply, cache);
+        reply
+    }
+
     /// A place waits for an id, which is asked of the source unless it is live.
-    pub fn ask<S: SegmentSource>(
+    pub(crate) fn ask<S: SegmentSource>(
         &mut self,
         alloc: Global,
         id: SegmentId,
@@ -92,7 +155,12 @@ impl Desk {
     }
 
     /// Polls the live request of an id, which is gone where it has ended.
-    pub fn poll<S: SegmentSource>(&mut self, alloc: Global, id: SegmentId, source: &mut S) -> Reply
+    pub(crate) fn poll<S: SegmentSource>(
+        &mut self,
+        alloc: Global,
+        id: SegmentId,
+        source: &mut S,
+    ) -> Reply
         requires agree { Agree (S.state source.old).live self.old }
         requires live { is_some (waiters_at self.old id) ≡ true }
         ensures replies { Replies id (S.state source.old) (S.state source.new) self.old self.new result }
@@ -125,6 +193,17 @@ impl Desk {
         ensures source { SourceMoves NoId (S.state source.old) (S.state source.new) }
     {
         drop_all(&mut self.waiters, source)
+    }
+}
+
+// How a want that the cache does not have ended.
+fn missed(shared: bool) -> Wanted
+    ensures { result ≡ missed_by shared }
+{
+    if shared {
+        Wanted::Shared
+    } else {
+        Wanted::Asked
     }
 }
 

@@ -1,18 +1,19 @@
 //! The steps of a round over all files.
-ghost use Rattle.std.specs.Prelude.{◌≡◌, ◌≤◌, [], All, IfOk, OnOk, List, length};
-ghost use Rattle.scan_values.specs.Marked.{Marked};
-ghost use Rattle.scan_segments.specs.Source.{Store};
-ghost use Rattle.scan_drive.specs.Drives.{DesksAgree, SourcesMove, IsIdle, NoneOf, EachLinked, FilesWithin, MayBeAsked, SlotsKeep};
-ghost use Rattle.scan_drive.specs.Files.{Part};
-ghost use Rattle.scan_drive.specs.Slots.{EachKeeps, HasNews};
+ghost use Rattle.std.specs.Prelude.{◌≡◌, ◌≤◌, ◌<◌, All, IfOk, OnOk, length};
+ghost use Rattle.scan_drive.specs.Drives.{DesksAgree, SourcesMove, IsIdle, NoneOf, EachLinked, SlotsKeep, BringsFileNearer};
+ghost use Rattle.scan_drive.specs.Ledger.{FilesKeepLedger, KeepsAllBalance};
+ghost use Rattle.scan_drive.specs.Losses.{FilesKeepCounts};
+ghost use Rattle.scan_drive.specs.Measures.{EachAdvances};
+ghost use Rattle.scan_drive.specs.Slots.{HasNews};
+ghost use Rattle.scan_drive.specs.Trades.{FilesTrade};
+ghost use Rattle.scan_drive.specs.Wants.{Cache};
 
 use crate::desk::Desk;
 use crate::fetching::fetch;
 use crate::files::ScanFile;
-use crate::looking::look;
 use crate::slot::Slot;
 use crate::work::SplitWork;
-use scan_segments::SegmentSource;
+use scan_segments::{KeyedSegmentCache, SegmentSource};
 use scan_values::NoMemory;
 use std::alloc::Global;
 use std::collections::VecDeque;
@@ -40,6 +41,8 @@ pub fn close_all<O: Drop, S: SegmentSource + Drop>(
     requires { DesksAgree S.state files.old.items desks.old.items }
     ensures idle { All (IsIdle S.state) files.new.items }
     ensures moves { SourcesMove S.state NoneOf files.old.items files.new.items }
+    ensures ledger { (c : Cache) → FilesKeepLedger S.state files.old.items files.new.items c c }
+    ensures balance { All (IsIdle S.state) files.old.items → KeepsAllBalance S.state files.old.items files.new.items }
 {
     for i in 0..files.len() {
         let file = &mut files[i];
@@ -48,44 +51,12 @@ pub fn close_all<O: Drop, S: SegmentSource + Drop>(
     }
 }
 
-/// Polls the splits that have news, and asks the sources of their files for what they want now.
-pub fn look_news<W: SplitWork + Drop, O: Drop, S: SegmentSource + Drop>(
-    alloc: Global,
-    files: &mut Vec<ScanFile<O, S>>,
-    desks: &mut Vec<Desk>,
-    slots: &mut Vec<Slot<W, W::Rows>>,
-    news: &mut VecDeque<usize>,
-) -> Result<(), NoMemory>
-    requires agree { DesksAgree S.state files.old.items desks.old.items }
-    requires links { EachLinked desks.old.items slots.old.items }
-    requires within { FilesWithin (length files.old.items) slots.old.items }
-    ensures agree { DesksAgree S.state files.new.items desks.new.items }
-    ensures sources { SourcesMove S.state (MayBeAsked S.state W.split W.comes W.items files.old.items slots.old.items)
-        files.old.items files.new.items }
-    ensures keeps { (p : Part Marked) (store : Store) →
-        EachKeeps W.split W.comes W.items p store slots.old.items slots.new.items }
-    ensures within { FilesWithin (length files.new.items) slots.new.items }
-    ensures links { OnOk result (EachLinked desks.new.items slots.new.items) }
-    ensures empty { OnOk result (news.new.items ≡ []) }
-    ensures news { OnOk result (HasNews slots.old.items news.old.items → HasNews slots.new.items news.new.items) }
-{
-    'news: while let Some(place) = news.pop_front() {
-        if place >= slots.len() {
-            continue;
-        }
-        let k = slots[place].file;
-        let file = &mut files[k];
-        let desk = &mut desks[k];
-        look(alloc, &mut file.source, desk, slots, place)?;
-    }
-    Ok(())
-}
-
 /// Polls each live request of the files from one place to another once, and hands over what has come.
-pub fn fetch_files<W: SplitWork + Drop, O: Drop, S: SegmentSource + Drop>(
+pub fn fetch_files<W: SplitWork + Drop, O: Drop, S: SegmentSource + Drop, C: KeyedSegmentCache>(
     alloc: Global,
     files: &mut Vec<ScanFile<O, S>>,
     desks: &mut Vec<Desk>,
+    cache: &mut C,
     slots: &mut Vec<Slot<W, W::Rows>>,
     news: &mut VecDeque<usize>,
     first: usize,
@@ -94,18 +65,30 @@ pub fn fetch_files<W: SplitWork + Drop, O: Drop, S: SegmentSource + Drop>(
     requires to { last ≤ length files.old.items }
     requires agree { DesksAgree S.state files.old.items desks.old.items }
     requires links { EachLinked desks.old.items slots.old.items }
-    requires within { FilesWithin (length files.old.items) slots.old.items }
     ensures agree { DesksAgree S.state files.new.items desks.new.items }
     ensures sources { SourcesMove S.state NoneOf files.old.items files.new.items }
+    ensures trades { FilesTrade S.state files.old.items files.new.items (C.cache cache.old) (C.cache cache.new) }
+    ensures counts { OnOk result (FilesKeepCounts S.state files.old.items files.new.items
+        (C.cache cache.old) (C.cache cache.new) slots.new.items) }
     ensures keeps { OnOk result (SlotsKeep S.state W.split W.comes W.items files.old.items slots.old.items slots.new.items) }
-    ensures within { OnOk result (FilesWithin (length files.new.items) slots.new.items) }
     ensures links { OnOk result (EachLinked desks.new.items slots.new.items) }
     ensures news { OnOk result (HasNews slots.old.items news.old.items → HasNews slots.new.items news.new.items) }
+    ensures advances { OnOk result (EachAdvances W.split slots.old.items slots.new.items) }
+    ensures nearer { OnOk result (first < last → BringsFileNearer S.state W.split first files.old.items files.new.items
+        desks.old.items slots.old.items slots.new.items) }
 {
     for k in first..last {
         let file = &mut files[k];
         let desk = &mut desks[k];
-        fetch(alloc, &mut file.source, desk, slots, news)?;
+        fetch(
+            alloc,
+            &file.source_id,
+            &mut file.source,
+            desk,
+            cache,
+            slots,
+            news,
+        )?;
     }
     Ok(())
 }

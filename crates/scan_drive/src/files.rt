@@ -1,6 +1,6 @@
 //! The files of a scan. After the Rust's `scan::multi`.
-ghost use Rattle.std.specs.Prelude.{◌≡◌, ◌≤◌, ◌<◌, ◌+◌, ℕ, OnOk, IfOk, length};
-ghost use Rattle.scan_drive.specs.Moves.{EachMoves, KeepsSources, KeepsRest, KeepsPhases, tells};
+ghost use Rattle.std.specs.Prelude.{◌≡◌, ◌≤◌, ◌<◌, ◌+◌, ℕ, false, OnOk, IfOk, length};
+ghost use Rattle.scan_drive.specs.Moves.{EachMoves, KeepsSources, KeepsRest, KeepsPhases, HoldsWhy, AllWait, tells};
 ghost use Rattle.scan_drive.specs.Openers.{as_number};
 ghost use Rattle.scan_drive.specs.Phases.{phase_at, unopened};
 
@@ -21,14 +21,16 @@ pub struct ScanFile<O, S> {
 
 /// One of two is true.
 fn either(a: bool, b: bool) -> bool
-    ensures { as_number result ≤ as_number a + as_number b }
+    ensures number { as_number result ≤ as_number a + as_number b }
+    ensures none { result ≡ false → (a ≡ false) × (b ≡ false) }
 {
     if a { true } else { b }
 }
 
 /// Polls the opener of each file from one place to another once, unless it has answered, and says whether one has now.
-pub fn open_files<W: SplitWork + Drop, F: Drop, O: SplitOpener<W, F>, S: SegmentSource>(
+pub fn open_files<X: SplitOpener<O, W, F>, O, W: SplitWork + Drop, F: Drop, S: SegmentSource>(
     alloc: Global,
+    context: &X,
     files: &mut Vec<ScanFile<O, S>>,
     phases: &mut Vec<Phase<W, F>>,
     first: usize,
@@ -37,20 +39,25 @@ pub fn open_files<W: SplitWork + Drop, F: Drop, O: SplitOpener<W, F>, S: Segment
     requires same { length phases.old.items ≡ length files.old.items }
     requires within { last ≤ length files.old.items }
     ensures len { length phases.new.items ≡ length phases.old.items }
-    ensures moves { EachMoves O.opener S.state files.old.items files.new.items }
+    ensures moves { EachMoves (X.state context.now) X.polls S.state (Unit {0}) files.old.items files.new.items }
     ensures sources { KeepsSources files.old.items files.new.items }
     ensures opened { IfOk result (λ b. unopened phases.new.items + as_number b ≤ unopened phases.old.items) }
+    ensures same { IfOk result (λ b. b ≡ false → phases.new.items ≡ phases.old.items) }
+    ensures waits { IfOk result (λ b. b ≡ false →
+        AllWait (X.state context.now) first last files.old.items files.new.items phases.new.items) }
     ensures below { (k : ℕ) → k < first → phase_at phases.new.items k ≡ phase_at phases.old.items k }
-    ensures left { OnOk result (KeepsRest W.split W.comes (tells O.opener S.state files.old.items)
+    ensures left { OnOk result (KeepsRest W.split W.comes (tells (X.state context.now) S.state files.old.items)
         phases.old.items phases.new.items) }
-    ensures ok { OnOk result (KeepsPhases W.split W.comes (tells O.opener S.state files.old.items)
+    ensures ok { OnOk result (KeepsPhases W.split W.comes (tells (X.state context.now) S.state files.old.items)
         phases.old.items phases.new.items) }
+    ensures why { OnOk result (HoldsWhy (X.state context.now) X.polls (X.refuses context.now)
+        files.old.items files.new.items phases.old.items phases.new.items) }
 {
     let mut any = false;
     for i in first..last {
         let file = &mut files[i];
         let phase = &mut phases[i];
-        let opened = open_file(alloc, &mut file.opener, phase)?;
+        let opened = open_file(alloc, context, &mut file.opener, phase)?;
         any = either(any, opened);
     }
     Ok(any)

@@ -3,6 +3,7 @@
 #![tactic(auto)]
 
 mod active;
+mod cached;
 mod delivery;
 mod desk;
 mod drive;
@@ -13,21 +14,32 @@ mod looking;
 mod opening;
 mod phase;
 mod places;
+mod report;
+mod round;
+mod rounds;
 mod run;
+mod settling;
 mod slot;
+mod wants;
 mod work;
 
 pub use active::{Active, Front};
+pub use cached::Wanted;
 pub use delivery::{Chunk, Delivered, DriveFault, deliver};
 pub use desk::{Desk, Reply};
-pub use drive::{close_all, fetch_files, look_news, make_desks};
+pub use drive::{close_all, fetch_files, make_desks};
 pub use fetching::fetch;
 pub use files::{ScanFile, open_files};
 pub use laws::{cuts_give_the_first_rows, cuts_keep_groups};
-pub use looking::{Found, look, poll_slot};
+pub use looking::{Found, poll_news, poll_slot};
 pub use opening::{Opening, SplitOpener, open_file};
-pub use phase::{Phase, Taken, activate};
+pub use phase::{Phase, Taken, Tally, activate};
 pub use places::Places;
+pub use report::ScanReport;
+pub use round::Drive;
+pub use rounds::{Round, make_round};
 pub use run::{Run, RunPoll};
+pub use settling::RoundFault;
 pub use slot::{Halt, Slot, Stage, hand, lose};
+pub use wants::want_news;
 pub use work::SplitWork;

@@ -1,7 +1,7 @@
 //! What opens a file: it is polled until it gives the splits of the file, or says why it is not read. An own type: the
 //! Rust opens files in async functions.
 ghost use Rattle.std.specs.Prelude.{◌≡◌, ◌≤◌, ◌<◌, ◌+◌, false, OnOk, IfOk};
-ghost use Rattle.scan_drive.specs.Openers.{OpenerMoves, IsHeldFor, PhaseKeeps, as_number};
+ghost use Rattle.scan_drive.specs.Openers.{Opens, IsHeldFor, PhaseKeeps, as_number};
 ghost use Rattle.scan_drive.specs.Phases.{is_unopened};
 ghost use Rattle.scan_drive.specs.declared.phase.Phase.TheVariants as phases;
 
@@ -16,52 +16,58 @@ use std::collections::VecDeque;
 pub enum Opening<W, F> {
     /// There is no answer yet.
     Pending,
-    /// The splits of the file, in order. A file that is skipped has none.
-    Opened(VecDeque<W>),
+    /// The splits of the file, in order, and how many rows the file has. A file that is skipped has none.
+    Opened(VecDeque<W>, u64),
     /// Why the file is not read.
     Refused(F),
     NoMemory,
 }
 
-/// Opens a file: its layout is asked for, checked and planned.
-pub trait SplitOpener<W: SplitWork, F> {
-    ghost use Rattle.scan_values.specs.Marked.{Marked};
+/// What opens the files of a scan: it polls the opener of a file, checks what that gives and plans the splits.
+pub trait SplitOpener<O, W: SplitWork, F> {
+    ghost use Rattle.scan_drive.specs.Files.{Item};
     ghost use Rattle.scan_drive.specs.Openers.{OpenerState, PollsOpen};
 
-    /// What it gives, its faults, its turns and how often it was polled.
-    ghost opener: { Self → OpenerState Marked };
+    /// What the opener of a file gives to this scan, its faults, its turns and how often it was polled.
+    ghost state: { Self → O → OpenerState Item };
 
-    /// Why a poll may say that the file is not read.
-    ghost refuses: { Self → Self → F → Type 0 };
+    /// What a poll does to the opener of a file.
+    ghost polls: { O → O → Type 0 };
+
+    /// Why a poll of the opener of a file may say that it is not read.
+    ghost refuses: { Self → O → O → F → Type 0 };
 
     /// One poll. It is pending only where the turns fell.
-    fn poll_open(&mut self, alloc: Global) -> Opening<W, F>
-        ensures { PollsOpen W.split W.comes opener refuses self.old self.new result };
+    fn poll_open(&self, alloc: Global, opener: &mut O) -> Opening<W, F>
+        ensures answer { PollsOpen W.split W.comes (state self.now) (refuses self.now) opener.old opener.new result }
+        ensures polled { polls opener.old opener.new };
 }
 
 /// Polls the opener of a file once, unless it has answered, and says whether it has now.
-pub fn open_file<W: SplitWork + Drop, F: Drop, O: SplitOpener<W, F>>(
+pub fn open_file<X: SplitOpener<O, W, F>, O, W: SplitWork + Drop, F: Drop>(
     alloc: Global,
+    context: &X,
     opener: &mut O,
     phase: &mut Phase<W, F>,
 ) -> Result<bool, NoMemory>
-    ensures moves { OpenerMoves (O.opener opener.old) (O.opener opener.new) }
+    ensures opens { Opens (X.state context.now) X.polls opener.old opener.new }
     ensures opened { IfOk result (λ b. is_unopened phase.new + as_number b ≤ is_unopened phase.old) }
+    ensures same { IfOk result (λ b. b ≡ false → phase.new ≡ phase.old) }
     ensures waits { IfOk result (λ b. b ≡ false → phase.old ≡ phases.Unopened →
-        (O.opener opener.new).turns < (O.opener opener.old).turns) }
-    ensures keeps { OnOk result (PhaseKeeps W.split W.comes (O.opener opener.old).gives phase.old phase.new) }
-    ensures held { OnOk result (IsHeldFor W.split W.comes O.opener O.refuses opener.old opener.new phase.old phase.new) }
+        (X.state context.now opener.new).turns < (X.state context.now opener.old).turns) }
+    ensures keeps { OnOk result (PhaseKeeps W.split W.comes (X.state context.now opener.old).gives phase.old phase.new) }
+    ensures held { OnOk result (IsHeldFor (X.refuses context.now) opener.old opener.new phase.old phase.new) }
 {
     match phase {
         Phase::Unopened => {}
-        Phase::Queued(_) => return Ok(false),
+        Phase::Queued(_, _) => return Ok(false),
         Phase::Held(_) => return Ok(false),
     }
-    match opener.poll_open(alloc) {
+    match context.poll_open(alloc, opener) {
         Opening::Pending => Ok(false),
         Opening::NoMemory => Err(NoMemory),
-        Opening::Opened(splits) => {
-            *phase = Phase::Queued(splits);
+        Opening::Opened(splits, rows) => {
+            *phase = Phase::Queued(splits, rows);
             Ok(true)
         }
         Opening::Refused(fault) => {

@@ -74,6 +74,18 @@ pub struct Slot<W, R> {
     pub stage: Stage<W, R>,
 }
 
+impl<W: Drop, R: Drop> Slot<W, R> {
+    /// Whether its split waits for nothing, so that a poll brings it on.
+    pub(crate) fn is_fresh(&self) -> bool
+        ensures { result ≡ is_fresh self.now.stage }
+    {
+        match &self.stage {
+            Stage::Reads(run) => run.is_ready(),
+            Stage::Empty | Stage::Read(_) | Stage::Halted(_, _) => false,
+        }
+    }
+}
+
 /// What arrived, shared.
 fn share(arrival: &Arrival) -> Result<Arrival, NoMemory>
     ensures { IfOk result (λ a. a ≡ arrival.now) }
@@ -89,7 +101,7 @@ fn share(arrival: &Arrival) -> Result<Arrival, NoMemory>
 
 /// Hands what arrived of an id to the split in a slot, and answers whether the split waits for nothing now. A split that
 /// is given up takes nothing.
-fn hand_one<W: Drop, R: Drop>(
+pub(crate) fn hand_one<W: Drop, R: Drop>(
     slot: &mut Slot<W, R>,
     id: SegmentId,
     arrival: &Arrival,
@@ -106,7 +118,7 @@ fn hand_one<W: Drop, R: Drop>(
 }
 
 /// Lists a place, where it is to be.
-fn list_if(yes: bool, place: usize, list: &mut VecDeque<usize>) -> Result<(), NoMemory>
+pub(crate) fn list_if(yes: bool, place: usize, list: &mut VecDeque<usize>) -> Result<(), NoMemory>
     ensures { OnOk result (list.new.items ≡ also_if yes place list.old.items) }
 {
     if !yes {

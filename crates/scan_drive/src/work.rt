@@ -6,7 +6,7 @@ use std::alloc::Global;
 /// A split of a file: what gives its rows once its segments have arrived.
 pub trait SplitWork {
     ghost use Rattle.std.specs.Prelude.{List};
-    ghost use Rattle.scan_values.specs.Marked.{Marked};
+    ghost use Rattle.scan_drive.specs.Files.{Item};
     ghost use Rattle.scan_segments.specs.Source.{Store};
     ghost use Rattle.scan_splits.specs.Arrivals.{Arrivals};
     ghost use Rattle.scan_drive.specs.Splits.{SplitState, Event};
@@ -15,10 +15,10 @@ pub trait SplitWork {
     type Rows: Drop;
 
     /// The rows that are given.
-    ghost items: { Self.Rows → List Marked };
+    ghost items: { Self.Rows → List Item };
 
     /// Its rows over a store, whether it overflows there, and the ids that it may want.
-    ghost split: { Self → SplitState Marked };
+    ghost split: { Self → SplitState Item };
 
     /// What it comes to under a store, once so much has arrived.
     ghost comes: { Self → Arrivals → Store → Event → Type 0 };

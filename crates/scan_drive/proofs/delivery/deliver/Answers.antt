@@ -1,10 +1,11 @@
-use Rattle.std.proofs.Common.{subst, sym}
+use Rattle.std.proofs.Common.{subst, sym, inl, inr, ◌∙◌}
 use Rattle.scan_drive.specs.Actives.{IsFront}
 use Rattle.scan_drive.specs.Chunks.{IsCause, IsDeliverFault, Gives}
 use Rattle.scan_drive.specs.declared.active.Front.{Front}
 use Rattle.scan_drive.specs.declared.delivery.Delivered.{Delivered}
 use Rattle.scan_drive.specs.declared.delivery.DriveFault.{DriveFault}
-use Rattle.scan_drive.proofs.Giving.{more_stays, more_rows, cut_rows, front_ok, stays_ok, stays_halted, halted_cause, held_fault}
+use Rattle.scan_drive.proofs.Giving.{more_stays, more_rows, cut_rows, front_ok, stays_ok, stays_halted, stays_seated, halted_cause, held_fault}
+use Rattle.scan_drive.proofs.Turning.{gives_stays, gives_rows, waits_stays}
 use Rattle.scan_drive.proofs.delivery.deliver.Goals as goal
 
 pub returns-in-Ok-Nothing-clause-delivered : goal.returns-in-Ok-Nothing-clause-delivered
@@ -15,12 +16,30 @@ returns-in-Ok-Nothing-clause-delivered g c =
 pub returns-in-Ok-Waits-clause-ok : goal.returns-in-Ok-Waits-clause-ok
 returns-in-Ok-Waits-clause-ok g c tale ok =
     let f = subst (λ (x : Front g.row.W-Rows.Denot). IsFront c.turns.active c.take_front.new.self x) c.in-Ok-Waits.field-0-is c.in-Ok-Waits.ensures in
-    stays_ok g.W.SplitWork.split g.W.SplitWork.comes g.W.SplitWork.items tale c.turns.active c.take_front.new.self f (c.turns.invariant.ok tale ok)
+    stays_ok g.W.SplitWork.split g.W.SplitWork.comes g.W.SplitWork.items tale c.turns.active c.take_front.new.self f.0 (c.turns.invariant.ok tale ok)
 
 pub returns-in-Ok-Waits-clause-delivered : goal.returns-in-Ok-Waits-clause-delivered
 returns-in-Ok-Waits-clause-delivered g c =
     let f = subst (λ (x : Front g.row.W-Rows.Denot). IsFront c.turns.active c.take_front.new.self x) c.in-Ok-Waits.field-0-is c.in-Ok-Waits.ensures in
-    more_stays g.W.SplitWork.split g.W.SplitWork.comes g.W.SplitWork.items c.args.active.now c.turns.active c.take_front.new.self c.args.chunks.now.items c.turns.chunks.items c.args.left.now c.turns.left c.turns.invariant.more f
+    more_stays g.W.SplitWork.split g.W.SplitWork.comes g.W.SplitWork.items c.args.active.now c.turns.active c.take_front.new.self c.args.chunks.now.items c.turns.chunks.items c.args.left.now c.turns.left c.turns.invariant.more f.0
+
+pub returns-in-Ok-Waits-clause-gives : goal.returns-in-Ok-Waits-clause-gives
+returns-in-Ok-Waits-clause-gives g c is =
+    let f = subst (λ (x : Front g.row.W-Rows.Denot). IsFront c.turns.active c.take_front.new.self x) c.in-Ok-Waits.field-0-is c.in-Ok-Waits.ensures in
+    (gives_stays g.W.SplitWork.split c.args.active.now c.turns.active c.take_front.new.self f.0 c.turns.invariant.gives, inr (waits_stays c.turns.active c.take_front.new.self f.0 f.1))
+
+pub returns-in-Ok-Waits-clause-seated : goal.returns-in-Ok-Waits-clause-seated
+returns-in-Ok-Waits-clause-seated g c =
+    let f = subst (λ (x : Front g.row.W-Rows.Denot). IsFront c.turns.active c.take_front.new.self x) c.in-Ok-Waits.field-0-is c.in-Ok-Waits.ensures in
+    stays_seated c.turns.active c.take_front.new.self f.0 c.turns.invariant.seated
+
+pub returns-in-Ok-Nothing-clause-gives : goal.returns-in-Ok-Nothing-clause-gives
+returns-in-Ok-Nothing-clause-gives g c is =
+    let f = subst (λ (x : Front g.row.W-Rows.Denot). IsFront c.turns.active c.take_front.new.self x) c.in-Ok-Nothing.field-0-is c.in-Ok-Nothing.ensures in
+    (gives_stays g.W.SplitWork.split c.args.active.now c.turns.active c.take_front.new.self f.1 c.turns.invariant.gives, inl ((λ i. (f.1.turns i).items) ∙ f.0))
+
+pub returns-in-Ok-Full-clause-gives : goal.returns-in-Ok-Full-clause-gives
+returns-in-Ok-Full-clause-gives g c is = absurd cc
 
 pub returns-in-Ok-Halted-clause-fault : goal.returns-in-Ok-Halted-clause-fault
 returns-in-Ok-Halted-clause-fault g c =
@@ -44,6 +63,7 @@ turns-preserved g c =
       seated = f.seated;
       news = λ h. f.news (c.turns.invariant.news h);
       ok = λ tale ok. front_ok g.W.SplitWork.split g.W.SplitWork.comes g.W.SplitWork.items tale c.in-Ok-Rows.file c.in-Ok-Rows.rows c.turns.active c.take_front.new.self c.turns.invariant.seated f (c.turns.invariant.ok tale ok);
+      gives = gives_rows g.W.SplitWork.split c.in-Ok-Rows.file c.in-Ok-Rows.rows c.args.active.now c.turns.active c.take_front.new.self c.turns.invariant.seated f c.turns.invariant.gives;
       more = more_rows g.W.SplitWork.split g.W.SplitWork.comes g.W.SplitWork.items c.in-Ok-Rows.file c.in-Ok-Rows.rows c.args.active.now c.turns.active c.take_front.new.self c.args.chunks.now.items c.turns.chunks.items c.give.new.chunks.items c.args.left.now c.turns.left c.give.new.left
           c.turns.invariant.seated c.turns.invariant.ok c.turns.invariant.more f given;
     }

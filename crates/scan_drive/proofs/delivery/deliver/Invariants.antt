@@ -1,16 +1,18 @@
 use Rattle.std.proofs.Common.{List, length}
-use Rattle.scan_values.specs.Marked.{Marked}
+use Rattle.scan_drive.specs.Files.{Item}
 use Rattle.scan_drive.specs.Actives.{Seated, AllOk}
 use Rattle.scan_drive.specs.Chunks.{IsMore}
 use Rattle.scan_drive.specs.Files.{Told}
 use Rattle.scan_drive.specs.Slots.{HasNews}
+use Rattle.scan_drive.specs.Turns.{GivesOn}
 use Rattle.scan_drive.proofs.delivery.deliver.Given as goal
 
 abbrev pub invariant-turns : goal.invariant-turns
 invariant-turns g l = record {
   seated : Seated l.active;
   news : HasNews l.fn.active.slots.items l.fn.active.news.items → HasNews l.active.slots.items l.active.news.items;
-  ok : (tale : List (Told Marked)) → AllOk g.W.SplitWork.split g.W.SplitWork.comes g.W.SplitWork.items tale l.fn.active → AllOk g.W.SplitWork.split g.W.SplitWork.comes g.W.SplitWork.items tale l.active;
+  ok : (tale : List (Told Item)) → AllOk g.W.SplitWork.split g.W.SplitWork.comes g.W.SplitWork.items tale l.fn.active → AllOk g.W.SplitWork.split g.W.SplitWork.comes g.W.SplitWork.items tale l.active;
+  gives : GivesOn g.W.SplitWork.split l.fn.active l.active;
   more : IsMore g.W.SplitWork.split g.W.SplitWork.comes g.W.SplitWork.items l.fn.active l.active l.fn.chunks.items l.chunks.items l.fn.left l.left;
 }
 

@@ -1,4 +1,4 @@
-use Rattle.std.proofs.Common.{◌∙◌, ◌<◌, ◌≡◌, ◌≢◌, arith, length, length-set, refl, get_or-set_other, List}
+use Rattle.std.proofs.Common.{inl, ◌∙◌, ◌<◌, ◌≡◌, ◌≢◌, arith, length, length-set, refl, get_or-set_other, List}
 use Rattle.std.proofs.lemmas.List.{get_or_default}
 use Rattle.scan_drive.specs.Moves.{IsNamed, tell, tells, FileMoves}
 use Rattle.scan_drive.specs.Openers.{as_number}
@@ -6,15 +6,19 @@ use Rattle.scan_drive.specs.declared.files.ScanFile.{ScanFile}
 use Rattle.scan_drive.specs.declared.phase.Phase.{Phase}
 use Rattle.scan_drive.specs.declared.phase.Phase.TheVariants as phases
 use Rattle.scan_drive.proofs.Asking.{moves_self}
-use Rattle.scan_drive.proofs.Moving.{moves_none, moves_set, sources_set, told_now, unopened_set_by, rest_set, phases_set_one}
+use Rattle.scan_drive.proofs.Moving.{moves_none, moves_set, sources_set, told_now, unopened_set_by, rest_set, phases_set_one, why_set, wait_set}
+use Rattle.scan_drive.proofs.Resting.{set_again}
 use Rattle.scan_drive.proofs.files.open_files.Goals as goal
 
 pub loop-i-init : goal.loop-i-init
 loop-i-init g c = record {
   len = refl;
-  moves = moves_none g.O.SplitOpener.opener g.S.SegmentSource.state c.args.files.now.items;
+  moves = moves_none (g.X.SplitOpener.state c.args.context.now) g.X.SplitOpener.polls g.S.SegmentSource.state (Unit {0}) c.args.files.now.items;
   sources = λ k f. refl;
   opened = omega arith;
+  same = λ e. refl;
+  waits = λ e k from to is f. absurd (omega arith);
+  why = λ k f is. inl is;
   below = λ k lt. refl;
   left = λ all k. refl;
   ok = λ h. h;
@@ -22,7 +26,9 @@ loop-i-init g c = record {
 
 pub loop-i-preserved : goal.loop-i-preserved
 loop-i-preserved g c =
-    let opener = g.O.SplitOpener.opener in
+    let state = g.X.SplitOpener.state c.args.context.now in
+    let polls = g.X.SplitOpener.polls in
+    let refuses = g.X.SplitOpener.refuses c.args.context.now in
     let source = g.S.SegmentSource.state in
     let inv = c.loop-i.invariant in
     let i = c.loop-i.i in
@@ -38,19 +44,38 @@ loop-i-preserved g c =
     let plt : i < length ps = omega (arith, n, inv.len, c.requires.within, c.requires.same) in
     let v = c.index_mut-file.ensures.value in
     let w = c.index_mut-phase.ensures.value in
-    let moved : FileMoves opener source x y = record { opens = c.open_file.ensures.moves; source_moves = moves_self (IsNamed (tell opener source x)) (source x.source); name = refl } in
-    let told = told_now opener source old now i x inv.moves lt v in
-    let tale : length (tells opener source old) ≡ length old = Rattle.std.proofs.lemmas.List.length-map old (tell opener source) in
+    let moved : FileMoves state polls source (Unit {0}) x y = record { opens = c.open_file.ensures.opens; source_moves = moves_self (λ id. Unit {0} → IsNamed (tell state source x) id) (source x.source); name = refl } in
+    let told = told_now state polls source (Unit {0}) old now i x inv.moves lt v in
+    let tale : length (tells state source old) ≡ length old = Rattle.std.proofs.lemmas.List.length-map old (tell state source) in
     record {
       len = length-set ps i q ∙ inv.len;
-      moves = moves_set opener source old now i x y inv.moves lt v moved;
+      moves = moves_set state polls source (Unit {0}) old now i x y inv.moves lt v moved;
       sources = sources_set old now i x y inv.sources lt v refl;
       opened =
           let u = unopened_set_by ps i p q (as_number c.in_ok-opened.opened) plt w c.in_ok-opened.ensures.opened in
           let o = inv.opened in
-          let e = c.either-any.ensures in
+          let e = c.either-any.ensures.number in
           omega arith;
+      same = λ is. (let both = c.either-any.ensures.none is in set_again ps i p q w (c.in_ok-opened.ensures.same both.1) ∙ inv.same both.0);
+      waits = λ is. (let both = c.either-any.ensures.none is in
+          wait_set state polls refuses source c.args.first i old now ps x y p q inv.moves lt v plt w (let u = c.in_ok-opened.ensures.opened in omega arith) (λ u. c.in_ok-opened.ensures.waits both.1 u) (inv.waits both.0));
+      why = why_set state polls refuses source old now c.args.phases.now.items ps i x y p q inv.moves lt v plt w c.open_file.ensures.opens c.in_ok-opened.ensures.held inv.why;
       below = λ k h. (let ne : k ≢ i = omega (arith, h, c.loop-i.auto.i) in get_or-set_other ps i k q phases.Unopened ne ∙ inv.below k h);
-      left = rest_set g.W.SplitWork.split g.W.SplitWork.comes (tells opener source old) c.args.phases.now.items ps i p q (tell opener source x) inv.left (omega (arith, tale, inv.len, c.requires.same)) plt w told c.in_ok-opened.ensures.keeps;
-      ok = phases_set_one g.W.SplitWork.split g.W.SplitWork.comes (tells opener source old) c.args.phases.now.items ps i p q (tell opener source x) inv.ok plt w told c.in_ok-opened.ensures.keeps;
+      left = rest_set g.W.SplitWork.split g.W.SplitWork.comes (tells state source old) c.args.phases.now.items ps i p q (tell state source x) inv.left (omega (arith, tale, inv.len, c.requires.same)) plt w told c.in_ok-opened.ensures.keeps;
+      ok = phases_set_one g.W.SplitWork.split g.W.SplitWork.comes (tells state source old) c.args.phases.now.items ps i p q (tell state source x) inv.ok plt w told c.in_ok-opened.ensures.keeps;
     }
+
+pub returns-in_err-opened-clause-moves : goal.returns-in_err-opened-clause-moves
+returns-in_err-opened-clause-moves g c =
+    let state = g.X.SplitOpener.state c.args.context.now in
+    let polls = g.X.SplitOpener.polls in
+    let source = g.S.SegmentSource.state in
+    let inv = c.loop-i.invariant in
+    let i = c.loop-i.i in
+    let old : List (ScanFile g.row.O.Denot g.row.S.Denot) = c.args.files.now.items in
+    let now : List (ScanFile g.row.O.Denot g.row.S.Denot) = c.loop-i.files.items in
+    let x : ScanFile g.row.O.Denot g.row.S.Denot = c.index_mut-file.result.now in
+    let y : ScanFile g.row.O.Denot g.row.S.Denot = record x { opener = c.open_file.new.opener } in
+    let n : length now ≡ length old = inv.moves.len in
+    let lt : i < length now = omega (arith, n, c.requires.within) in
+    moves_set state polls source (Unit {0}) old now i x y inv.moves lt c.index_mut-file.ensures.value (record { opens = c.open_file.ensures.opens; source_moves = moves_self (λ id. Unit {0} → IsNamed (tell state source x) id) (source x.source); name = refl })

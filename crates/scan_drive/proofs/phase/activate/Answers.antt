@@ -4,6 +4,11 @@ use Rattle.scan_drive.specs.Actives.{groups_left}
 use Rattle.scan_drive.specs.Phases.{rest, unopened, SpentBelow, PhasesOk}
 use Rattle.scan_drive.specs.declared.phase.Phase.{Phase}
 use Rattle.scan_drive.proofs.Resting.{activated, seated_ok, phases_set, work_now, below_set, below_more, unopened_set, set_again}
+use Rattle.scan_drive.specs.Phases.{phase_at}
+use Rattle.scan_drive.specs.Turns.{IsCounted, SeatsOn}
+use Rattle.scan_drive.specs.declared.phase.Phase.TheVariants as phases
+use Rattle.std.proofs.lemmas.List.{get_or_default}
+use Rattle.scan_drive.proofs.Turning.{seats_spent, seats_seat, tally_next, counts, held_before}
 use Rattle.scan_drive.proofs.phase.activate.Goals as goal
 
 pub loop-first-preserved : goal.loop-first-preserved
@@ -26,6 +31,10 @@ loop-first-preserved g c =
       seated = inv.seated;
       news = inv.news;
       left = λ tale n. ap (λ qs. groups_left split comes g.W.SplitWork.items tale c.loop-first.active ++ rest split comes tale qs) same ∙ inv.left tale n;
+      counted = λ tale n p a old. (let o = inv.ok tale n p a in tally_next split comes tale i c.loop-first.tally c.count.new.self (phase_at ps i) (omega (arith, n, inv.len, lt)) (o.0 i)
+          (subst (λ (q : Phase g.row.W.Denot g.row.F.Denot). IsCounted i c.loop-first.tally c.count.new.self q) (c.index.ensures ∙ get_or_default ps i c.index.result.now phases.Unopened lt) (counts i c.loop-first.tally c.count.new.self c.index.result.now c.count.result c.if-not-count.false c.count.ensures)) (inv.counted tale n p a old));
+      held = λ k why e. inv.held k why (sym (ap (λ (qs : List (Phase g.row.W.Denot g.row.F.Denot)). phase_at qs k) same) ∙ e);
+      seats = subst (λ (qs : List (Phase g.row.W.Denot g.row.F.Denot)). SeatsOn split c.args.first (i + 1) c.args.active.now c.loop-first.active c.args.phases.now.items qs) (sym same) (seats_spent split c.args.first i c.args.active.now c.loop-first.active c.args.phases.now.items ps lt inv.seats);
       ok = λ tale n p a. let o = inv.ok tale n p a in (subst (λ (qs : List (Phase g.row.W.Denot g.row.F.Denot)). PhasesOk split comes tale qs) (sym same) o.0, o.1);
     }
 
@@ -54,5 +63,9 @@ loop-first-preserved-in-Continue-1 g c =
       seated = seats.seated;
       news = λ h. seats.news (inv.news h);
       left = λ tale n. activated split comes items tale old new ps i x y w lt (n ∙ sym inv.len) inv.below v taken seats ∙ inv.left tale n;
+      counted = λ tale n p a old. (let o = inv.ok tale n p a in tally_next split comes tale i c.loop-first.tally c.count.new.self (phase_at ps i) (omega (arith, n, inv.len, lt)) (o.0 i)
+          (subst (λ (q : Phase g.row.W.Denot g.row.F.Denot). IsCounted i c.loop-first.tally c.count.new.self q) (c.index.ensures ∙ get_or_default ps i c.index.result.now phases.Unopened lt) (counts i c.loop-first.tally c.count.new.self c.index.result.now c.count.result c.if-not-count.false c.count.ensures)) (inv.counted tale n p a old));
+      held = λ k why e. inv.held k why (held_before ps i y k why lt taken.queued e);
+      seats = seats_seat split {comes = comes} c.args.first i c.args.active.now old new c.args.phases.now.items ps x y w lt inv.len v inv.seated taken seats inv.seats;
       ok = λ tale n p a. let o = inv.ok tale n p a in (phases_set split comes tale ps i x y lt v taken.phase_ok o.0, seated_ok split comes items tale i w old new (omega (arith, n, inv.len, lt)) (work_now split comes tale ps i x w lt v taken.work_ok o.0) seats o.1);
     }

@@ -1,9 +1,11 @@
-use Rattle.std.proofs.Common.{◌≡◌, ◌≤◌, ◌+◌, ◌-◌, ◌++◌, List, length}
-use Rattle.scan_values.specs.Marked.{Marked}
+use Rattle.std.proofs.Common.{◌≡◌, ◌≤◌, ◌+◌, ◌-◌, ◌++◌, ℕ, List, length}
+use Rattle.scan_drive.specs.Files.{Item}
 use Rattle.scan_drive.specs.Actives.{Seated, groups_left, AllOk}
 use Rattle.scan_drive.specs.Files.{Told}
-use Rattle.scan_drive.specs.Phases.{SpentBelow, PhasesOk, rest, unopened}
+use Rattle.scan_drive.specs.Phases.{SpentBelow, PhasesOk, rest, unopened, phase_at}
+use Rattle.scan_drive.specs.declared.phase.Phase.TheVariants as phases
 use Rattle.scan_drive.specs.Slots.{HasNews}
+use Rattle.scan_drive.specs.Turns.{IsTally, SeatsOn}
 use Rattle.scan_drive.proofs.phase.activate.Given as goal
 
 abbrev pub invariant-loop-first : goal.invariant-loop-first
@@ -14,10 +16,13 @@ invariant-loop-first g l = record {
   opened : unopened l.phases.items ≤ unopened l.fn.phases.items;
   seated : Seated l.active;
   news : HasNews l.fn.active.slots.items l.fn.active.news.items → HasNews l.active.slots.items l.active.news.items;
-  left : (tale : List (Told Marked)) → length tale ≡ length l.fn.phases.items → groups_left g.W.SplitWork.split g.W.SplitWork.comes g.W.SplitWork.items tale l.active ++ rest g.W.SplitWork.split g.W.SplitWork.comes tale l.phases.items ≡ groups_left g.W.SplitWork.split g.W.SplitWork.comes
+  left : (tale : List (Told Item)) → length tale ≡ length l.fn.phases.items → groups_left g.W.SplitWork.split g.W.SplitWork.comes g.W.SplitWork.items tale l.active ++ rest g.W.SplitWork.split g.W.SplitWork.comes tale l.phases.items ≡ groups_left g.W.SplitWork.split g.W.SplitWork.comes
       g.W.SplitWork.items tale l.fn.active ++ rest g.W.SplitWork.split g.W.SplitWork.comes tale l.fn.phases.items;
-  ok : (tale : List (Told Marked)) → length tale ≡ length l.fn.phases.items → PhasesOk g.W.SplitWork.split g.W.SplitWork.comes tale l.fn.phases.items → AllOk g.W.SplitWork.split g.W.SplitWork.comes g.W.SplitWork.items tale l.fn.active →
+  ok : (tale : List (Told Item)) → length tale ≡ length l.fn.phases.items → PhasesOk g.W.SplitWork.split g.W.SplitWork.comes tale l.fn.phases.items → AllOk g.W.SplitWork.split g.W.SplitWork.comes g.W.SplitWork.items tale l.fn.active →
       PhasesOk g.W.SplitWork.split g.W.SplitWork.comes tale l.phases.items × AllOk g.W.SplitWork.split g.W.SplitWork.comes g.W.SplitWork.items tale l.active;
+  counted : (tale : List (Told Item)) → length tale ≡ length l.fn.phases.items → PhasesOk g.W.SplitWork.split g.W.SplitWork.comes tale l.fn.phases.items → AllOk g.W.SplitWork.split g.W.SplitWork.comes g.W.SplitWork.items tale l.fn.active → IsTally tale l.fn.tally → IsTally tale l.tally;
+  held : (k : ℕ) (why : g.row.F.Denot) → phase_at l.phases.items k ≡ phases.Held why → phase_at l.fn.phases.items k ≡ phases.Held why;
+  seats : SeatsOn g.W.SplitWork.split l.fn.first l.first l.fn.active l.active l.fn.phases.items l.phases.items;
 }
 
 abbrev pub decreases-loop-first : goal.decreases-loop-first

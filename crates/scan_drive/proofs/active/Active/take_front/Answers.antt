@@ -1,8 +1,9 @@
 use Rattle.std.proofs.Common.{arith, ◌<◌, ◌≡◌, ◌++◌, ◌∷◌, [], length, ap, sym, ◌∙◌, subst, drop, List, ℕ, refl, length-set, get_or}
 use Rattle.scan_drive.specs.Actives.{AreSeats, Becomes}
+use Rattle.scan_drive.specs.Slots.{is_read, is_halted}
 use Rattle.scan_drive.specs.declared.slot.Slot.{Slot}
 use Rattle.scan_drive.specs.declared.slot.Stage.TheVariants as stage
-use Rattle.scan_drive.proofs.Seating.{first_within, seated_freed, slot_is, becomes_set, news_same, found, set_again}
+use Rattle.scan_drive.proofs.Seating.{first_within, seated_freed, slot_is, becomes_set, news_same, found, set_again, none_of}
 use Rattle.scan_drive.proofs.active.Active.take_front.Goals as goal
 
 pub index-requires : goal.index-requires
@@ -34,12 +35,28 @@ index_mut-requires g c =
     omega (arith, lt, c.args.self.now.slots.ok)
 
 pub returns-in-None : goal.returns-in-None
-returns-in-None g c = record {
-  slots = set_again c.args.self.now.slots.items c.in-Some.place c.index_mut.result.now c.take_rows.new.slot c.index_mut.ensures.value c.in-None.ensures.0;
-  turns = refl;
-  free = refl;
-  news = refl;
-}
+returns-in-None g c =
+    let old = c.args.self.now in
+    let place = c.in-Some.place in
+    let lt = first_within old.turns.items (drop 1 old.turns.items) old.free.items place old.slots.items c.requires c.in-Some.ensures in
+    let x : Slot g.row.W.Denot g.row.R.Denot = c.index_mut.result.now in
+    let y : Slot g.row.W.Denot g.row.R.Denot = c.index-2.result.now in
+    let at = found old.slots.items place x lt c.index_mut.ensures.value in
+    let same = found old.slots.items place y lt c.index-2.ensures in (
+      record {
+        slots = set_again old.slots.items place x c.take_rows.new.slot c.index_mut.ensures.value c.in-None.ensures.0;
+        turns = refl;
+        free = refl;
+        news = refl;
+      },
+      record {
+        place = place;
+        later = drop 1 old.turns.items;
+        turns = c.in-Some.ensures;
+        unread = ap (λ (s : Slot g.row.W.Denot g.row.R.Denot). is_read s.stage) at ∙ c.in-None.ensures.1;
+        wanted = ap (λ (s : Slot g.row.W.Denot g.row.R.Denot). is_halted s.stage) same ∙ c.halt_of.ensures.none (none_of c.halt_of.result c.in_default-halt_of.not-Some);
+      },
+    )
 
 pub returns-in_ok-push_back-in-Some-take_rows : goal.returns-in_ok-push_back-in-Some-take_rows
 returns-in_ok-push_back-in-Some-take_rows g c =

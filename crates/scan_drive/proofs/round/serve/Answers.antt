@@ -1,0 +1,108 @@
+use Rattle.std.proofs.Common.{◌≡◌, ◌∙◌, ◌<◌, List, ℕ, length, ap, sym, subst, arith}
+use Rattle.scan_drive.specs.Asks.{IsWantedBy}
+use Rattle.scan_drive.proofs.Halting.{round_report, round_counts, round_then}
+use Rattle.scan_drive.proofs.Losing.{halts_advance}
+use Rattle.scan_drive.proofs.Nearing.{all_then}
+use Rattle.scan_drive.proofs.Standing.{seated_advances, sources_then, slots_then}
+use Rattle.scan_drive.proofs.Trading.{files_then}
+use Rattle.scan_drive.specs.Slots.{slot_at}
+use Rattle.scan_drive.proofs.Asked.{reading_there}
+use Rattle.scan_drive.proofs.Lasting.{served, same_head, on_both}
+use Rattle.scan_drive.proofs.Linking.{on_ok}
+use Rattle.scan_drive.proofs.round.serve.Goals as goal
+
+pub front_file-requires : goal.front_file-requires
+front_file-requires g c =
+    let source = g.S.SegmentSource.state in
+    let cache = g.C.KeyedSegmentCache.cache in
+    let files = c.args.files.now.items in
+    let slots = c.args.slots.now.items in
+    let may = IsWantedBy c.args.asking.now.items slots in
+    let w = c.in_ok-want_news.ensures in
+    (c.requires.seated.0, seated_advances g.W.SplitWork.split c.args.turns.now.items c.requires.seated.0 slots c.want_news.new.slots.items w.advances c.requires.seated.1)
+
+pub returns-clause-sources : goal.returns-clause-sources
+returns-clause-sources g c =
+    let source = g.S.SegmentSource.state in
+    let cache = g.C.KeyedSegmentCache.cache in
+    let files = c.args.files.now.items in
+    let slots = c.args.slots.now.items in
+    let may = IsWantedBy c.args.asking.now.items slots in
+    let w = c.in_ok-want_news.ensures in
+    sources_then source g.W.SplitWork.split g.W.SplitWork.comes g.W.SplitWork.items may files c.want_news.new.files.items c.fetch_files.new.files.items w.sources c.fetch_files.ensures.sources
+
+pub returns-clause-trades : goal.returns-clause-trades
+returns-clause-trades g c =
+    let source = g.S.SegmentSource.state in
+    let cache = g.C.KeyedSegmentCache.cache in
+    let files = c.args.files.now.items in
+    let slots = c.args.slots.now.items in
+    let may = IsWantedBy c.args.asking.now.items slots in
+    let w = c.in_ok-want_news.ensures in
+    files_then source files c.want_news.new.files.items c.fetch_files.new.files.items (cache c.args.cache.now) (cache c.want_news.new.cache) (cache c.fetch_files.new.cache) w.trades c.fetch_files.ensures.trades
+
+pub returns-clause-advances : goal.returns-clause-advances
+returns-clause-advances g c =
+    let source = g.S.SegmentSource.state in
+    let cache = g.C.KeyedSegmentCache.cache in
+    let files = c.args.files.now.items in
+    let slots = c.args.slots.now.items in
+    let may = IsWantedBy c.args.asking.now.items slots in
+    let w = c.in_ok-want_news.ensures in
+    on_ok c.fetch_files.result (all_then g.W.SplitWork.split slots c.want_news.new.slots.items c.fetch_files.new.slots.items w.advances) c.fetch_files.ensures.advances
+
+pub returns-clause-keeps : goal.returns-clause-keeps
+returns-clause-keeps g c =
+    let source = g.S.SegmentSource.state in
+    let cache = g.C.KeyedSegmentCache.cache in
+    let files = c.args.files.now.items in
+    let slots = c.args.slots.now.items in
+    let may = IsWantedBy c.args.asking.now.items slots in
+    let w = c.in_ok-want_news.ensures in
+    on_ok c.fetch_files.result (λ k h. slots_then source g.W.SplitWork.split g.W.SplitWork.comes g.W.SplitWork.items may files c.want_news.new.files.items slots c.want_news.new.slots.items c.fetch_files.new.slots.items w.sources (λ q. (w.advances.at q).file_is) (w.keeps h) k) c.fetch_files.ensures.keeps
+
+pub returns-clause-nearer : goal.returns-clause-nearer
+returns-clause-nearer g c =
+    let source = g.S.SegmentSource.state in
+    let split = g.W.SplitWork.split in
+    let files = c.args.files.now.items in
+    let files1 = c.want_news.new.files.items in
+    let slots = c.args.slots.now.items in
+    let slots1 = c.want_news.new.slots.items in
+    let w = c.in_ok-want_news.ensures in
+    let front = c.in-Some.ensures in
+    let k = c.in-Some.front in
+    on_both c.fetch_files.result (λ adv near place later turns reads.
+    (let at : place ≡ front.place = same_head place front.place later front.later (sym turns ∙ front.turns_are) in
+    let file1 : (slot_at slots1 place).file ≡ k = ap (λ q. (slot_at slots1 q).file) at ∙ front.file_is in
+    let there = c.requires.within place (reading_there (slot_at slots place).stage reads) in
+    let file0 : (slot_at slots1 place).file ≡ (slot_at slots place).file = (w.advances.at place).file_is in
+    let klt : k < length files1 = omega (arith, there, file0, file1, w.sources.len) in
+    let dlt : k < length c.want_news.new.desks.items = omega (arith, klt, w.agree.len) in
+    served source split (IsWantedBy c.args.asking.now.items slots) place k files files1 c.fetch_files.new.files.items c.want_news.new.desks.items slots slots1 c.fetch_files.new.slots.items w.sources w.advances adv w.links dlt file1 reads (c.requires.asks.settled place)
+    (near (c.fetch_end-last.ensures.some (omega (arith, klt, c.len.ensures)))))) c.fetch_files.ensures.advances c.fetch_files.ensures.nearer
+
+pub returns-clause-news : goal.returns-clause-news
+returns-clause-news g c = on_ok c.fetch_files.result (λ k h. k (c.in_ok-want_news.ensures.news h)) c.fetch_files.ensures.news
+
+pub returns-clause-balance : goal.returns-clause-balance
+returns-clause-balance g c =
+    let source = g.S.SegmentSource.state in
+    let cache = g.C.KeyedSegmentCache.cache in
+    let files = c.args.files.now.items in
+    let files1 = c.want_news.new.files.items in
+    let files2 = c.fetch_files.new.files.items in
+    let slots1 = c.want_news.new.slots.items in
+    let slots2 = c.fetch_files.new.slots.items in
+    let w = c.in_ok-want_news.ensures in
+    let r = c.args.report.now in
+    let x = c.want_news.new.report in
+    on_both c.fetch_files.result (λ adv counts.
+    round_then source files files1 files2 (cache c.args.cache.now) (cache c.want_news.new.cache) (cache c.fetch_files.new.cache) r x x slots1 slots2 w.trades.len (halts_advance g.W.SplitWork.split slots1 slots2 adv)
+    (round_report source files files1 (cache c.args.cache.now) (cache c.want_news.new.cache) r x slots1 w.balance)
+    (round_counts source files1 files2 (cache c.want_news.new.cache) (cache c.fetch_files.new.cache) x slots2 counts)) c.fetch_files.ensures.advances c.fetch_files.ensures.counts
+
+pub returns-in_default-clause-balance : goal.returns-in_default-clause-balance
+returns-in_default-clause-balance g c =
+    let cache = g.C.KeyedSegmentCache.cache in
+    round_report g.S.SegmentSource.state c.args.files.now.items c.want_news.new.files.items (cache c.args.cache.now) (cache c.want_news.new.cache) c.args.report.now c.want_news.new.report c.want_news.new.slots.items c.in_ok-want_news.ensures.balance

@@ -1,0 +1,93 @@
+use Rattle.std.proofs.Common.{◌≡◌, ◌∙◌, refl, sym, ap, subst}
+use Rattle.scan_drive.specs.Files.{answer, limited}
+use Rattle.scan_drive.specs.declared.round.Drive.{Drive}
+use Rattle.scan_drive.proofs.Ending.{done_all, done_cut, sound_more, stops_more, stops_file, settled}
+use Rattle.scan_drive.proofs.settling.settle.Goals as goal
+
+pub returns-then-not-is_idle-clause-waits : goal.returns-then-not-is_idle-clause-waits
+returns-then-not-is_idle-clause-waits g c =
+    let split = g.W.SplitWork.split in
+    let comes = g.W.SplitWork.comes in
+    let items = g.W.SplitWork.items in
+    let d : Drive g.row.W.Denot g.row.W-Rows.Denot g.row.F.Denot = c.args.drive.now in
+    let e : Drive g.row.W.Denot g.row.W-Rows.Denot g.row.F.Denot = record d { active = c.give_out.new.active; chunks = c.give_out.new.chunks; left = c.give_out.new.left } in
+    let is = c.in-Ok-Some.field-0-is in
+    let w = c.in-Ok-Some.ensures in
+    let more = rw is at w.gives in
+    settled split comes items c.in-Ok-Some.asking.items d e refl refl refl refl (rw is at w.ready) (rw is at w.halts) (rw is at w.asks) (rw is at w.once) (rw is at w.links) (rw is at w.named) w.ok more (rw is at w.steps) (λ none end. c.is_idle.ensures.some c.if-not-is_idle.true none)
+
+pub returns-in-Open-clause-waits : goal.returns-in-Open-clause-waits
+returns-in-Open-clause-waits g c =
+    let split = g.W.SplitWork.split in
+    let comes = g.W.SplitWork.comes in
+    let items = g.W.SplitWork.items in
+    let d : Drive g.row.W.Denot g.row.W-Rows.Denot g.row.F.Denot = c.args.drive.now in
+    let e : Drive g.row.W.Denot g.row.W-Rows.Denot g.row.F.Denot = record d { active = c.give_out.new.active; chunks = c.give_out.new.chunks; left = c.give_out.new.left } in
+    let is = c.in-Ok-Some.field-0-is in
+    let w = c.in-Ok-Some.ensures in
+    let more = rw is at w.gives in
+    let f : Drive g.row.W.Denot g.row.W-Rows.Denot g.row.F.Denot = record e { phases = c.end_of.new.phases } in
+    let none = c.is_idle.ensures.none c.if-not-is_idle.false in
+    let o = c.in-Open.ensures in
+    settled split comes items c.in-Ok-Some.asking.items d f o.0 refl refl refl (rw is at w.ready) (rw is at w.halts) (rw is at w.asks) (rw is at w.once) (rw is at w.links) (rw is at w.named) w.ok more (rw is at w.steps) (λ no end. o.1 (subst (λ ps. Rattle.scan_drive.specs.Rounds.IsEnd d.first d.tally ps) o.0 end))
+
+pub returns-in-Done-clause-done : goal.returns-in-Done-clause-done
+returns-in-Done-clause-done g c e0 tale all s =
+    let split = g.W.SplitWork.split in
+    let comes = g.W.SplitWork.comes in
+    let items = g.W.SplitWork.items in
+    let d : Drive g.row.W.Denot g.row.W-Rows.Denot g.row.F.Denot = c.args.drive.now in
+    let e : Drive g.row.W.Denot g.row.W-Rows.Denot g.row.F.Denot = record d { active = c.give_out.new.active; chunks = c.give_out.new.chunks; left = c.give_out.new.left } in
+    let is = c.in-Ok-Some.field-0-is in
+    let w = c.in-Ok-Some.ensures in
+    let more = rw is at w.gives in
+    let none = c.is_idle.ensures.none c.if-not-is_idle.false in
+    done_all split comes items tale e (sound_more split comes items tale d e more (w.ok tale) refl refl s) none c.requires.1.below c.in-Done.ensures.1 all ∙ ap (λ l. limited l (answer tale)) more.counts.limit
+
+pub returns-in-TooMany-clause-fault : goal.returns-in-TooMany-clause-fault
+returns-in-TooMany-clause-fault g c tale s =
+    let split = g.W.SplitWork.split in
+    let comes = g.W.SplitWork.comes in
+    let items = g.W.SplitWork.items in
+    let d : Drive g.row.W.Denot g.row.W-Rows.Denot g.row.F.Denot = c.args.drive.now in
+    let e : Drive g.row.W.Denot g.row.W-Rows.Denot g.row.F.Denot = record d { active = c.give_out.new.active; chunks = c.give_out.new.chunks; left = c.give_out.new.left } in
+    let is = c.in-Ok-Some.field-0-is in
+    let w = c.in-Ok-Some.ensures in
+    let more = rw is at w.gives in
+    let f : Drive g.row.W.Denot g.row.W-Rows.Denot g.row.F.Denot = record e { phases = c.end_of.new.phases } in
+    let none = c.is_idle.ensures.none c.if-not-is_idle.false in
+    let o = c.in-TooMany.ensures in
+    (stops_more split comes items tale d f more (w.ok tale) o.0 refl s, none, refl, subst (λ ps. Rattle.scan_drive.specs.Turns.IsTooMany d.first d.tally (Rattle.scan_drive.specs.Phases.phase_at ps d.first)) (sym o.0) o.1)
+
+pub returns-in-Refused-clause-fault : goal.returns-in-Refused-clause-fault
+returns-in-Refused-clause-fault g c tale s =
+    let split = g.W.SplitWork.split in
+    let comes = g.W.SplitWork.comes in
+    let items = g.W.SplitWork.items in
+    let d : Drive g.row.W.Denot g.row.W-Rows.Denot g.row.F.Denot = c.args.drive.now in
+    let e : Drive g.row.W.Denot g.row.W-Rows.Denot g.row.F.Denot = record d { active = c.give_out.new.active; chunks = c.give_out.new.chunks; left = c.give_out.new.left } in
+    let is = c.in-Ok-Some.field-0-is in
+    let w = c.in-Ok-Some.ensures in
+    let more = rw is at w.gives in
+    let f : Drive g.row.W.Denot g.row.W-Rows.Denot g.row.F.Denot = record e { phases = c.end_of.new.phases } in
+    let none = c.is_idle.ensures.none c.if-not-is_idle.false in
+    let o = c.in-Refused.ensures in
+    (stops_file split comes items tale d e f d.first c.in-Refused.fault o.0 o.1 refl refl refl refl (stops_more split comes items tale d e more (w.ok tale) refl refl s), none, refl, o.0)
+
+pub returns-in-Ok-None-clause-done : goal.returns-in-Ok-None-clause-done
+returns-in-Ok-None-clause-done g c e0 tale all s =
+    let split = g.W.SplitWork.split in
+    let comes = g.W.SplitWork.comes in
+    let items = g.W.SplitWork.items in
+    let d : Drive g.row.W.Denot g.row.W-Rows.Denot g.row.F.Denot = c.args.drive.now in
+    let e : Drive g.row.W.Denot g.row.W-Rows.Denot g.row.F.Denot = record d { active = c.give_out.new.active; chunks = c.give_out.new.chunks; left = c.give_out.new.left } in
+    done_cut split comes items tale d c.give_out.new.chunks.items (rw c.in-Ok-None.field-0-is at c.in-Ok-None.ensures.gives) s all
+
+pub returns-in-Err-clause-fault : goal.returns-in-Err-clause-fault
+returns-in-Err-clause-fault g c tale s =
+    let split = g.W.SplitWork.split in
+    let comes = g.W.SplitWork.comes in
+    let items = g.W.SplitWork.items in
+    let d : Drive g.row.W.Denot g.row.W-Rows.Denot g.row.F.Denot = c.args.drive.now in
+    let e : Drive g.row.W.Denot g.row.W-Rows.Denot g.row.F.Denot = record d { active = c.give_out.new.active; chunks = c.give_out.new.chunks; left = c.give_out.new.left } in
+    (c.in-Err.ensures.fault, c.in-Err.ensures.cause tale s.ok)

@@ -1,0 +1,47 @@
+-- What a round keeps, and how it ends.
+use Rattle.std.specs.Prelude.{◌≡◌, ◌<◌, ◌≤◌, ◌+◌, ℕ, List, length}
+use Rattle.scan_segments.specs.Source.{SourceState, Store}
+use Rattle.scan_splits.specs.Arrivals.{Arrivals}
+use Rattle.scan_drive.specs.Chunks.{given}
+use Rattle.scan_drive.specs.Desks.{Waiters}
+use Rattle.scan_drive.specs.Drives.{EachLinked}
+use Rattle.scan_drive.specs.Ends.{Stops, limit_in}
+use Rattle.scan_drive.specs.Files.{AllTell, answer, limited}
+use Rattle.scan_drive.specs.Moves.{HoldsWhy, tells}
+use Rattle.scan_drive.specs.Openers.{OpenerState}
+use Rattle.scan_drive.specs.Phases.{unopened}
+use Rattle.scan_drive.specs.Rounds.{Stands, Sound, steps_left}
+use Rattle.scan_drive.specs.Splits.{SplitState, Event}
+use Rattle.scan_drive.specs.Trades.{CacheAgrees}
+use Rattle.scan_drive.specs.Wants.{Cache}
+use Rattle.scan_drive.specs.declared.files.ScanFile.{ScanFile}
+use Rattle.scan_drive.specs.declared.round.Drive.{Drive}
+use Rattle.scan_drive.specs.declared.rounds.Round.{Round}
+use Rattle.scan_drive.specs.declared.rounds.Round.TheVariants as round
+use Rattle.scan_drive.specs.declared.settling.RoundFault.{RoundFault}
+
+module _ {O S W I R F : Type 0} (state : O → OpenerState I) (polls : O → O → Type 0) (refuses : O → O → F → Type 0) (source : S → SourceState) (split : W → SplitState I) (comes : W → Arrivals → Store → Event → Type 0) (items : R → List I) where
+  -- a drive after a round: so many openers have answered, and it is as sound as it was where the cache agrees with the files
+  pub record GoesOn (answered : ℕ) (files files' : List (ScanFile O S)) (desks : List Waiters) (c : Cache) (old new : Drive W R F) : Type 0 where
+    pub stands : Stands (length files) new
+    pub links : EachLinked desks new.active.slots.items
+    pub limit : limit_in split comes items new ≡ limit_in split comes items old
+    pub opened : unopened new.phases.items + answered ≤ unopened old.phases.items
+    pub why : HoldsWhy state polls refuses files files' old.phases.items new.phases.items
+    pub sound : CacheAgrees source files c → Sound split comes items (tells state source files) old → Sound split comes items (tells state source files) new
+
+  -- what a round has come to
+  abbrev pub RoundIs : Round → List (ScanFile O S) → List (ScanFile O S) → List Waiters → Cache → Drive W R F → Drive W R F → Type 0
+  RoundIs round.More files files' desks c old new = GoesOn 0 files files' desks c old new × (steps_left state source split files' new < steps_left state source split files old)
+  RoundIs round.Opened files files' desks c old new = GoesOn 1 files files' desks c old new
+  RoundIs round.Done files files' desks c old new =
+      AllTell (tells state source files) → Sound split comes items (tells state source files) old
+      → given items new.chunks.items ≡ limited (limit_in split comes items old) (answer (tells state source files))
+
+  -- why a round ends without all rows: so it was once openers were polled and splits had become active
+  pub record StopsIn (files files' : List (ScanFile O S)) (old new : Drive W R F) (e : RoundFault F) : Type 0 where
+    pub mid : Drive W R F
+    pub limit : limit_in split comes items mid ≡ limit_in split comes items old
+    pub why : HoldsWhy state polls refuses files files' old.phases.items mid.phases.items
+    pub sound : Sound split comes items (tells state source files) old → Sound split comes items (tells state source files) mid
+    pub stops : Sound split comes items (tells state source files) old → Stops split comes items (tells state source files) mid new e

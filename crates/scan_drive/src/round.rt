@@ -1,0 +1,231 @@
+//! A round over all files. An own type: the Rust runs the tasks of one file after the other.
+ghost use Rattle.std.specs.Prelude.{◌≡◌, ◌≤◌, ◌<◌, ◌+◌, ◌++◌, ◌⊎◌, ◌∷◌, [], ℕ, List, true, false, OnOk, IfOk, IfErr, IfSome, MatchOption, length};
+ghost use Rattle.scan_drive.specs.Actives.{AreSeats, AllOk};
+ghost use Rattle.scan_drive.specs.Asks.{EachLinkedBut, IsWantedBy};
+ghost use Rattle.scan_drive.specs.Chunks.{HasRoom, IsMore, IsCut, IsDeliverFault, IsCause};
+ghost use Rattle.scan_drive.specs.Desks.{Waiters};
+ghost use Rattle.scan_drive.specs.Drives.{DesksAgree, SourcesMove, EachLinked, FilesWithin, SlotsKeep};
+ghost use Rattle.scan_drive.specs.Files.{Item, Told, told_at};
+ghost use Rattle.scan_drive.specs.Losses.{FilesBalance, HaltsStay};
+ghost use Rattle.scan_drive.specs.Measures.{EachAdvances, slots_steps};
+ghost use Rattle.scan_drive.specs.Moves.{EachMoves, KeepsSources, HoldsWhy, tells};
+ghost use Rattle.scan_drive.specs.Openers.{as_number};
+ghost use Rattle.scan_drive.specs.Phases.{unopened};
+ghost use Rattle.scan_drive.specs.Rounds.{IsReady, AreAsking, IsFrontFile, Stands, IsEnd, Sound, AskNamed, ServesFront, steps_left, files_turns};
+ghost use Rattle.scan_drive.specs.Slots.{HasNews, slot_at, is_reading};
+ghost use Rattle.scan_drive.specs.Trades.{CacheAgrees, FilesTrade};
+ghost use Rattle.scan_drive.specs.Turns.{FrontWaits, TurnsWait};
+ghost use Rattle.scan_splits.specs.Wanted.{no_repeats};
+
+use crate::active::{Active, first_of};
+use crate::delivery::{Chunk, Delivered, DriveFault, deliver};
+use crate::desk::Desk;
+use crate::drive::fetch_files;
+use crate::files::{ScanFile, open_files};
+use crate::looking::poll_news;
+use crate::opening::SplitOpener;
+use crate::phase::{Phase, Tally, activate};
+use crate::report::ScanReport;
+use crate::slot::Slot;
+use crate::wants::want_news;
+use crate::work::SplitWork;
+use scan_segments::{KeyedSegmentCache, SegmentSource};
+use scan_values::NoMemory;
+use std::alloc::Global;
+use std::collections::VecDeque;
+
+/// How far a drive is.
+#[derive(Drop)]
+pub struct Drive<W, R, F> {
+    pub phases: Vec<Phase<W, F>>,
+    pub active: Active<W, R>,
+    pub chunks: Vec<Chunk<R>>,
+    /// No file below it has a split that is not active yet.
+    pub first: usize,
+    pub tally: Tally,
+    /// How many rows may still be given, where there is a limit.
+    pub left: Option<u64>,
+    pub report: ScanReport,
+}
+
+/// The file of the split whose turn it is.
+fn front_file<W: Drop, R: Drop>(turns: &VecDeque<usize>, slots: &Vec<Slot<W, R>>) -> Option<usize>
+    requires { (free : List ℕ) × AreSeats turns.now.items free slots.now.items }
+    ensures { MatchOption result (turns.now.items ≡ []) (IsFrontFile turns.now.items slots.now.items) }
+{
+    match first_of(turns) {
+        Some(place) => Some(slots[place].file),
+        None => None,
+    }
+}
+
+/// Below which file all is given: that of the split whose turn it is, or else this one.
+fn finished<W: Drop, R: Drop>(
+    turns: &VecDeque<usize>,
+    slots: &Vec<Slot<W, R>>,
+    first: usize,
+) -> usize
+    requires { (free : List ℕ) × AreSeats turns.now.items free slots.now.items }
+    ensures { turns.now.items ≡ [] → result ≡ first }
+{
+    match front_file(turns, slots) {
+        Some(file) => file,
+        None => first,
+    }
+}
+
+/// Up to which file requests are polled: those from the front on, as far as splits have become active.
+fn fetch_end(first: usize, front: usize, files: usize) -> usize
+    ensures within { result ≤ files }
+    ensures some { front < files → front < result }
+{
+    if first < files && front < first {
+        return first + 1;
+    }
+    front.saturating_add(1).min(files)
+}
+
+/// How many splits may be active.
+fn room_for(workers: usize) -> usize
+    requires { 0 < workers }
+    ensures { 0 < result }
+{
+    workers.saturating_mul(4)
+}
+
+/// Up to which file openers are polled, where so many at the front are done.
+fn window(done: usize, workers: usize, files: usize) -> usize
+    ensures within { result ≤ files }
+    ensures some { done < files → 0 < workers → done < result }
+{
+    done.saturating_add(workers).min(files)
+}
+
+/// Polls the openers of the files in the window, and makes splits active. It says whether an opener has answered.
+pub(crate) fn bring_in<X: SplitOpener<O, W, F>, O, W: SplitWork + Drop, F: Drop, S: SegmentSource>(
+    alloc: Global,
+    context: &X,
+    files: &mut Vec<ScanFile<O, S>>,
+    drive: &mut Drive<W, W::Rows, F>,
+    workers: usize,
+) -> Result<bool, NoMemory>
+    requires workers { 0 < workers }
+    requires stands { Stands (length files.old.items) drive.old }
+    ensures moves { EachMoves (X.state context.now) X.polls S.state (Unit {0}) files.old.items files.new.items }
+    ensures sources { KeepsSources files.old.items files.new.items }
+    ensures stands { OnOk result (Stands (length files.old.items) drive.new) }
+    ensures rest { (drive.new.chunks ≡ drive.old.chunks) × (drive.new.left ≡ drive.old.left) × (drive.new.report ≡ drive.old.report) }
+    ensures links { OnOk result ((desks : List Waiters) → EachLinked desks drive.old.active.slots.items →
+        EachLinked desks drive.new.active.slots.items) }
+    ensures halts { OnOk result (HaltsStay drive.old.active.slots.items drive.new.active.slots.items) }
+    ensures sound { OnOk result (Sound W.split W.comes W.items (tells (X.state context.now) S.state files.old.items) drive.old →
+        Sound W.split W.comes W.items (tells (X.state context.now) S.state files.old.items) drive.new) }
+    ensures why { OnOk result (HoldsWhy (X.state context.now) X.polls (X.refuses context.now)
+        files.old.items files.new.items drive.old.phases.items drive.new.phases.items) }
+    ensures opened { IfOk result (λ b. unopened drive.new.phases.items + as_number b ≤ unopened drive.old.phases.items) }
+    ensures steps { IfOk result (λ b. b ≡ false →
+        (steps_left (X.state context.now) S.state W.split files.new.items drive.new
+        < steps_left (X.state context.now) S.state W.split files.old.items drive.old)
+        ⊎ ((steps_left (X.state context.now) S.state W.split files.new.items drive.new
+        ≤ steps_left (X.state context.now) S.state W.split files.old.items drive.old)
+        × (drive.new.active.turns.items ≡ [] → IsEnd drive.new.first drive.new.tally drive.new.phases.items))) }
+{
+    let first = drive.first;
+    let done = finished(&drive.active.turns, &drive.active.slots, first);
+    let last = window(done, workers, files.len());
+    let opened = open_files(alloc, context, files, &mut drive.phases, first, last)?;
+    let room = room_for(workers);
+    drive.first = activate(
+        alloc,
+        &mut drive.phases,
+        first,
+        &mut drive.active,
+        &mut drive.tally,
+        room,
+    )?;
+    Ok(opened)
+}
+
+/// Polls the splits with news, and gives the rows of those whose turn it is. It answers the places of the splits that wait
+/// for other segments now, or nothing once the limit is met.
+pub(crate) fn give_out<W: SplitWork + Drop>(
+    alloc: Global,
+    active: &mut Active<W, W::Rows>,
+    chunks: &mut Vec<Chunk<W::Rows>>,
+    left: &mut Option<u64>,
+) -> Result<Option<VecDeque<usize>>, DriveFault>
+    requires ready { (n : ℕ) × IsReady n active.old }
+    requires room { HasRoom left.old }
+    ensures ready { IfOk result (λ o. IfSome o (λ asking. (n : ℕ) → IsReady n active.old → IsReady n active.new)) }
+    ensures asks { IfOk result (λ o. IfSome o (λ asking. AreAsking asking.items active.new.slots.items)) }
+    ensures once { IfOk result (λ o. IfSome o (λ asking. no_repeats asking.items ≡ true)) }
+    ensures links { IfOk result (λ o. IfSome o (λ asking. (desks : List Waiters) → EachLinked desks active.old.slots.items →
+        EachLinkedBut asking.items desks active.new.slots.items)) }
+    ensures named { IfOk result (λ o. IfSome o (λ asking. (tale : List (Told Item)) →
+        AllOk W.split W.comes W.items tale active.old → AskNamed tale asking.items active.new.slots.items)) }
+    ensures halts { IfOk result (λ o. IfSome o (λ asking. HaltsStay active.old.slots.items active.new.slots.items)) }
+    ensures ok { OnOk result ((tale : List (Told Item)) → AllOk W.split W.comes W.items tale active.old →
+        AllOk W.split W.comes W.items tale active.new) }
+    ensures gives { IfOk result (λ o. MatchOption o
+        (IsCut W.split W.comes W.items active.old chunks.old.items chunks.new.items left.old)
+        (λ asking. IsMore W.split W.comes W.items active.old active.new chunks.old.items chunks.new.items left.old left.new)) }
+    ensures fault { IfErr result (λ e. IsDeliverFault W.split W.comes W.items active.old active.new
+        chunks.old.items chunks.new.items left.old left.new e) }
+    ensures cause { IfErr result (λ e. (tale : List (Told Item)) →
+        AllOk W.split W.comes W.items tale active.old → IsCause tale e) }
+    ensures steps { IfOk result (λ o. IfSome o (λ asking. TurnsWait active.new ×
+        ((slots_steps W.split active.new.slots.items < slots_steps W.split active.old.slots.items)
+        ⊎ ((slots_steps W.split active.new.slots.items ≤ slots_steps W.split active.old.slots.items)
+        × (active.new.turns.items ≡ active.old.turns.items))))) }
+{
+    let asking = match poll_news(alloc, &mut active.slots, &mut active.news) {
+        Ok(asking) => asking,
+        Err(_) => return Err(DriveFault::NoMemory),
+    };
+    match deliver(alloc, active, chunks, left) {
+        Ok(Delivered::More) => Ok(Some(asking)),
+        Ok(Delivered::Full) => Ok(None),
+        Err(fault) => Err(fault),
+    }
+}
+
+/// Wants what the splits at these places want, and polls each live request of the files that are read once.
+pub(crate) fn serve<W: SplitWork + Drop, O: Drop, S: SegmentSource + Drop, C: KeyedSegmentCache>(
+    alloc: Global,
+    files: &mut Vec<ScanFile<O, S>>,
+    desks: &mut Vec<Desk>,
+    cache: &mut C,
+    slots: &mut Vec<Slot<W, W::Rows>>,
+    news: &mut VecDeque<usize>,
+    turns: &VecDeque<usize>,
+    asking: &mut VecDeque<usize>,
+    report: &mut ScanReport,
+    first: usize,
+) -> Result<(), NoMemory>
+    requires agree { DesksAgree S.state files.old.items desks.old.items }
+    requires seated { (free : List ℕ) × AreSeats turns.now.items free slots.old.items }
+    requires within { FilesWithin (length files.old.items) slots.old.items }
+    requires once { no_repeats asking.old.items ≡ true }
+    requires links { EachLinkedBut asking.old.items desks.old.items slots.old.items }
+    requires asks { AreAsking asking.old.items slots.old.items }
+    ensures agree { DesksAgree S.state files.new.items desks.new.items }
+    ensures sources { SourcesMove S.state (IsWantedBy asking.old.items slots.old.items) files.old.items files.new.items }
+    ensures trades { FilesTrade S.state files.old.items files.new.items (C.cache cache.old) (C.cache cache.new) }
+    ensures balance { OnOk result (FilesBalance S.state files.old.items files.new.items
+        (C.cache cache.old) (C.cache cache.new) report.old report.new slots.new.items) }
+    ensures keeps { OnOk result (CacheAgrees S.state files.old.items (C.cache cache.old) →
+        SlotsKeep S.state W.split W.comes W.items files.old.items slots.old.items slots.new.items) }
+    ensures advances { OnOk result (EachAdvances W.split slots.old.items slots.new.items) }
+    ensures nearer { OnOk result ((place : ℕ) (later : List ℕ) → turns.now.items ≡ place ∷ later →
+        is_reading (slot_at slots.old.items place).stage ≡ true →
+        ServesFront S.state W.split place files.old.items files.new.items slots.old.items slots.new.items) }
+    ensures links { OnOk result (EachLinked desks.new.items slots.new.items) }
+    ensures news { OnOk result (HasNews slots.old.items news.old.items → HasNews slots.new.items news.new.items) }
+{
+    want_news(alloc, asking, files, desks, cache, slots, news, report)?;
+    let Some(front) = front_file(turns, slots) else {
+        return Ok(());
+    };
+    let last = fetch_end(first, front, files.len());
+    fetch_files(alloc, files, desks, cache, slots, news, front, last)
+}

@@ -1,0 +1,93 @@
+//! Rounds of a drive over many files.
+ghost use Rattle.std.specs.Prelude.{◌<◌, IfOk, IfErr, length};
+ghost use Rattle.scan_drive.specs.Accounts.{RoundKeeps};
+ghost use Rattle.scan_drive.specs.Drives.{DesksAgree, EachLinked};
+ghost use Rattle.scan_drive.specs.Moves.{EachMoves, tells};
+ghost use Rattle.scan_drive.specs.Rounds.{Stands, Sound};
+ghost use Rattle.scan_drive.specs.Runnings.{RoundIs, StopsIn};
+ghost use Rattle.scan_drive.specs.Trades.{FilesTrade};
+
+use crate::delivery::DriveFault;
+use crate::desk::Desk;
+use crate::files::ScanFile;
+use crate::opening::SplitOpener;
+use crate::round::{Drive, bring_in, serve};
+use crate::settling::{RoundFault, settle};
+use crate::work::SplitWork;
+use scan_segments::{KeyedSegmentCache, SegmentSource};
+use std::alloc::Global;
+
+/// What a round has come to.
+#[derive(Clone, Copy, Debug, PartialEq, Eq)]
+pub enum Round {
+    /// Each opener that was polled has put off its answer.
+    More,
+    /// An opener has answered.
+    Opened,
+    /// All is given, or the limit is met.
+    Done,
+}
+
+/// One round.
+pub fn make_round<
+    X: SplitOpener<O, W, F>,
+    O: Drop,
+    W: SplitWork + Drop,
+    F: Drop,
+    S: SegmentSource + Drop,
+    C: KeyedSegmentCache,
+>(
+    alloc: Global,
+    context: &X,
+    files: &mut Vec<ScanFile<O, S>>,
+    desks: &mut Vec<Desk>,
+    cache: &mut C,
+    drive: &mut Drive<W, W::Rows, F>,
+    workers: usize,
+) -> Result<Round, RoundFault<F>>
+    requires workers { 0 < workers }
+    requires agree { DesksAgree S.state files.old.items desks.old.items }
+    requires stands { Stands (length files.old.items) drive.old }
+    requires links { EachLinked desks.old.items drive.old.active.slots.items }
+    ensures agree { DesksAgree S.state files.new.items desks.new.items }
+    ensures moves { EachMoves (X.state context.now) X.polls S.state
+        (Sound W.split W.comes W.items (tells (X.state context.now) S.state files.old.items) drive.old)
+        files.old.items files.new.items }
+    ensures trades { FilesTrade S.state files.old.items files.new.items (C.cache cache.old) (C.cache cache.new) }
+    ensures round { IfOk result (λ r. RoundIs (X.state context.now) X.polls (X.refuses context.now) S.state
+        W.split W.comes W.items r
+        files.old.items files.new.items desks.new.items (C.cache cache.old) drive.old drive.new) }
+    ensures balance { IfOk result (λ r. RoundKeeps S.state files.old.items files.new.items
+        (C.cache cache.old) (C.cache cache.new) drive.old drive.new r) }
+    ensures fault { IfErr result (λ e. StopsIn (X.state context.now) X.polls (X.refuses context.now) S.state
+        W.split W.comes W.items files.old.items files.new.items drive.old drive.new e) }
+{
+    let opened = match bring_in(alloc, context, files, drive, workers) {
+        Ok(opened) => opened,
+        Err(_) => return Err(RoundFault::Split(DriveFault::NoMemory)),
+    };
+    let mut asking = match settle(alloc, drive) {
+        Ok(Some(asking)) => asking,
+        Ok(None) => return Ok(Round::Done),
+        Err(fault) => return Err(fault),
+    };
+    match serve(
+        alloc,
+        files,
+        desks,
+        cache,
+        &mut drive.active.slots,
+        &mut drive.active.news,
+        &drive.active.turns,
+        &mut asking,
+        &mut drive.report,
+        drive.first,
+    ) {
+        Ok(()) => {}
+        Err(_) => return Err(RoundFault::Split(DriveFault::NoMemory)),
+    }
+    if opened {
+        return Ok(Round::Opened);
+    }
+    Ok(Round::More)
+}
