@@ -19,6 +19,7 @@ pub mod KeyTimes
 pub mod Lasting
 pub mod Ledgers
 pub mod Linking
+pub mod Looping
 pub mod Losing
 pub mod Moving
 pub mod Nearing

@@ -45,3 +45,19 @@ module _ {O S W I R F : Type 0} (state : O → OpenerState I) (polls : O → O �
     pub why : HoldsWhy state polls refuses files files' old.phases.items mid.phases.items
     pub sound : Sound split comes items (tells state source files) old → Sound split comes items (tells state source files) mid
     pub stops : Sound split comes items (tells state source files) old → Stops split comes items (tells state source files) mid new e
+
+  -- what rounds have come to, where the cache agreed with the files at first
+  abbrev pub RunIs : Round → List (ScanFile O S) → List (ScanFile O S) → List Waiters → Cache → Drive W R F → Drive W R F → Type 0
+  RunIs round.More files files' desks c old new = ⊥
+  RunIs round.Opened files files' desks c old new = GoesOn 1 files files' desks c old new
+  RunIs round.Done files files' desks c old new =
+      CacheAgrees source files c → AllTell (tells state source files) → Sound split comes items (tells state source files) old
+      → given items new.chunks.items ≡ limited (limit_in split comes items old) (answer (tells state source files))
+
+  -- why rounds end without all rows, where the cache agreed with the files at first
+  pub record StopsRun (files files' : List (ScanFile O S)) (c : Cache) (old new : Drive W R F) (e : RoundFault F) : Type 0 where
+    pub mid : Drive W R F
+    pub limit : limit_in split comes items mid ≡ limit_in split comes items old
+    pub why : HoldsWhy state polls refuses files files' old.phases.items mid.phases.items
+    pub sound : CacheAgrees source files c → Sound split comes items (tells state source files) old → Sound split comes items (tells state source files) mid
+    pub stops : CacheAgrees source files c → Sound split comes items (tells state source files) old → Stops split comes items (tells state source files) mid new e

@@ -37,7 +37,7 @@ pub use phase::{Phase, Taken, Tally, activate};
 pub use places::Places;
 pub use report::ScanReport;
 pub use round::Drive;
-pub use rounds::{Round, make_round};
+pub use rounds::{Round, make_round, run_rounds};
 pub use run::{Run, RunPoll};
 pub use settling::RoundFault;
 pub use slot::{Halt, Slot, Stage, hand, lose};

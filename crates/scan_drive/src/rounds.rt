@@ -1,11 +1,14 @@
 //! Rounds of a drive over many files.
-ghost use Rattle.std.specs.Prelude.{◌<◌, IfOk, IfErr, length};
+ghost use Rattle.std.specs.Prelude.{◌≡◌, ◌<◌, OnOk, IfOk, IfErr, length};
 ghost use Rattle.scan_drive.specs.Accounts.{RoundKeeps};
+ghost use Rattle.scan_drive.specs.Chunks.{given};
 ghost use Rattle.scan_drive.specs.Drives.{DesksAgree, EachLinked};
+ghost use Rattle.scan_drive.specs.Ends.{limit_in};
+ghost use Rattle.scan_drive.specs.Files.{AllTell, answer, limited};
 ghost use Rattle.scan_drive.specs.Moves.{EachMoves, tells};
 ghost use Rattle.scan_drive.specs.Rounds.{Stands, Sound};
-ghost use Rattle.scan_drive.specs.Runnings.{RoundIs, StopsIn};
-ghost use Rattle.scan_drive.specs.Trades.{FilesTrade};
+ghost use Rattle.scan_drive.specs.Runnings.{RoundIs, StopsIn, RunIs, StopsRun};
+ghost use Rattle.scan_drive.specs.Trades.{CacheAgrees, FilesTrade};
 
 use crate::delivery::DriveFault;
 use crate::desk::Desk;
@@ -90,4 +93,93 @@ pub fn make_round<
         return Ok(Round::Opened);
     }
     Ok(Round::More)
+}
+
+/// Rounds until an opener answers, or all is given or the limit is met. What is left falls with each.
+fn wait_rounds<
+    X: SplitOpener<O, W, F>,
+    O: Drop,
+    W: SplitWork + Drop,
+    F: Drop,
+    S: SegmentSource + Drop,
+    C: KeyedSegmentCache,
+>(
+    alloc: Global,
+    context: &X,
+    files: &mut Vec<ScanFile<O, S>>,
+    desks: &mut Vec<Desk>,
+    cache: &mut C,
+    drive: &mut Drive<W, W::Rows, F>,
+    workers: usize,
+) -> Result<Round, RoundFault<F>>
+    requires workers { 0 < workers }
+    requires agree { DesksAgree S.state files.old.items desks.old.items }
+    requires stands { Stands (length files.old.items) drive.old }
+    requires links { EachLinked desks.old.items drive.old.active.slots.items }
+    ensures agree { DesksAgree S.state files.new.items desks.new.items }
+    ensures moves { EachMoves (X.state context.now) X.polls S.state
+        (CacheAgrees S.state files.old.items (C.cache cache.old)
+        × Sound W.split W.comes W.items (tells (X.state context.now) S.state files.old.items) drive.old)
+        files.old.items files.new.items }
+    ensures trades { FilesTrade S.state files.old.items files.new.items (C.cache cache.old) (C.cache cache.new) }
+    ensures fault { IfErr result (λ e. StopsRun (X.state context.now) X.polls (X.refuses context.now) S.state
+        W.split W.comes W.items files.old.items files.new.items (C.cache cache.old) drive.old drive.new e) }
+    ensures run { IfOk result (λ r. RunIs (X.state context.now) X.polls (X.refuses context.now) S.state
+        W.split W.comes W.items r
+        files.old.items files.new.items desks.new.items (C.cache cache.old) drive.old drive.new) }
+{
+    'rounds: loop {
+        match make_round(alloc, context, files, desks, cache, drive, workers) {
+            Ok(Round::More) => {}
+            Ok(Round::Opened) => return Ok(Round::Opened),
+            Ok(Round::Done) => return Ok(Round::Done),
+            Err(fault) => return Err(fault),
+        }
+    }
+}
+
+/// Rounds until all is given or the limit is met. Fewer files are unopened after each answer of an opener. Live requests
+/// are not dropped.
+pub fn run_rounds<
+    X: SplitOpener<O, W, F>,
+    O: Drop,
+    W: SplitWork + Drop,
+    F: Drop,
+    S: SegmentSource + Drop,
+    C: KeyedSegmentCache,
+>(
+    alloc: Global,
+    context: &X,
+    files: &mut Vec<ScanFile<O, S>>,
+    desks: &mut Vec<Desk>,
+    cache: &mut C,
+    drive: &mut Drive<W, W::Rows, F>,
+    workers: usize,
+) -> Result<(), RoundFault<F>>
+    requires workers { 0 < workers }
+    requires agree { DesksAgree S.state files.old.items desks.old.items }
+    requires stands { Stands (length files.old.items) drive.old }
+    requires links { EachLinked desks.old.items drive.old.active.slots.items }
+    ensures agree { DesksAgree S.state files.new.items desks.new.items }
+    ensures moves { EachMoves (X.state context.now) X.polls S.state
+        (CacheAgrees S.state files.old.items (C.cache cache.old)
+        × Sound W.split W.comes W.items (tells (X.state context.now) S.state files.old.items) drive.old)
+        files.old.items files.new.items }
+    ensures trades { FilesTrade S.state files.old.items files.new.items (C.cache cache.old) (C.cache cache.new) }
+    ensures fault { IfErr result (λ e. StopsRun (X.state context.now) X.polls (X.refuses context.now) S.state
+        W.split W.comes W.items files.old.items files.new.items (C.cache cache.old) drive.old drive.new e) }
+    ensures done { OnOk result (CacheAgrees S.state files.old.items (C.cache cache.old) →
+        AllTell (tells (X.state context.now) S.state files.old.items) →
+        Sound W.split W.comes W.items (tells (X.state context.now) S.state files.old.items) drive.old →
+        given W.items drive.new.chunks.items ≡ limited (limit_in W.split W.comes W.items drive.old)
+        (answer (tells (X.state context.now) S.state files.old.items))) }
+{
+    'opens: loop {
+        match wait_rounds(alloc, context, files, desks, cache, drive, workers) {
+            Ok(Round::Done) => return Ok(()),
+            Ok(Round::Opened) => {}
+            Ok(Round::More) => unreachable!(),
+            Err(fault) => return Err(fault),
+        }
+    }
 }
