@@ -1,0 +1,24 @@
+use Rattle.scan_file.specs.declared.split.FileSplit.{FileSplit}
+use Rattle.scan_file.proofs.Splitting.{same_split, wants_ids}
+use Rattle.scan_file.proofs.split.FileSplitSplitWork.poll.Goals as goal
+
+pub returns-in-Ok-clause-same : goal.returns-in-Ok-clause-same
+returns-in-Ok-clause-same c = let new : FileSplit = record { future = c.poll.new.self } in same_split c.args.inbox.now new c.args.self.now c.poll.ensures.same
+
+pub returns-in-Err-clause-same : goal.returns-in-Err-clause-same
+returns-in-Err-clause-same c = let new : FileSplit = record { future = c.poll.new.self } in same_split c.args.inbox.now new c.args.self.now c.poll.ensures.same
+
+pub returns-in-Pending-clause-answer : goal.returns-in-Pending-clause-answer
+returns-in-Pending-clause-answer c = wants_ids c.args.inbox.now c.args.self.now c.in-Pending.ids c.in-Pending.ensures.answer
+
+pub returns-in-Pending-clause-same : goal.returns-in-Pending-clause-same
+returns-in-Pending-clause-same c = let new : FileSplit = record { future = c.poll.new.self } in same_split c.args.inbox.now new c.args.self.now c.poll.ensures.same
+
+pub returns-in-Corrupt-clause-same : goal.returns-in-Corrupt-clause-same
+returns-in-Corrupt-clause-same c = let new : FileSplit = record { future = c.poll.new.self } in same_split c.args.inbox.now new c.args.self.now c.poll.ensures.same
+
+pub returns-in-Overflow-clause-same : goal.returns-in-Overflow-clause-same
+returns-in-Overflow-clause-same c = let new : FileSplit = record { future = c.poll.new.self } in same_split c.args.inbox.now new c.args.self.now c.poll.ensures.same
+
+pub returns-in-NoMemory-clause-same : goal.returns-in-NoMemory-clause-same
+returns-in-NoMemory-clause-same c = let new : FileSplit = record { future = c.poll.new.self } in same_split c.args.inbox.now new c.args.self.now c.poll.ensures.same
