@@ -8,6 +8,7 @@ use crate::told::told;
 use scan_limit::RowLimit;
 use scan_streams::Claims;
 use std::alloc::Global;
+use std::string::String;
 use std::sync::Arc;
 use std::test::Fail;
 
@@ -50,21 +51,23 @@ fn shared(alloc: Global, rows: u64) -> Result<(Option<Claims>, Option<Claims>), 
     Ok((Some(Claims::new(limit, rows, seat)), Some(other)))
 }
 
+/// What three polls of a stream give that claims its rows.
+fn claimed(alloc: Global, claims: Option<Claims>) -> Result<String, Fail>
+    requires { HasRoom claims 6 }
+{
+    let splits = splits(alloc, 2, 3)?;
+    let mut stream = stream(alloc, splits, true, 1, claims, UnlessOf::new(MANY))?;
+    let mut source = source(alloc, 3, &[], &[])?;
+    told(alloc, &mut stream, &mut source, 3)
+}
+
 #[test]
 fn two_streams_share_a_limit(rt: HostRuntime) -> Result<(), Fail> {
     let alloc = rt.alloc();
     let (first, second) = shared(alloc, 4)?;
-    let left = splits(alloc, 2, 3)?;
-    let right = splits(alloc, 2, 3)?;
-    let mut left = stream(alloc, left, true, 1, first, UnlessOf::new(MANY))?;
-    let mut right = stream(alloc, right, true, 1, second, UnlessOf::new(MANY))?;
-    let mut of_left = source(alloc, 3, &[], &[])?;
-    let mut of_right = source(alloc, 3, &[], &[])?;
-    let told_left = told(alloc, &mut left, &mut of_left, 2)?;
-    assert_eq!(rt; told_left.as_str(), "1,2; 3; ");
-    let told_right = told(alloc, &mut right, &mut of_right, 2)?;
-    assert_eq!(rt; told_right.as_str(), "1; end; ");
-    let end = told(alloc, &mut left, &mut of_left, 2)?;
-    assert_eq!(rt; end.as_str(), "end; end; ");
+    let left = claimed(alloc, first)?;
+    assert_eq!(rt; left.as_str(), "1,2; 3; end; ");
+    let right = claimed(alloc, second)?;
+    assert_eq!(rt; right.as_str(), "1; end; end; ");
     Ok(())
 }
