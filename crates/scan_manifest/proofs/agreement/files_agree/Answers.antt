@@ -14,7 +14,7 @@ returns-then-not-same c =
 
 pub loop-file-preserved : goal.loop-file-preserved
 loop-file-preserved c = elim c.match-get.branch [
-    in-Some+else-not-same w ↦
+  | in-Some+else-not-same w ↦
       stays c.args.files.now c.loop-file.file-index c.file-item.result c.loop-file-test.true c.file-item.is c.loop-file.firsts c.loop-file.invariant
       c.as_str-id.result.now c.as_str-id.ensures w.in-Some.first.now w.in-Some.ensures.value (sym w.same.ensures ∙ w.if-not-same.false)
       ∙ ap (λ m. settled (looked_up m) (drop (c.loop-file.file-index + 1) c.args.files.now)) (sym w.firsts-is)
@@ -23,4 +23,4 @@ loop-file-preserved c = elim c.match-get.branch [
       c.as_str-id.result.now c.as_str-id.ensures w.insert.new.self _ w.in-None.ensures.value refl
       (btree_map_updates_str c.as_str-id.result.now c.loop-file.firsts w.insert.new.self _ w.in_ok-insert-in-None.ensures.updates)
       ∙ ap (λ m. settled (looked_up m) (drop (c.loop-file.file-index + 1) c.args.files.now)) (sym w.firsts-is)
-  ]
+]

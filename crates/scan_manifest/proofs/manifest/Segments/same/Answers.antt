@@ -32,14 +32,14 @@ returns-then-ne-2 c =
 pub loop-id-preserved : goal.loop-id-preserved
 loop-id-preserved c = record {
   same =
-    c.loop-id.invariant.same ∙ same_here c.loop-id.id-iterator.a c.loop-id.id-iterator.b c.next.new.self.a c.next.new.self.b
-    c.in-Some.id.now c.in-Some.other_id.now c.in-Some.bytes.now c.in-Some.other_bytes.now c.in-Some.ensures.steps.0 c.in-Some.ensures.steps.1
-    (not_false _ _ c.ne.ensures c.if-ne.false)
-    (ap (λ xs. bytes_eq xs c.in-Some.other_bytes.now) (sym c.as_slice.ensures) ∙ ap (bytes_eq c.as_slice.result.now) (sym c.as_slice-in-loop-id.ensures)
-    ∙ not_false _ _ c.ne-in-loop-id.ensures c.if-ne-2.false);
+      c.loop-id.invariant.same ∙ same_here c.loop-id.id-iterator.a c.loop-id.id-iterator.b c.next.new.self.a c.next.new.self.b
+      c.in-Some.id.now c.in-Some.other_id.now c.in-Some.bytes.now c.in-Some.other_bytes.now c.in-Some.ensures.steps.0 c.in-Some.ensures.steps.1
+      (not_false _ _ c.ne.ensures c.if-ne.false)
+      (ap (λ xs. bytes_eq xs c.in-Some.other_bytes.now) (sym c.as_slice.ensures) ∙ ap (bytes_eq c.as_slice.result.now) (sym c.as_slice-in-loop-id.ensures)
+      ∙ not_false _ _ c.ne-in-loop-id.ensures c.if-ne-2.false);
   even = even_here c.loop-id.id-iterator.a c.loop-id.id-iterator.b c.next.new.self.a c.next.new.self.b
-    c.in-Some.id.now c.in-Some.other_id.now c.in-Some.bytes.now c.in-Some.other_bytes.now c.in-Some.ensures.steps.0 c.in-Some.ensures.steps.1
-    c.loop-id.invariant.even;
+      c.in-Some.id.now c.in-Some.other_id.now c.in-Some.bytes.now c.in-Some.other_bytes.now c.in-Some.ensures.steps.0 c.in-Some.ensures.steps.1
+      c.loop-id.invariant.even;
 }
 
 pub returns : goal.returns
