@@ -1,0 +1,7 @@
+pub mod Empties
+pub mod Faults
+pub mod Plain
+pub mod Requests
+pub mod Scans
+pub mod Sources
+pub mod Splits
