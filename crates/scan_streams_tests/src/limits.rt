@@ -51,14 +51,14 @@ fn shared(alloc: Global, rows: u64) -> Result<(Option<Claims>, Option<Claims>), 
     Ok((Some(Claims::new(limit, rows, seat)), Some(other)))
 }
 
-/// What three polls of a stream give that claims its rows.
+/// What two polls of a stream give that claims its rows.
 fn claimed(alloc: Global, claims: Option<Claims>) -> Result<String, Fail>
     requires { HasRoom claims 6 }
 {
     let splits = splits(alloc, 2, 3)?;
     let mut stream = stream(alloc, splits, true, 1, claims, UnlessOf::new(MANY))?;
     let mut source = source(alloc, 3, &[], &[])?;
-    told(alloc, &mut stream, &mut source, 3)
+    told(alloc, &mut stream, &mut source, 2)
 }
 
 #[test]
@@ -66,8 +66,8 @@ fn two_streams_share_a_limit(rt: HostRuntime) -> Result<(), Fail> {
     let alloc = rt.alloc();
     let (first, second) = shared(alloc, 4)?;
     let left = claimed(alloc, first)?;
-    assert_eq!(rt; left.as_str(), "1,2; 3; end; ");
+    assert_eq!(rt; left.as_str(), "1,2; 3; ");
     let right = claimed(alloc, second)?;
-    assert_eq!(rt; right.as_str(), "1; end; end; ");
+    assert_eq!(rt; right.as_str(), "1; end; ");
     Ok(())
 }
