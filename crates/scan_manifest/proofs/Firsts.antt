@@ -122,15 +122,15 @@ module _ (ss ts ss' ts' : Stored) (m n : ℕ) (xs ys : List ℕ) (es : ss ≡ (m
 number_is : (m n : ℕ) → is_eq (nat_cmp m n) ≡ true → m ≡ n
 number_is m n h = grind (arith, nat_tests)
 
-first_true : (a b : Bool) → (a && b) ≡ true → a ≡ true
+pub first_true : (a b : Bool) → (a && b) ≡ true → a ≡ true
 first_true true b h = refl
 first_true false b h = h
 
-then_true : (a b : Bool) → (a && b) ≡ true → b ≡ true
+pub then_true : (a b : Bool) → (a && b) ≡ true → b ≡ true
 then_true true b h = h
 then_true false b h = cc
 
-same_is : (ss ts : Stored) → same_segments ss ts ≡ true → ss ≡ ts
+pub same_is : (ss ts : Stored) → same_segments ss ts ≡ true → ss ≡ ts
 same_is [] [] h = refl
 same_is [] (t ∷ ts) h = cc
 same_is (s ∷ ss) [] h = cc

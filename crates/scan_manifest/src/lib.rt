@@ -12,5 +12,5 @@ pub use expression::read_expression;
 pub use json::ParseFault;
 pub use manifest::{
     CacheSpec, Calls, FileSpec, Files, LayoutTree, Manifest, Segments, manifest_of,
-    manifest_of_bytes, parse_manifest,
+    manifest_of_bytes,
 };

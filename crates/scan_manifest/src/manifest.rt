@@ -1,5 +1,5 @@
 //! A manifest: a dtype, files and a request, read from JSON.
-ghost use Rattle.std.specs.Prelude.{◌≡◌, ◌≢◌, ◌<◌, ◌≤◌, [], length, IfOk, Some, None, option_map, option_and_then, codes, true};
+ghost use Rattle.std.specs.Prelude.{◌≡◌, ◌<◌, ◌≤◌, [], length, IfOk, Some, None, option_map, option_and_then, codes, true};
 ghost use Rattle.std.specs.Result.{result_ok};
 ghost use Rattle.hex.specs.Hex.{decode_of};
 ghost use Rattle.serde_json.specs.View.{view, items_view};
@@ -622,21 +622,4 @@ pub fn manifest_of_bytes(alloc: Global, bytes: &[u8]) -> Result<Manifest, ParseF
             }
         }
     }
-}
-
-/// The manifest of one file that some bytes are, as `manifest_of_bytes` reads it. A manifest of another number of files
-/// is not served so far.
-///
-/// # Errors
-///
-/// `Bad` exactly where the bytes are no manifest of one file, and `NoMemory`.
-pub fn parse_manifest(alloc: Global, bytes: &[u8]) -> Result<Manifest, ParseFault>
-    ensures ok { IfOk result (λ m. IsManifest bytes.now m × (length m.files ≡ 1)) }
-    ensures bad { result ≡ Err ParseFault.Bad → (m : Manifest) → IsManifest bytes.now m → length m.files ≢ 1 }
-{
-    let manifest = manifest_of_bytes(alloc, bytes)?;
-    if manifest.files.as_slice().len() != 1 {
-        return Err(ParseFault::Bad);
-    }
-    Ok(manifest)
 }

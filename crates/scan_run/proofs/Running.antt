@@ -10,16 +10,16 @@ use Rattle.scan_run.specs.ReadAll.{GaveAll, TookMore}
 use Rattle.scan_run.specs.WriteAll.{WroteFront}
 use Rattle.scan_manifest.specs.Manifest.{IsManifest}
 use Rattle.scan_manifest.proofs.CallerLemmas.{only_manifest}
-use Rattle.scan_run.specs.Run.{IsDone, IsUnserved, of_files, IsRefused, IsFound, IsUnbound, IsUnreadable, IsFailing}
+use Rattle.scan_run.specs.Run.{IsDone, IsUnserved, IsRefused, IsFound, IsUnbound, IsUnreadable, IsFailing}
 use Rattle.scan_run.specs.Stops.{status_of, IsStop, IsTextOf, WroteFrontOfLines, Ends, IsReady}
 
 told_fact : (P : List ℕ → Type 0) (left : Option (List ℕ)) (bytes : List ℕ) → IfSome left (λ all. bytes ≡ all) → P bytes → IfSome left P
 told_fact P None bytes e h = tt
 told_fact P (Some all) bytes e h = subst P e h
 
-pub refused_many : (input input' : InputState) (bytes : List ℕ) → GaveAll bytes input input' → ((m : Manifest) → IsManifest bytes m → length m.files ≢ 1) → IsRefused input input'
+pub refused_many : (input input' : InputState) (bytes : List ℕ) → GaveAll bytes input input' → ((m : Manifest) → ¬ IsManifest bytes m) → IsRefused input input'
 refused_many input input' bytes g h =
-    record { read = g.read; is = told_fact (λ all. (m : Manifest) → IsManifest all m → IsUnserved m) input.left bytes g.all (λ m i. of_files (h m i)) }
+    record { read = g.read; is = told_fact (λ all. (m : Manifest) → IsManifest all m → IsUnserved m) input.left bytes g.all (λ m i. absurd (h m i)) }
 
 refused : (input input' : InputState) (bytes : List ℕ) (m : Manifest) → GaveAll bytes input input' → IsManifest bytes m → IsUnserved m → IsRefused input input'
 refused input input' bytes m g i u =

@@ -1,8 +1,10 @@
 -- The scan of a manifest's files: why it stops, and what it prints.
-use Rattle.std.proofs.Common.{◌≡◌, ◌⊎◌, inl, inr, ℕ, zero, suc, ◌+◌, ◌^◌, ◌<◌, ◌≤◌, List, [], ◌∷◌, ◌++◌, length, get_or, map, false, Option, None, Some, refl, sym, ap, ◌∙◌, subst, arith}
-use Rattle.std.specs.Prelude.{IfSome, IsSome, All, Contains, unwrap_or}
+use Rattle.std.proofs.Common.{◌≡◌, ◌⊎◌, inl, inr, ℕ, zero, suc, ◌+◌, ◌^◌, ◌<◌, ◌≤◌, List, [], ◌∷◌, ◌++◌, length, get_or, map, true, false, Option, None, Some, refl, sym, ap, ◌∙◌, subst, arith}
+use Rattle.std.specs.Prelude.{IfSome, IsSome, IfOk, Result, All, Contains, unwrap_or}
+use Rattle.std.proofs.lemmas.Result.{IfOk-weaker}
 use Rattle.std.specs.List.{AllByRecursion}
 use Rattle.std.proofs.lemmas.List.Concat.{flat_map-append}
+use Rattle.std.proofs.lemmas.List.{append-nil}
 use Rattle.std.proofs.lemmas.List.Elements.{All-weaker, recursion_from_All}
 use Rattle.scan_values.specs.DataType.{DataType}
 use Rattle.scan_segments.specs.Source.{Store}
@@ -27,10 +29,13 @@ use Rattle.scan_multi.specs.declared.scan.fault.ScanFault.{ScanFault}
 use Rattle.scan_multi.specs.declared.scan.fault.ScanFault.TheVariants as fault
 use Rattle.scan_manifest.specs.declared.manifest.FileSpec.{FileSpec}
 use Rattle.scan_manifest.specs.declared.manifest.Manifest.{Manifest}
+use Rattle.scan_manifest.specs.declared.json.ParseFault.{ParseFault}
+use Rattle.scan_manifest.specs.Manifest.{IsManifest, all_agree}
+use Rattle.scan_manifest.proofs.CallerLemmas.{manifest_agrees, places_same}
 use Rattle.scan_run.specs.declared.run.Asked.{Asked}
 use Rattle.scan_run.specs.AskedOf.{IsAsked}
 use Rattle.scan_run.specs.FileOf.{memory_opener, IsFileOf, AreFilesOf, AreReady}
-use Rattle.scan_run.specs.Run.{CanFail, given_by, store_of, told_by, lines_of, IsScanned, IsUnserved, HasNoFault, IsBadFile, IsUnreadable, of_opener, of_source, of_form, of_type, of_layout, of_range, of_segment, of_overflow, of_rows}
+use Rattle.scan_run.specs.Run.{CanFail, given_by, store_of, told_by, lines_of, IsScanned, IsUnserved, HasNoFault, IsBadFile, IsUnreadable, of_opener, of_source, of_type, of_layout, of_range, of_segment, of_overflow, of_rows}
 use Rattle.scan_run.specs.Printed.{chunks_lines}
 use Rattle.scan_run.specs.Stops.{stop_of, IsStop, IsTextOf}
 
@@ -123,42 +128,57 @@ module _ (m : Manifest) (made new : List File) (are : AreFilesOf m.files made) (
       → (IsLawful memory_opener source_state made empty_cache → Admits m.dtype m.request (answer m.dtype m.request (told memory_opener source_state made)) chunks) → IsScanned m chunks
   scanned chunks p a = record { passes = p; admits = subst (λ ts. Admits m.dtype m.request (answer m.dtype m.request ts) chunks) (told_same m.files made are) (a lawful) }
 
--- ---- one file
-pub one_all : {X : Type 0} (P : X → Type 0) (x : X) → P x → All P (x ∷ [])
-one_all P x p zero d h = p
-one_all P x p (suc k) d h = absurd (omega arith)
+-- ---- the files together
+same_length : (specs : List FileSpec) (files : List File) → AreFilesOf specs files → length files ≡ length specs
+same_length [] [] are = refl
+same_length [] (x ∷ files) are = absurd are
+same_length (s ∷ specs) [] are = absurd are
+same_length (s ∷ specs) (x ∷ files) are = let n = same_length specs files are.1 in omega (arith, n)
 
-same_at : (f : File) (i j : ℕ) (d : File) → i < 1 → j < 1 → (source_state (get_or (f ∷ []) i d).source).holds ≡ (source_state (get_or (f ∷ []) j d).source).holds
-same_at f zero zero d hi hj = refl
-same_at f zero (suc j) d hi hj = absurd (omega arith)
-same_at f (suc i) j d hi hj = absurd (omega arith)
+-- a fact of each file
+each_file : (P : File → Type 0) (specs : List FileSpec) (files : List File) → ((spec : FileSpec) (f : File) → IsFileOf spec f → P f) → AreFilesOf specs files → All P files
+each_file P specs files h are k f lt = let r = file_at specs files are k f lt in h r.spec (get_or files k f) r.is
 
--- the objects of one file are lawful, with a cache that is empty
-one_ready : (spec : FileSpec) (f : File) → IsFileOf spec f → AreReady (f ∷ [])
-one_ready spec f is = record {
-  idle = one_all (IsIdle memory_opener source_state) f is.idle;
+-- the file at a place is made of what stands there
+spec_at : (specs : List FileSpec) (files : List File) → AreFilesOf specs files → (k : ℕ) (s : FileSpec) (f : File) → k < length files → IsFileOf (get_or specs k s) (get_or files k f)
+spec_at [] [] are k s f lt = absurd (omega arith)
+spec_at [] (x ∷ files) are k s f lt = absurd are
+spec_at (t ∷ specs) [] are k s f lt = absurd are
+spec_at (t ∷ specs) (x ∷ files) are zero s f lt = are.0
+spec_at (t ∷ specs) (x ∷ files) are (suc k) s f lt = spec_at specs files are.1 k s f (omega arith)
+
+-- files of one name hold the same segments
+same_held : (specs : List FileSpec) (files : List File) → all_agree specs ≡ true → AreFilesOf specs files → (i j : ℕ) (f : File) → i < length files → j < length files
+    → (get_or files i f).source_id ≡ (get_or files j f).source_id → (source_state (get_or files i f).source).holds ≡ (source_state (get_or files j f).source).holds
+same_held [] files h are i j f li lj e = let n = same_length [] files are in absurd (omega (arith, n))
+same_held (s ∷ specs) files h are i j f li lj e =
+    let n = same_length (s ∷ specs) files are in
+    let a = spec_at (s ∷ specs) files are i s f li in
+    let b = spec_at (s ∷ specs) files are j s f lj in
+    let id : (get_or (s ∷ specs) i s).id ≡ (get_or (s ∷ specs) j s).id = sym a.source_id ∙ e ∙ b.source_id in
+    let segments = places_same (s ∷ specs) i j s h (omega (arith, n)) (omega (arith, n)) id in
+    a.holds ∙ ap (λ ss. Some (store_of ss)) segments ∙ sym b.holds
+
+-- the objects of files that agree are lawful, with a cache that is empty
+pub ready : (specs : List FileSpec) (files : List File) → all_agree specs ≡ true → AreFilesOf specs files → AreReady files
+ready specs files h are = record {
+  idle = each_file (IsIdle memory_opener source_state) specs files (λ spec f is. is.idle) are;
   lawful = record {
-    tells = one_all (Tells memory_opener source_state) f (record { gives = told_some _ (given_by spec) is.gives; holds = told_some _ (store_of spec.segments) is.holds });
-    same = λ i j d hi hj e. same_at f i j d hi hj;
+    tells = each_file (Tells memory_opener source_state) specs files (λ spec f is. record { gives = told_some _ (given_by spec) is.gives; holds = told_some _ (store_of spec.segments) is.holds }) are;
+    same = same_held specs files h are;
     cache_tells = refl;
-    agrees = one_all (Agrees memory_opener source_state empty_cache) f (λ id. tt);
+    agrees = each_file (Agrees memory_opener source_state empty_cache) specs files (λ spec f is id. tt) are;
   };
 }
 
-pub ready : (specs : List FileSpec) (files : List File) → length specs ≡ 1 → AreFilesOf specs files → AreReady files
-ready [] files n are = absurd (omega arith)
-ready (s ∷ t ∷ specs) files n are = absurd (omega arith)
-ready (s ∷ []) [] n are = absurd are
-ready (s ∷ []) (f ∷ []) n are = one_ready s f are.0
-ready (s ∷ []) (f ∷ g ∷ files) n are = absurd are.1
+-- the files of the manifest that bytes are agree
+pub files_agree : (o : Result Manifest ParseFault) (bytes : List ℕ) → IfOk o (λ m. IsManifest bytes m) → IfOk o (λ m. all_agree m.files ≡ true)
+files_agree o bytes h = IfOk-weaker o _ _ (λ m i. manifest_agrees bytes m i) h
 
-pub only_item : (specs : List FileSpec) (spec : FileSpec) → length specs ≡ 1 → spec ≡ get_or specs 0 spec → specs ≡ spec ∷ []
-only_item [] spec h e = absurd (omega arith)
-only_item (s ∷ []) spec h e = ap (λ x. x ∷ []) (sym e)
-only_item (s ∷ t ∷ ss) spec h e = absurd (omega arith)
-
-pub only_file : (specs : List FileSpec) (files : List File) (spec : FileSpec) (f : File) → specs ≡ spec ∷ [] → files ≡ f ∷ [] → IsFileOf spec f → AreFilesOf specs files
-only_file specs files spec f p q is = subst (λ ss. AreFilesOf ss files) (sym p) (subst (AreFilesOf (spec ∷ [])) (sym q) (is, tt))
+-- of files that are made one by one, where none is left
+pub all_made : (specs : List FileSpec) (made : List File) (left : List FileSpec) (n : ℕ) → n ≡ length left → n ≡ 0 → ((rest : List File) → AreFilesOf left rest → AreFilesOf specs (made ++ rest)) → AreFilesOf specs made
+all_made specs made [] n e z h = subst (AreFilesOf specs) (append-nil made) (h [] tt)
+all_made specs made (s ∷ left) n e z h = absurd (omega (arith, e, z))
 
 -- ---- a scan of what is asked
 module _ (a : Asked) (made : List File) (ready : AreReady made) where
@@ -168,15 +188,9 @@ module _ (a : Asked) (made : List File) (ready : AreReady made) where
   asked_scanned chunks p h m is are =
       scanned m made made are ready.lawful chunks (rw (is.dtype, is.request, is.workers) p) (rw (is.dtype, is.request) h)
 
-  same_length : (specs : List FileSpec) (files : List File) → AreFilesOf specs files → length files ≡ length specs
-  same_length [] [] are = refl
-  same_length [] (x ∷ files) are = absurd are
-  same_length (s ∷ specs) [] are = absurd are
-  same_length (s ∷ specs) (x ∷ files) are = let n = same_length specs files are.1 in omega (arith, n)
-
   -- a scan that is not built is one that is not served
   unserved : (m : Manifest) → is_built m.workers (length made) m.dtype m.request ≡ false → AreFilesOf m.files made → IsUnserved m
-  unserved m h are = of_form (subst (λ n. is_built m.workers n m.dtype m.request ≡ false) (same_length m.files made are) h)
+  unserved m h are = (subst (λ n. is_built m.workers n m.dtype m.request ≡ false) (same_length m.files made are) h)
 
   pub asked_stopped : (new : List File) (e : ScanFault) → (e ≡ fault.NotBuilt → is_built a.workers (length made) a.dtype a.request ≡ false)
       → (e ≡ fault.NotBuilt) ⊎ HasCause memory_opener source_state a.workers a.dtype a.request empty_cache made new e

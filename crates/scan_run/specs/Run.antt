@@ -1,5 +1,5 @@
 -- What a run of the program does.
-use Rattle.std.specs.Prelude.{◌≡◌, ◌≢◌, ◌≤◌, ◌^◌, ℕ, List, [], ◌∷◌, ◌++◌, length, map, Bool, true, false, Option, None, Some, IfSome, option_map, Contains, if◌then◌else◌, codes}
+use Rattle.std.specs.Prelude.{◌≡◌, ◌≤◌, ◌^◌, ℕ, List, [], ◌∷◌, ◌++◌, length, map, Bool, true, false, Option, None, Some, IfSome, option_map, Contains, if◌then◌else◌, codes}
 use Rattle.std.specs.Str.{bytes_eq}
 use Rattle.std.specs.List.{flat_map}
 use Rattle.std.specs.Ordering.{nat_cmp}
@@ -72,10 +72,9 @@ pub record IsDone (input input' : InputState) (output output' : OutputState) : T
   pub scanned : IsScanned manifest chunks
   pub written : output'.written ≡ option_map (λ before. before ++ printed manifest chunks) output.written
 
--- a manifest whose scan is not served: of another number of files, or of another form
-pub data IsUnserved (m : Manifest) : Type 0 where
-  of_files : length m.files ≢ 1 → IsUnserved m
-  of_form : is_built m.workers (length m.files) m.dtype m.request ≡ false → IsUnserved m
+-- a manifest whose scan is not served
+abbrev pub IsUnserved : Manifest → Type 0
+IsUnserved m = is_built m.workers (length m.files) m.dtype m.request ≡ false
 
 -- the input was read to its end, and is no manifest, or one whose scan is not served
 pub record IsRefused (input input' : InputState) : Type 0 where

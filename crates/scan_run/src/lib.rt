@@ -17,8 +17,7 @@ pub use memory_input::MemoryInput;
 pub use memory_output::MemoryOutput;
 pub use output::{Output, OutputWrite, WriteFault, write_all};
 pub use scan_manifest::{
-    CacheSpec, FileSpec, Manifest, ParseFault, manifest_of, manifest_of_bytes, parse_manifest,
-    read_expression,
+    CacheSpec, FileSpec, Manifest, ParseFault, manifest_of, manifest_of_bytes, read_expression,
 };
 pub use scan_multi::NoGate;
 pub use std_input::StdInput;

@@ -1,5 +1,5 @@
 //! The program's run, over any input and output.
-ghost use Rattle.std.specs.Prelude.{◌≡◌, ◌≢◌, ◌⊎◌, ◌↔◌, ◌<◌, ◌≤◌, ◌+◌, [], ◌∷◌, List, length, map, string_bytes, false, IfOk, IfErr, Some, None, if◌then◌else◌};
+ghost use Rattle.std.specs.Prelude.{◌≡◌, ◌≢◌, ◌⊎◌, ◌↔◌, ◌<◌, ◌≤◌, ◌+◌, [], ◌∷◌, List, length, map, string_bytes, false, true, IfOk, IfErr, Some, None, if◌then◌else◌};
 ghost use Rattle.scan_segments.specs.Faults.{Rose};
 ghost use Rattle.scan_segments.specs.Cache.{empty_cache};
 ghost use Rattle.scan_segments.specs.Bounded.{bounded, keyed_state};
@@ -13,6 +13,7 @@ ghost use Rattle.scan_run.specs.Printed.{chunks_lines};
 ghost use Rattle.scan_run.specs.Stops.{stop_of, status_of, IsStop, IsTextOf, WroteFrontOfLines, IsGiven, Halts, IsReady, Ends};
 ghost use Rattle.scan_run.specs.FileOf.{IsFileOf, AreFilesOf, AreReady};
 ghost use Rattle.scan_run.specs.AskedOf.{IsAsked};
+ghost use Rattle.scan_manifest.specs.Manifest.{all_agree};
 ghost use Rattle.scan_manifest.specs.declared.manifest.FileSpec.{FileSpec};
 ghost use Rattle.scan_manifest.specs.declared.manifest.Manifest.{Manifest};
 
@@ -21,7 +22,9 @@ use crate::output::{Output, WriteFault, write_all};
 use crate::print::push_chunks;
 use scan_expr::ScanRequest;
 use scan_layout::LayoutRef;
-use scan_manifest::{CacheSpec, FileSpec, Files, LayoutTree, Manifest, ParseFault, parse_manifest};
+use scan_manifest::{
+    CacheSpec, FileSpec, Files, LayoutTree, Manifest, ParseFault, manifest_of_bytes,
+};
 use scan_multi::{Gate, MemoryOpener, RangeFault, ScanFault, ScanFile, ScanOutput, scan_files};
 use scan_segments::{MemorySource, MokaSegmentCache, SegmentSourceId};
 use scan_values::{DType, NoMemory};
@@ -122,17 +125,17 @@ fn status_of(stop: Stop) -> u8
     }
 }
 
-fn one_file(
+/// The objects in memory that the files of a manifest tell.
+fn make_files(
     alloc: Global,
     files: Files,
 ) -> Result<Vec<ScanFile<MemoryOpener, MemorySource>>, NoMemory>
-    requires { length files ≡ 1 }
     ensures { IfOk result (λ v. AreFilesOf files v.items) }
 {
-    let mut specs = files.into_vec();
-    let file = make_file(alloc, specs.remove(0))?;
     let mut made = Vec::new(alloc);
-    made.push(file)?;
+    for spec in files.into_vec() {
+        made.push(make_file(alloc, spec)?)?;
+    }
     Ok(made)
 }
 
@@ -162,7 +165,7 @@ fn run_manifest<R: Threads + Sync, G: Gate>(
     manifest: Manifest,
     gate: &G,
 ) -> Result<ScanOutput, Stop>
-    requires { length manifest.files ≡ 1 }
+    requires { all_agree manifest.files ≡ true }
     ensures ok { IfOk result (λ out. IsScanned manifest out.chunks) }
     ensures stop { IfErr result (λ s. IsStop manifest s) }
 {
@@ -179,7 +182,7 @@ fn run_manifest<R: Threads + Sync, G: Gate>(
         workers,
         cache,
     };
-    match one_file(alloc, files) {
+    match make_files(alloc, files) {
         Ok(made) => scan_made(rt, alloc, &asked, made, gate),
         Err(NoMemory) => Err(Stop::NoMemory),
     }
@@ -241,7 +244,7 @@ fn scan_text<R: Threads + Sync, G: Gate>(
     manifest: Manifest,
     gate: &G,
 ) -> Result<Vec<u8>, Stop>
-    requires { length manifest.files ≡ 1 }
+    requires { all_agree manifest.files ≡ true }
     ensures ok { IfOk result (λ text. IsTextOf manifest text.items) }
     ensures stop { IfErr result (λ s. IsStop manifest s) }
 {
@@ -255,15 +258,15 @@ fn scan_text<R: Threads + Sync, G: Gate>(
 }
 
 /// The manifest of an input that is read to its end, or a status.
-#[tactic(auto, using(crate::proofs::Running::refused_many))]
+#[tactic(auto, using(crate::proofs::Stopping::files_agree))]
 fn take_manifest<I: Input>(alloc: Global, input: &mut I) -> Result<Manifest, u8>
     ensures ok { IfOk result (λ m. IsGiven m (I.input input.old) (I.input input.new)) }
-    ensures one { IfOk result (λ m. length m.files ≡ 1) }
+    ensures agree { IfOk result (λ m. all_agree m.files ≡ true) }
     ensures halt { IfErr result (λ s. Halts s (I.input input.old) (I.input input.new)) }
     ensures stops { (I.input input.new).taken ≤ (I.input input.old).taken + (MOST_BYTES + 65_536) }
 {
     match read_all(alloc, input) {
-        Ok(bytes) => match parse_manifest(alloc, bytes.as_slice()) {
+        Ok(bytes) => match manifest_of_bytes(alloc, bytes.as_slice()) {
             Ok(manifest) => Ok(manifest),
             Err(ParseFault::Bad) => Err(2),
             Err(ParseFault::NoMemory) => Err(7),
@@ -294,7 +297,7 @@ fn take_text<R: Threads + Sync, I: Input, G: Gate>(
     }
 }
 
-/// The program: it reads a manifest of one file from the input, scans it, and writes a line for each row to the output.
+/// The program: it reads a manifest from the input, scans its files, and writes a line for each row to the output.
 /// The words are those after the program's name; `scan` alone is served. The answer is the exit status:
 /// 0 the lines were written, 1 other words, 2 the input is no manifest that is served, 3 the request does not bind,
 /// 4 a file's layout is of another dtype or not well-formed, a segment is missing or damaged, or an expression overflows,

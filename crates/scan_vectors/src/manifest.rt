@@ -1,5 +1,5 @@
 //! What is read as a manifest: its dtypes, expressions, layouts and the whole.
-use scan_manifest::parse_manifest;
+use scan_manifest::manifest_of_bytes;
 use std::alloc::Global;
 use std::test::Fail;
 
@@ -18,7 +18,7 @@ fn manifest(alloc: Global, dtype: &str, layout: &str, projection: &str) -> Resul
 }
 
 fn is_manifest(alloc: Global, text: &str) -> bool {
-    parse_manifest(alloc, text.as_bytes()).is_ok()
+    manifest_of_bytes(alloc, text.as_bytes()).is_ok()
 }
 
 #[test]
