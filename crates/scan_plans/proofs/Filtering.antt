@@ -1,28 +1,29 @@
 -- Filters over a mask.
-use Rattle.std.proofs.Common.{◌≡◌, ℕ, zero, suc, ◌==◌, ◌+◌, ◌<◌, Bool, true, false, ◌||◌, ◌&&◌, List, [], ◌∷◌, ◌++◌, map, length, drop, get_or, Option, Some, None, is_none, refl, ap, subst, ◌∙◌, sym, arith}
+use Rattle.std.proofs.Common.{◌≡◌, ℕ, zero, suc, ◌==◌, ◌+◌, ◌<◌, Bool, true, false, not, ◌||◌, ◌&&◌, List, [], ◌∷◌, ◌++◌, map, length, drop, get_or, Option, Some, None, is_none, refl, ap, subst, ◌∙◌, sym, arith}
 use Rattle.std.specs.Prelude.{if◌then◌else◌, is_some}
 use Rattle.std.proofs.lemmas.Bool.{eq-eqb, eqb-true}
 use Rattle.std.proofs.lemmas.List.Folds.{list_any-append}
+use Rattle.std.specs.List.{list_any}
 use Rattle.scan_values.specs.Marked.{Marked, is_true}
 use Rattle.scan_values.specs.Arrays.{ArrayData}
 use Rattle.scan_values.specs.Masks.{by_rank, true_count}
 use Rattle.scan_values.specs.Selections.{is_among}
-use Rattle.scan_values.specs.Val.{Val, marked}
+use Rattle.scan_values.specs.Val.{Val, marked, is_clean, is_clean-marked}
 use Rattle.scan_segments.specs.Source.{Store}
 use Rattle.scan_layout.specs.Places.{Place}
 use Rattle.scan_splits.specs.Wanted.{is_any}
 use Rattle.scan_plans.specs.PlanTree.{PlanTree}
 use Rattle.scan_plans.specs.Came.{Came, arrived, Holds}
 use Rattle.scan_plans.specs.Given.{AreLacking}
-use Rattle.scan_plans.specs.Masks.{Filter, kept, filtered, spilled, filters_wanted, filters_spoiled, filters_may, AreFilters}
-use Rattle.scan_plans.specs.Meaning.{value_at, overflow_on, true_rows}
+use Rattle.scan_plans.specs.Masks.{Filter, kept, filtered, damaged, spilled, filters_wanted, filters_spoiled, filters_may, AreFilters}
+use Rattle.scan_plans.specs.Meaning.{value_at, damage_on, overflow_on, true_rows}
 use Rattle.scan_plans.specs.Wants.{wanted, may, are_here, names_id, lacks, Complete, spoils, spoiled}
 use Rattle.scan_plans.specs.Knowing.{RunsWell, Reaches, Spills}
 use Rattle.scan_plans.specs.Reads.{AreValues}
 use Rattle.scan_plans.proofs.Columns.{count_rows}
 use Rattle.scan_plans.proofs.Collecting.{lacks_append, spoils_append}
 use Rattle.scan_plans.proofs.Giving.{decodes_good}
-use Rattle.scan_plans.proofs.Transfer.{complete_here, items_same, overflow_on_same}
+use Rattle.scan_plans.proofs.Transfer.{complete_here, items_same, damage_on_same, overflow_on_same}
 
 or_false : (b : Bool) → (b || false) ≡ b
 or_false true = refl
@@ -76,6 +77,13 @@ reach_spilled here bits [] (suc n) new store r h = absurd r
 reach_spilled here bits (f ∷ fs) (suc n) new store r h =
     let none : overflow_on f.0 store (true_rows f.1 bits) ≡ false = overflow_on_same f.0 here store (true_rows f.1 bits) h (r.0).0 ∙ (r.0).1 in
     reach_spilled here (kept f.0 (arrived here) f.1 bits) fs n new store r.1 h ∙ ap (λ (m : List Bool). spilled store m fs) (sym (kept_same f here store bits h (r.0).0)) ∙ ap (λ b. b || spilled store (kept f.0 store f.1 bits) fs) (sym none)
+
+pub reach_damaged : (here : Came) (bits : List Bool) (fs : List Filter) (n : ℕ) (new : List Bool) (store : Store) → Reaches here bits fs n new → Holds store here → damaged store new (drop n fs) ≡ damaged store bits fs
+reach_damaged here bits fs zero new store r h = ap (λ (m : List Bool). damaged store m fs) r
+reach_damaged here bits [] (suc n) new store r h = absurd r
+reach_damaged here bits (f ∷ fs) (suc n) new store r h =
+    let none : damage_on f.0 store (true_rows f.1 bits) ≡ false = damage_on_same f.0 here store (true_rows f.1 bits) h (r.0).0 ∙ (r.0).3 in
+    reach_damaged here (kept f.0 (arrived here) f.1 bits) fs n new store r.1 h ∙ ap (λ (m : List Bool). damaged store m fs) (sym (kept_same f here store bits h (r.0).0)) ∙ ap (λ b. b || damaged store (kept f.0 store f.1 bits) fs) (sym none)
 
 pub reach_length : (here : Came) (bits : List Bool) (fs : List Filter) (n : ℕ) (new : List Bool) → Reaches here bits fs n new → length new ≡ length bits
 reach_length here bits fs zero new r = ap length r
@@ -177,7 +185,19 @@ length-map f (x ∷ xs) = ap suc (length-map f xs)
 pub values_long : (p : PlanTree) (here : Came) (k : ℕ) (bits : List Bool) (a : ArrayData) → AreValues p here (true_rows k bits) a → length a.items ≡ true_count bits
 values_long p here k bits a v = sym (length-map marked a.items) ∙ ap length v.items ∙ length-map (value_at p (arrived here)) (true_rows k bits) ∙ sym (count_rows k bits)
 
+-- values without damage are those of rows without damage
+clean_values : (p : PlanTree) (store : Store) (items : List Val) (is : List ℕ) → map marked items ≡ map (value_at p store) is → damage_on p store is ≡ false
+clean_values p store items is e = of_rows is ∙ ap (list_any (λ m. not (is_clean m))) (sym e) ∙ none items
+  where
+    of_rows : (js : List ℕ) → damage_on p store js ≡ list_any (λ m. not (is_clean m)) (map (value_at p store) js)
+    of_rows [] = refl
+    of_rows (j ∷ js) = ap (λ b. not (is_clean (value_at p store j)) || b) (of_rows js)
+
+    none : (vs : List Val) → list_any (λ m. not (is_clean m)) (map marked vs) ≡ false
+    none [] = refl
+    none (v ∷ vs) = rw (is_clean-marked v) (none vs)
+
 pub ran_well : (p : PlanTree) (here : Came) (k : ℕ) (bits : List Bool) (a : ArrayData) (new : List Bool) → Complete (wanted p here (true_rows k bits)) here
     → AreValues p here (true_rows k bits) a → new ≡ by_rank bits (map (λ v. is_true (marked v)) a.items)
     → RunsWell here bits (p, k) × (new ≡ kept p (arrived here) k bits)
-ran_well p here k bits a new c v e = ((c, v.within, decodes_good (wanted p here (true_rows k bits)) here v.found), e ∙ kept_read p (arrived here) k bits a.items v.items)
+ran_well p here k bits a new c v e = ((c, v.within, decodes_good (wanted p here (true_rows k bits)) here v.found, clean_values p (arrived here) a.items (true_rows k bits) v.items), e ∙ kept_read p (arrived here) k bits a.items v.items)

@@ -16,7 +16,7 @@ use Rattle.scan_plans.specs.PlanTree.{PlanTree, leaf, rows, evaluate, over, cons
 use Rattle.scan_plans.specs.Wants.{offsets_wanted, knows_elements, wanted, all_wanted, names_id, Complete, is_bad, spoils}
 use Rattle.scan_plans.proofs.Filtering.{kept_same}
 use Rattle.scan_plans.proofs.Spans.{on_rows}
-use Rattle.scan_plans.proofs.Transfer.{complete_left, complete_right, knows_here, offset_same, overflow_on_same}
+use Rattle.scan_plans.proofs.Transfer.{complete_left, complete_right, knows_here, offset_same, damage_on_same, overflow_on_same}
 
 -- ---- what has arrived
 pub holds_later : (here more : Came) → Extends here more → Holds (arrived more) here
@@ -123,6 +123,7 @@ module _ (here more : Came) (x : Extends here more) where
         subst (λ ps. Complete ps more) (sym same) (complete_later (wanted f.0 here is) here more x r.0),
         overflow_on_same f.0 here (arrived more) is (holds_later here more x) r.0 ∙ r.1,
         λ id. ap (λ ps. spoils ps more id) same ∙ good_later (wanted f.0 here is) here more x r.0 id ∙ r.2 id,
+        damage_on_same f.0 here (arrived more) is (holds_later here more x) r.0 ∙ r.3,
       )
 
   pub reach_later : (bits : List Bool) (fs : List Filter) (n : ℕ) (new : List Bool) → Reaches here bits fs n new → Reaches more bits fs n new

@@ -13,7 +13,7 @@ use Rattle.scan_layout.specs.Places.{Place}
 use Rattle.scan_plans.specs.Came.{Came, Holds}
 use Rattle.scan_plans.specs.Given.{AreLacking}
 use Rattle.scan_plans.specs.Knowing.{Knows}
-use Rattle.scan_plans.specs.MaskLists.{nulled, under, dtype_under, masks_overflow, masks_wanted, masks_spoiled, SameMasks}
+use Rattle.scan_plans.specs.MaskLists.{nulled, under, dtype_under, masks_damage, masks_overflow, masks_wanted, masks_spoiled, SameMasks}
 use Rattle.scan_plans.specs.Masks.{MaskData, mask_of, mask_overflow, mask_wanted, mask_spoiled, SameMask}
 use Rattle.scan_plans.specs.Projecting.{AreKnown, AreComplete, KnowsAll, IsUnder, under_known, padded}
 use Rattle.scan_plans.specs.Wants.{are_here, lacks, Complete, NoneBad, spoils}
@@ -21,7 +21,7 @@ use Rattle.scan_plans.specs.declared.fault.ReadFault.{ReadFault}
 use Rattle.scan_plans.specs.declared.fault.ReadFault.TheVariants.{Corrupt, Overflow, NoMemory}
 use Rattle.scan_plans.proofs.Collecting.{lacks_append, spoils_append}
 use Rattle.scan_plans.proofs.Filtering.{not_here}
-use Rattle.scan_plans.proofs.Futures.{known_mask, known_within}
+use Rattle.scan_plans.proofs.Futures.{known_mask, known_clean, known_within}
 use Rattle.scan_plans.proofs.Progressing.{stays_same}
 use Rattle.scan_plans.proofs.RowLemmas.{drop_twice}
 use Rattle.scan_plans.proofs.Transfer.{complete_here}
@@ -171,6 +171,12 @@ all_within [] [] here store s k h = refl
 all_within [] (m ∷ ms) here store s k h = absurd s
 all_within (n ∷ ns) [] here store s k h = absurd s
 all_within (n ∷ ns) (m ∷ ms) here store s k h = ap (λ b. b || masks_overflow ms store) (known_within here m n store s.0 k.0 h) ∙ all_within ns ms here store s.1 k.1 h
+
+pub all_clean : (ns ms : List MaskData) (here : Came) (store : Store) → SameMasks here ns ms → AreKnown ns → Holds store here → masks_damage ms store ≡ false
+all_clean [] [] here store s k h = refl
+all_clean [] (m ∷ ms) here store s k h = absurd s
+all_clean (n ∷ ns) [] here store s k h = absurd s
+all_clean (n ∷ ns) (m ∷ ms) here store s k h = ap (λ b. b || masks_damage ms store) (known_clean here m n store s.0 k.0 h) ∙ all_clean ns ms here store s.1 k.1 h
 
 pub all_under : (ns ms : List MaskData) (here : Came) (store : Store) (vs : List Marked) → SameMasks here ns ms → AreKnown ns → Holds store here → under store ms vs ≡ under_known ns vs
 all_under [] [] here store vs s k h = refl

@@ -4,7 +4,7 @@ use Rattle.scan_values.specs.Fits.{is_bool_type}
 use Rattle.scan_plans.specs.Came.{Came, arrived}
 use Rattle.scan_plans.specs.Given.{AreLacking}
 use Rattle.scan_values.specs.Selections.{is_among}
-use Rattle.scan_plans.specs.Masks.{Filter as Seen, MaskData, mask_data, AreFilters, IsMask, SameMask, filters_wanted, filters_spoiled, filters_may, filtered, spilled, kept}
+use Rattle.scan_plans.specs.Masks.{Filter as Seen, MaskData, mask_data, AreFilters, IsMask, SameMask, filters_wanted, filters_spoiled, filters_may, filtered, damaged, spilled, kept}
 use Rattle.scan_plans.specs.Meaning.{Within, plan_dtype}
 use Rattle.scan_plans.specs.MaskView.{filter_of, filters_of}
 use Rattle.scan_plans.specs.Knowing.{Reaches, Runs, RunsAll, Lacking, Knows}
@@ -15,7 +15,7 @@ use Rattle.scan_plans.specs.declared.mask.Filter.{Filter}
 use Rattle.scan_plans.specs.declared.mask.Ran.TheVariants.{Known, Pending}
 use Rattle.scan_plans.proofs.Later.{reach_later}
 use Rattle.scan_plans.proofs.RowLemmas.{drop_twice}
-use Rattle.scan_plans.proofs.Filtering.{reach_next, reach_length, reach_spoils, reach_spilled, reach_mask, reach_may, reach_lacks, reach_bad, filters_drop, filters_at, first_lacks, first_spoils, first_spills}
+use Rattle.scan_plans.proofs.Filtering.{reach_next, reach_length, reach_spoils, reach_damaged, reach_spilled, reach_mask, reach_may, reach_lacks, reach_bad, filters_drop, filters_at, first_lacks, first_spoils, first_spills}
 
 seen_at : (k : ℕ) (fs : List Filter) (f : Filter) → k < length fs → f ≡ get_or fs k f → filter_of f ≡ get_or (filters_of fs) k (filter_of f)
 seen_at zero [] f h e = let z : ⊥ = omega (arith, h) in absurd z
@@ -109,13 +109,14 @@ pub goes_same : (here : Came) (bits mid : List Bool) (fs : List Filter) (ran n :
 goes_same here bits mid fs ran n r = record {
   mask = λ store h. ap (λ (gs : List Seen). filtered store mid gs) (rest_moved fs ran n) ∙ reach_mask here bits (filters_of (drop ran fs)) n mid store r h;
   overflow = λ store h. ap (λ (gs : List Seen). spilled store mid gs) (rest_moved fs ran n) ∙ reach_spilled here bits (filters_of (drop ran fs)) n mid store r h;
+  damage = λ store h. ap (λ (gs : List Seen). damaged store mid gs) (rest_moved fs ran n) ∙ reach_damaged here bits (filters_of (drop ran fs)) n mid store r h;
   may = λ id h. reach_may here bits (filters_of (drop ran fs)) n mid id r (ap (λ (gs : List Seen). is_among (filters_may gs) id) (sym (rest_moved fs ran n)) ∙ h);
   lacking = λ more x id. ap (λ (gs : List Seen). lacks (filters_wanted more mid gs) more id) (rest_moved fs ran n) ∙ sym (reach_lacks more bits (filters_of (drop ran fs)) n mid id (reach_later here more x bits (filters_of (drop ran fs)) n mid r));
   spoiling = λ more x id h. reach_spoils more bits (filters_of (drop ran fs)) n mid id (reach_later here more x bits (filters_of (drop ran fs)) n mid r) (ap (λ (gs : List Seen). filters_spoiled more mid gs id) (sym (rest_moved fs ran n)) ∙ h);
 }
 
 pub stays_same : (here : Came) (m : MaskData) → SameMask here m m
-stays_same here m = record { mask = λ store h. refl; overflow = λ store h. refl; may = λ id h. h; lacking = λ more x id. refl; spoiling = λ more x id h. h }
+stays_same here m = record { mask = λ store h. refl; overflow = λ store h. refl; damage = λ store h. refl; may = λ id h. h; lacking = λ more x id. refl; spoiling = λ more x id h. h }
 
 none_lacks : (here : Came) (id : ℕ) → lacks [] here id ≡ false
 none_lacks here id = refl

@@ -23,7 +23,7 @@ use Rattle.scan_plans.specs.declared.given.Given.TheVariants as given
 use Rattle.scan_plans.specs.declared.future.Items.{Items}
 use Rattle.scan_plans.specs.declared.future.Items.TheVariants.{Ready, Pending}
 use Rattle.scan_plans.proofs.Futures.{holds_itself, known_mask}
-use Rattle.scan_plans.proofs.Outer.{all_lacks, all_bad, all_spoils, all_within, all_under, all_dtype, nulled_length}
+use Rattle.scan_plans.proofs.Outer.{all_lacks, all_bad, all_spoils, all_clean, all_within, all_under, all_dtype, nulled_length}
 use Rattle.scan_plans.proofs.Segments.{next_drop, at_drop}
 use Rattle.scan_plans.proofs.Transfer.{items_same, overflow_on_same}
 
@@ -87,6 +87,7 @@ module _ (here : Came) (new old : FutureData) (s : SameFuture here new old) (k :
         ∙ sym (all_under new.outer old.outer here store (map (value_at new.tree store) rows_now) (s.masks).1 (k.0).1 h)
         ∙ (λ i. under store old.outer (map (value_at (s.tree i) store) (rows_same store h i)));
     within = λ store h. ap (λ b. b || overflow_on old.tree store (rows_of old store)) (all_within (masks_in new) (masks_in old) here store s.masks k.0 h) ∙ spilled_same store h g.0 ∙ (g.1).within;
+    clean = λ store h. all_clean (masks_in new) (masks_in old) here store s.masks k.0 h;
   }
 
   pub values_wait : (ids : List ℕ) → Gives new.tree here rows_now (Ok (given.Pending ids)) → Projects here old (Ok (Pending ids))

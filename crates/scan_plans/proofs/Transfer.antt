@@ -1,5 +1,5 @@
 -- Where nothing lacks, what is read by what has arrived is what every store gives that holds it.
-use Rattle.std.proofs.Common.{◌≡◌, ℕ, ◌+◌, ◌-◌, ◌<◌, ◌≤◌, ◌==◌, Bool, true, false, ◌||◌, ◌&&◌, List, [], ◌∷◌, ◌++◌, map, Option, Some, None, is_none, refl, ap, ◌∙◌, sym, arith}
+use Rattle.std.proofs.Common.{◌≡◌, ℕ, ◌+◌, ◌-◌, ◌<◌, ◌≤◌, ◌==◌, Bool, true, false, not, ◌||◌, ◌&&◌, List, [], ◌∷◌, ◌++◌, map, Option, Some, None, is_none, refl, ap, ◌∙◌, sym, arith}
 use Rattle.std.specs.Prelude.{is_some, nat_lt, nat_le, if◌then◌else◌, option_and_then}
 use Rattle.std.specs.List.{list_any}
 use Rattle.std.proofs.lemmas.List.Folds.{list_any-append}
@@ -7,6 +7,7 @@ use Rattle.std.proofs.lemmas.Bool.Decides.{nat_tests}
 use Rattle.std.proofs.lemmas.Bool.{eqb-true, eq-eqb}
 use Rattle.scan_values.specs.DataType.{DataType}
 use Rattle.scan_values.specs.Marked.{struct}
+use Rattle.scan_values.specs.Val.{is_clean}
 use Rattle.scan_segments.specs.Source.{Store}
 use Rattle.scan_expr.specs.Eval.{eval}
 use Rattle.scan_layout.specs.Spelling.{decode}
@@ -16,7 +17,7 @@ use Rattle.scan_plans.specs.PlanTree.{PlanTree, leaf, rows, evaluate, over, cons
 use Rattle.scan_plans.specs.OffsetsData.{OffsetsData, offset_at, offset_places}
 use Rattle.scan_plans.specs.Lists.{offset_rows, is_whole, element_rows}
 use Rattle.scan_plans.specs.Came.{Came, arrived, Holds}
-use Rattle.scan_plans.specs.Meaning.{value_at, values_at, list_at, overflow_at, overflow_in}
+use Rattle.scan_plans.specs.Meaning.{value_at, values_at, list_at, damage_at, overflow_at, overflow_in}
 use Rattle.scan_plans.specs.Wants.{holds_any, leaf_wanted, offsets_wanted, are_here, knows_elements, wanted, all_wanted, names_id, Complete}
 use Rattle.scan_plans.proofs.Spans.{among, own_offset, next_offset, own_element, elements_alike}
 
@@ -201,3 +202,6 @@ items_same p here store is holds c = map_on (value_at p store) (value_at p (arri
 
 pub overflow_on_same : (p : PlanTree) (here : Came) (store : Store) (is : List ℕ) → Holds store here → Complete (wanted p here is) here → list_any (overflow_at p store) is ≡ list_any (overflow_at p (arrived here)) is
 overflow_on_same p here store is holds c = any_on (overflow_at p store) (overflow_at p (arrived here)) is (λ i m. overflow_same p here store i is holds m c)
+
+pub damage_on_same : (p : PlanTree) (here : Came) (store : Store) (is : List ℕ) → Holds store here → Complete (wanted p here is) here → list_any (damage_at p store) is ≡ list_any (damage_at p (arrived here)) is
+damage_on_same p here store is holds c = any_on (damage_at p store) (damage_at p (arrived here)) is (λ i m. ap (λ v. not (is_clean v)) (value_same p here store i is holds m c))

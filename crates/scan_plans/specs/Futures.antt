@@ -9,7 +9,7 @@ use Rattle.scan_segments.specs.Source.{Store}
 use Rattle.scan_layout.specs.Places.{Place}
 use Rattle.scan_plans.specs.Came.{Came, arrived, Holds}
 use Rattle.scan_plans.specs.Masks.{MaskData, mask_data, mask_code, mask_of}
-use Rattle.scan_plans.specs.MaskLists.{under, dtype_under, masks_overflow, masks_wanted, masks_spoiled, masks_may, SameMasks}
+use Rattle.scan_plans.specs.MaskLists.{under, dtype_under, masks_damage, masks_overflow, masks_wanted, masks_spoiled, masks_may, SameMasks}
 use Rattle.scan_plans.specs.Meaning.{value_at, overflow_on, plan_dtype, true_rows, Within}
 use Rattle.scan_plans.specs.PlanCode.{plan_code}
 use Rattle.scan_plans.specs.PlanData.{PlanData}
@@ -74,6 +74,10 @@ items_of f store = under store f.outer (map (value_at f.tree store) (rows_of f s
 abbrev pub future_overflow : FutureData → Store → Bool
 future_overflow f store = masks_overflow (masks_in f) store || overflow_on f.tree store (rows_of f store)
 
+-- some filter of its masks is damaged
+abbrev pub future_damage : FutureData → Store → Bool
+future_damage f store = masks_damage (masks_in f) store
+
 -- what is wanted next, with what was wanted before: its masks first
 abbrev pub future_wanted : FutureData → Came → List Place
 future_wanted f here = masks_wanted (masks_in f) here (wanted f.tree here (rows_of f (arrived here)))
@@ -92,11 +96,12 @@ pub record SameFuture (here : Came) (new old : FutureData) : Type 0 where
   pub first : new.first ≡ old.first
   pub masks : SameMasks here (masks_in new) (masks_in old)
 
--- the values of its rows, none of which overflows, whatever holds what has arrived
+-- the values of its rows, none of which overflows, by filters without damage, whatever holds what has arrived
 pub record GivesItems (here : Came) (f : FutureData) (a : ArrayData) : Type 0 where
   pub dtype : a.dtype ≡ future_dtype f
   pub items : (store : Store) → Holds store here → map marked a.items ≡ items_of f store
   pub within : (store : Store) → Holds store here → future_overflow f store ≡ false
+  pub clean : (store : Store) → Holds store here → future_damage f store ≡ false
 
 -- what is known of its mask are the rows that it gave, whatever holds what has arrived, and an array has as many values
 pub record AreRows (here : Came) (old new : FutureData) (a : ArrayData) : Type 0 where

@@ -7,7 +7,7 @@ use Rattle.scan_segments.specs.Source.{Store}
 use Rattle.scan_plans.specs.Came.{Came, arrived, Holds}
 use Rattle.scan_plans.specs.Given.{AreLacking}
 use Rattle.scan_plans.specs.Masks.{MaskData, Filter, kept, filters_wanted, filters_spoiled, mask_wanted, mask_spoiled, mask_overflow, spilled}
-use Rattle.scan_plans.specs.Meaning.{overflow_on, true_rows}
+use Rattle.scan_plans.specs.Meaning.{damage_on, overflow_on, true_rows}
 use Rattle.scan_plans.specs.Wants.{wanted, Complete, NoneBad, spoiled}
 use Rattle.scan_plans.specs.declared.fault.ReadFault.{ReadFault}
 use Rattle.scan_plans.specs.declared.fault.ReadFault.TheVariants.{Corrupt, Overflow, NoMemory}
@@ -19,10 +19,11 @@ use Rattle.scan_plans.specs.declared.mask.Progress.{Progress}
 abbrev pub KeepsRows : List Bool → List Val → List Bool → Type 0
 KeepsRows bits items new = new ≡ by_rank bits (map (λ v. is_true (marked v)) items)
 
--- nothing lacks for a filter over a mask, it does not overflow, and nothing that it wants is bad
+-- nothing lacks for a filter over a mask, it does not overflow, nothing that it wants is bad, and it is not damaged
 abbrev pub RunsWell : Came → List Bool → Filter → Type 0
 RunsWell here bits f =
     Complete (wanted f.0 here (true_rows f.1 bits)) here × (overflow_on f.0 (arrived here) (true_rows f.1 bits) ≡ false) × NoneBad (wanted f.0 here (true_rows f.1 bits)) here
+    × (damage_on f.0 (arrived here) (true_rows f.1 bits) ≡ false)
 
 -- a filter over a mask: the mask after it, the ids that lack, one that is no good, or an overflow
 abbrev pub Runs : Came → List Bool → Filter → Result Ran ReadFault → Type 0

@@ -6,7 +6,7 @@ use Rattle.scan_values.specs.Marked.{Marked, null}
 use Rattle.scan_segments.specs.Source.{Store}
 use Rattle.scan_layout.specs.Places.{Place}
 use Rattle.scan_plans.specs.Came.{Came}
-use Rattle.scan_plans.specs.Masks.{MaskData, mask_of, mask_overflow, mask_wanted, mask_spoiled, mask_may, SameMask}
+use Rattle.scan_plans.specs.Masks.{MaskData, mask_of, mask_damage, mask_overflow, mask_wanted, mask_spoiled, mask_may, SameMask}
 use Rattle.scan_plans.specs.Wants.{are_here}
 
 -- values, null outside a mask: a value past its end is outside it
@@ -30,6 +30,11 @@ dtype_under (m ∷ ms) d = dtype_under ms (with_nullability Nullable d)
 abbrev pub masks_overflow : List MaskData → Store → Bool
 masks_overflow [] store = false
 masks_overflow (m ∷ ms) store = mask_overflow m store || masks_overflow ms store
+
+-- some filter of one of them is damaged
+abbrev pub masks_damage : List MaskData → Store → Bool
+masks_damage [] store = false
+masks_damage (m ∷ ms) store = mask_damage m store || masks_damage ms store
 
 -- what they want next, with what was wanted before, and what is wanted after them
 abbrev pub masks_wanted : List MaskData → Came → List Place → List Place

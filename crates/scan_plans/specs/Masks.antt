@@ -9,7 +9,7 @@ use Rattle.scan_layout.specs.Places.{Place}
 use Rattle.scan_plans.specs.PlanTree.{PlanTree}
 use Rattle.scan_plans.specs.PlanCode.{plan_code}
 use Rattle.scan_plans.specs.Came.{Came, arrived, Extends, Holds}
-use Rattle.scan_plans.specs.Meaning.{value_at, overflow_on, plan_dtype, true_rows, Within}
+use Rattle.scan_plans.specs.Meaning.{value_at, damage_on, overflow_on, plan_dtype, true_rows, Within}
 use Rattle.scan_plans.specs.Wants.{wanted, may, are_here, lacks, spoiled}
 
 -- a plan that is to be true, and its row at which the mask begins
@@ -47,6 +47,14 @@ spilled store bits (f ∷ fs) = overflow_on f.0 store (true_rows f.1 bits) || sp
 
 abbrev pub mask_overflow : MaskData → Store → Bool
 mask_overflow m store = spilled store m.known m.filters
+
+-- some filter is damaged at a row that is true when it runs
+abbrev pub damaged : Store → List Bool → List Filter → Bool
+damaged store bits [] = false
+damaged store bits (f ∷ fs) = damage_on f.0 store (true_rows f.1 bits) || damaged store (kept f.0 store f.1 bits) fs
+
+abbrev pub mask_damage : MaskData → Store → Bool
+mask_damage m store = damaged store m.known m.filters
 
 -- what is wanted next, with what was wanted before: a filter runs when all that it wants has arrived
 abbrev pub filters_wanted : Came → List Bool → List Filter → List Place
@@ -87,6 +95,7 @@ IsMask m = AreFilters (length m.known) m.filters
 pub record SameMask (here : Came) (new old : MaskData) : Type 0 where
   pub mask : (store : Store) → Holds store here → mask_of new store ≡ mask_of old store
   pub overflow : (store : Store) → Holds store here → mask_overflow new store ≡ mask_overflow old store
+  pub damage : (store : Store) → Holds store here → mask_damage new store ≡ mask_damage old store
   pub may : (id : ℕ) → is_among (mask_may new) id ≡ true → is_among (mask_may old) id ≡ true
   pub lacking : (more : Came) → Extends here more → (id : ℕ) → lacks (mask_wanted new more) more id ≡ lacks (mask_wanted old more) more id
   pub spoiling : (more : Came) → Extends here more → (id : ℕ) → mask_spoiled new more id ≡ true → mask_spoiled old more id ≡ true

@@ -1,11 +1,11 @@
 -- What a plan gives: a marked value for each row, under a store of segments.
-use Rattle.std.specs.Prelude.{◌≡◌, ◌≤◌, ℕ, pos, ◌+◌, ◌^◌, ◌<◌, Bool, false, ◌||◌, cond, List, [], ◌∷◌, length, get_or}
+use Rattle.std.specs.Prelude.{◌≡◌, ◌≤◌, ℕ, pos, ◌+◌, ◌^◌, ◌<◌, Bool, false, not, ◌||◌, cond, List, [], ◌∷◌, length, get_or}
 use Rattle.std.specs.List.{list_any}
 use Rattle.scan_values.specs.DataType.{DataType, Fields, no_fields, field, int_type, with_nullability}
 use Rattle.scan_values.specs.declared.ptype.Nullability.TheVariants.{NonNullable, Nullable}
 use Rattle.scan_values.specs.declared.ptype.PType.TheVariants.{U64}
 use Rattle.scan_values.specs.Marked.{Marked, lost, null, integer, struct, Markeds, none, more}
-use Rattle.scan_values.specs.Val.{null_val, marked}
+use Rattle.scan_values.specs.Val.{null_val, marked, is_clean}
 use Rattle.scan_segments.specs.Source.{Store}
 use Rattle.scan_expr.specs.Infer.{infer}
 use Rattle.scan_expr.specs.Eval.{eval}
@@ -70,6 +70,14 @@ abbrev mutual
 -- at one of these rows
 abbrev pub overflow_on : PlanTree → Store → List ℕ → Bool
 overflow_on p store is = list_any (overflow_at p store) is
+
+-- whether a part of the value of a row is damaged
+abbrev pub damage_at : PlanTree → Store → ℕ → Bool
+damage_at p store i = not (is_clean (value_at p store i))
+
+-- at one of these rows
+abbrev pub damage_on : PlanTree → Store → List ℕ → Bool
+damage_on p store is = list_any (damage_at p store) is
 
 -- the dtype of the values
 abbrev pub plan_dtype : PlanTree → DataType

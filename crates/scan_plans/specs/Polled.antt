@@ -7,7 +7,7 @@ use Rattle.scan_splits.specs.declared.poll.Poll.TheVariants.{Ready, Pending, Cor
 use Rattle.scan_plans.specs.Came.{Came, Holds}
 use Rattle.scan_plans.specs.Futures.{FutureData, AreRows, GivesItems, future_wanted, future_spoiled, future_overflow}
 use Rattle.scan_plans.specs.Given.{AreLacking}
-use Rattle.scan_plans.specs.Masks.{MaskData, mask_of, mask_overflow, mask_wanted, mask_spoiled}
+use Rattle.scan_plans.specs.Masks.{MaskData, mask_of, mask_damage, mask_overflow, mask_wanted, mask_spoiled}
 
 -- Of an array: the values whatever holds what has arrived; exactly the ids that lack of what is wanted next, where nothing
 -- of that which has arrived is bad; a wanted segment that arrived as missing or is not spelled as its leaf has it; or an
@@ -29,7 +29,7 @@ KnowsRows here old new NoMemory = Unit {0}
 
 -- the same of a mask
 abbrev pub PollsMask : Came → MaskData → Poll (List Bool) → Type 0
-PollsMask here m (Ready bits) = (store : Store) → Holds store here → (bits ≡ mask_of m store) × (mask_overflow m store ≡ false)
+PollsMask here m (Ready bits) = (store : Store) → Holds store here → (bits ≡ mask_of m store) × (mask_overflow m store ≡ false) × (mask_damage m store ≡ false)
 PollsMask here m (Pending ids) = AreLacking (mask_wanted m here) here ids
 PollsMask here m (Corrupt id) = mask_spoiled m here id ≡ true
 PollsMask here m Overflow = (store : Store) → Holds store here → mask_overflow m store ≡ true

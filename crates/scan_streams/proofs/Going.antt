@@ -9,7 +9,7 @@ use Rattle.scan_values.specs.Selections.{is_among}
 use Rattle.scan_segments.specs.Source.{Store}
 use Rattle.scan_plans.specs.Came.{Came}
 use Rattle.scan_plans.specs.Futures.{FutureData}
-use Rattle.scan_streams.specs.Splits.{SplitData, AllHold, AllOf, SomeComesTo, Alike, Goes, parts_left, overflow_left, may_want, reach, one_part, split_items, split_overflow, split_may}
+use Rattle.scan_streams.specs.Splits.{SplitData, AllHold, AllOf, SomeComesTo, Alike, Goes, parts_left, clean_left, damage_left, overflow_left, may_want, reach, one_part, split_items, clean_items, split_damage, split_overflow, split_may}
 
 pub hold_join : (store : Store) (a b : List SplitData) → AllHold store a → AllHold store b → AllHold store (a ++ b)
 hold_join store [] b h k = k
@@ -35,8 +35,15 @@ pub parts_append : (store : Store) (a b : List SplitData) → parts_left store (
 parts_append store [] b = refl
 parts_append store (s ∷ a) b = ap (λ xs. one_part (split_items store s) ++ xs) (parts_append store a b) ∙ sym (append_assoc (one_part (split_items store s)) (parts_left store a) (parts_left store b))
 
+pub clean_append : (store : Store) (a b : List SplitData) → clean_left store (a ++ b) ≡ clean_left store a ++ clean_left store b
+clean_append store [] b = refl
+clean_append store (s ∷ a) b = ap (λ xs. one_part (clean_items store s) ++ xs) (clean_append store a b) ∙ sym (append_assoc (one_part (clean_items store s)) (clean_left store a) (clean_left store b))
+
 pub overflow_append : (store : Store) (a b : List SplitData) → overflow_left store (a ++ b) ≡ (overflow_left store a || overflow_left store b)
 overflow_append store a b = list_any-append (split_overflow store) a b
+
+pub damage_append : (store : Store) (a b : List SplitData) → damage_left store (a ++ b) ≡ (damage_left store a || damage_left store b)
+damage_append store a b = list_any-append (split_damage store) a b
 
 pub may_append : (a b : List SplitData) (id : ℕ) → may_want (a ++ b) id ≡ (may_want a id || may_want b id)
 may_append a b id = list_any-append (λ (s : SplitData). is_among (split_may s) id) a b
@@ -92,7 +99,9 @@ module _ (holds : Option Store) where
   goes_refl ordered ss = record {
     stay = λ store e h. h;
     items = λ store e h. alike_refl ordered (parts_left store ss);
+    clean = λ store e h. alike_refl ordered (clean_left store ss);
     overflow = λ store e h. refl;
+    damage = λ store e h. refl;
     comes = λ test store e h c. c;
     may = λ id h. h;
     dtype = λ d h. h;
@@ -103,7 +112,9 @@ module _ (holds : Option Store) where
   goes_any ordered a b g = record {
     stay = g.stay;
     items = λ store e h. alike_same ordered (parts_left store a) (parts_left store b) (g.items store e h);
+    clean = λ store e h. alike_same ordered (clean_left store a) (clean_left store b) (g.clean store e h);
     overflow = g.overflow;
+    damage = g.damage;
     comes = g.comes;
     may = g.may;
     dtype = g.dtype;
@@ -114,7 +125,9 @@ module _ (holds : Option Store) where
   goes_then ordered given a b c g k = record {
     stay = λ store e h. k.stay store e (g.stay store e h);
     items = λ store e h. alike_then ordered (parts_left store a) (parts_left store b) (one_part given ++ parts_left store c) (g.items store e h) (k.items store e (g.stay store e h));
+    clean = λ store e h. alike_then ordered (clean_left store a) (clean_left store b) (one_part given ++ clean_left store c) (g.clean store e h) (k.clean store e (g.stay store e h));
     overflow = λ store e h. k.overflow store e (g.stay store e h) ∙ g.overflow store e h;
+    damage = λ store e h. k.damage store e (g.stay store e h) ∙ g.damage store e h;
     comes = λ test store e h t. g.comes test store e h (k.comes test store e (g.stay store e h) t);
     may = λ id h. g.may id (k.may id h);
     dtype = λ d h. k.dtype d (g.dtype d h);
@@ -131,9 +144,16 @@ module _ (holds : Option Store) where
         let p = hold_split store a c h in
         subst (λ (z : List (List Marked) × List (List Marked)). Alike ordered z.0 z.1) (λ i. (sym (parts_append store a c) i, sym (parts_append store b d) i))
         (alike_append ordered (parts_left store a) (parts_left store b) (parts_left store c) (parts_left store d) (g.items store e p.0) (k.items store e p.1));
+    clean = λ store e h.
+        let p = hold_split store a c h in
+        subst (λ (z : List (List Marked) × List (List Marked)). Alike ordered z.0 z.1) (λ i. (sym (clean_append store a c) i, sym (clean_append store b d) i))
+        (alike_append ordered (clean_left store a) (clean_left store b) (clean_left store c) (clean_left store d) (g.clean store e p.0) (k.clean store e p.1));
     overflow = λ store e h.
         let p = hold_split store a c h in
         overflow_append store b d ∙ ap (λ x. x || overflow_left store d) (g.overflow store e p.0) ∙ ap (λ x. overflow_left store a || x) (k.overflow store e p.1) ∙ sym (overflow_append store a c);
+    damage = λ store e h.
+        let p = hold_split store a c h in
+        damage_append store b d ∙ ap (λ x. x || damage_left store d) (g.damage store e p.0) ∙ ap (λ x. damage_left store a || x) (k.damage store e p.1) ∙ sym (damage_append store a c);
     comes = λ test store e h t. let p = hold_split store a c h in both test store e p.0 p.1 (some_split test store b d t);
     may = λ id h. either id (or_cases (may_want b id) (may_want d id) (sym (may_append b d id) ∙ h));
     dtype = λ t h. let p = of_split t a c h in of_join t b d (g.dtype t p.0) (k.dtype t p.1);

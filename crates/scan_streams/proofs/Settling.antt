@@ -1,5 +1,5 @@
 -- What a look at a slot does.
-use Rattle.std.proofs.Common.{◌≡◌, ◌≢◌, ℕ, suc, ◌+◌, ◌*◌, ◌<◌, ◌≤◌, List, [], ◌∷◌, ◌++◌, length, set, map, Bool, true, false, ◌||◌, ◌&&◌, eqb, Option, is_none, inl, inr, refl, sym, ap, ◌∙◌, subst, arith, length-append}
+use Rattle.std.proofs.Common.{◌≡◌, ◌≢◌, ℕ, suc, ◌+◌, ◌*◌, ◌<◌, ◌≤◌, List, [], ◌∷◌, ◌++◌, length, set, map, Bool, true, false, cond, ◌||◌, ◌&&◌, eqb, Option, is_none, inl, inr, refl, sym, ap, ◌∙◌, subst, arith, length-append}
 use Rattle.std.specs.Prelude.{◌⊎◌, if◌then◌else◌, option_and_then}
 use Rattle.std.proofs.lemmas.List.{length-map}
 use Rattle.scan_values.specs.Marked.{Marked}
@@ -35,7 +35,7 @@ use Rattle.scan_streams.proofs.Asking.{moves_weaker}
 use Rattle.scan_streams.proofs.Running.{lacking_lacks}
 use Rattle.scan_streams.proofs.Counting.{no_more, among_head}
 use Rattle.scan_streams.proofs.Handing.{waits_not_ready, at_set, steps_set}
-use Rattle.scan_streams.proofs.Looking.{extends_self, future_self, items_same, overflow_same, type_same, future_later, future_then}
+use Rattle.scan_streams.proofs.Looking.{extends_self, future_self, items_same, damage_same, overflow_same, type_same, future_later, future_then}
 
 or_cases : (a b : Bool) → (a || b) ≡ true → (a ≡ true) ⊎ (b ≡ true)
 or_cases true b e = inl refl
@@ -205,7 +205,9 @@ pub waits_goes : (holds : Option Store) (f g : FutureData) (inbox : Arrivals) �
 waits_goes holds f g inbox s = record {
   stay = λ store e h. h;
   items = λ store e h. ap (λ xs. one_part xs ++ []) (sym (items_same (came inbox) store g f h.0 s));
+  clean = λ store e h. λ i. one_part (cond (sym (damage_same (came inbox) store g f h.0 s) i) [] (sym (items_same (came inbox) store g f h.0 s) i)) ++ [];
   overflow = λ store e h. ap (λ b. b || false) (overflow_same (came inbox) store g f h.0 s);
+  damage = λ store e h. ap (λ b. b || false) (damage_same (came inbox) store g f h.0 s);
   comes = λ test store e h c. back test store c;
   may = λ id h. go id (or_cases (is_among (future_may g) id) false h);
   dtype = λ d h. (type_same (came inbox) g f s ∙ h.0, tt);
@@ -224,7 +226,9 @@ pub done_goes : (holds : Option Store) (f : FutureData) (inbox : Arrivals) (a : 
 done_goes holds f inbox a g = record {
   stay = λ store e h. (tt, tt);
   items = λ store e h. ap (λ xs. one_part xs ++ []) (sym (g.items store h.0));
+  clean = λ store e h. λ i. one_part (cond (g.clean store h.0 i) [] (sym (g.items store h.0) i)) ++ [];
   overflow = λ store e h. sym (ap (λ b. b || false) (g.within store h.0));
+  damage = λ store e h. sym (ap (λ b. b || false) (g.clean store h.0));
   comes = λ test store e h c. none test store c;
   may = λ id h. absurd cc;
   dtype = λ d h. (g.dtype ∙ h.0, tt);

@@ -84,7 +84,9 @@ pub goes_after : (s : SourceState) (f : FutureData) (inbox : Arrivals) (id : ℕ
 goes_after s f inbox id a none t = record {
   stay = λ store e h. (holds_after store inbox id a (told_has s id a store e t) h.0, tt);
   items = λ store e h. refl;
+  clean = λ store e h. refl;
   overflow = λ store e h. refl;
+  damage = λ store e h. refl;
   comes = λ test store e h c. back test store c;
   may = λ k h. h;
   dtype = λ d h. h;

@@ -11,11 +11,11 @@ use Rattle.scan_values.specs.Val.{marked}
 use Rattle.scan_plans.specs.Came.{Came}
 use Rattle.scan_plans.specs.Futures.{FutureData}
 use Rattle.scan_streams.specs.Slots.{slot_at, slot_split}
-use Rattle.scan_streams.specs.Splits.{SplitData, read, new_split, one_part, Goes, SomeComesTo, parts_left, overflow_left, may_want}
+use Rattle.scan_streams.specs.Splits.{SplitData, read, new_split, one_part, Goes, SomeComesTo, parts_left, clean_left, damage_left, overflow_left, may_want}
 use Rattle.scan_streams.specs.Looks.{EachGoes}
 use Rattle.scan_streams.specs.Readings.{ring, splits_in}
 use Rattle.scan_streams.specs.declared.slot.Slot.{Slot}
-use Rattle.scan_streams.proofs.Going.{goes_refl, goes_any, goes_append, hold_split, hold_join, of_split, of_join, parts_append, overflow_append, may_append, reach_append, some_split, some_left, some_right, alike_refl}
+use Rattle.scan_streams.proofs.Going.{goes_refl, goes_any, goes_append, hold_split, hold_join, of_split, of_join, parts_append, clean_append, damage_append, overflow_append, may_append, reach_append, some_split, some_left, some_right, alike_refl}
 
 module _ (holds : Option Store) where
   goes_flat : (xs ys : List Slot) → length ys ≡ length xs → ((p : ℕ) → Goes true holds [] (slot_split (slot_at xs p)) (slot_split (slot_at ys p))) → Goes true holds [] (flat_map slot_split xs) (flat_map slot_split ys)
@@ -61,7 +61,9 @@ module _ (holds : Option Store) where
   goes_pop ordered a ss = record {
     stay = λ store e h. h.1;
     items = λ store e h. alike_refl ordered (one_part (map marked a.items) ++ parts_left store ss);
+    clean = λ store e h. alike_refl ordered (one_part (map marked a.items) ++ clean_left store ss);
     overflow = λ store e h. refl;
+    damage = λ store e h. refl;
     comes = λ test store e h c. inr c;
     may = λ id h. h;
     dtype = λ d h. h.1;
@@ -79,7 +81,9 @@ module _ (holds : Option Store) where
   goes_comm a b = record {
     stay = λ store e h. let p = hold_split store a b h in hold_join store b a p.1 p.0;
     items = λ store e h. subst (λ (z : List (List Marked) × List (List Marked)). IsPermutation z.0 z.1) (λ i. (sym (parts_append store a b) i, sym (parts_append store b a) i)) (IsPermutation-append_comm (parts_left store a) (parts_left store b));
+    clean = λ store e h. subst (λ (z : List (List Marked) × List (List Marked)). IsPermutation z.0 z.1) (λ i. (sym (clean_append store a b) i, sym (clean_append store b a) i)) (IsPermutation-append_comm (clean_left store a) (clean_left store b));
     overflow = λ store e h. overflow_append store b a ∙ or_comm (overflow_left store b) (overflow_left store a) ∙ sym (overflow_append store a b);
+    damage = λ store e h. damage_append store b a ∙ or_comm (damage_left store b) (damage_left store a) ∙ sym (damage_append store a b);
     comes = λ test store e h c. turn test store (some_split test store b a c);
     may = λ id h. may_append a b id ∙ or_comm (may_want a id) (may_want b id) ∙ sym (may_append b a id) ∙ h;
     dtype = λ d h. let p = of_split d a b h in of_join d b a p.1 p.0;

@@ -1,5 +1,5 @@
 -- The splits that are still to be given, and what reading on does to them.
-use Rattle.std.specs.Prelude.{◌≡◌, ◌≤◌, ◌+◌, ◌⊎◌, ℕ, Bool, true, false, List, [], ◌∷◌, ◌++◌, length, map, Option, Some}
+use Rattle.std.specs.Prelude.{◌≡◌, ◌≤◌, ◌+◌, ◌⊎◌, ℕ, Bool, true, false, cond, List, [], ◌∷◌, ◌++◌, length, map, Option, Some}
 use Rattle.std.specs.List.{flat_map, list_any}
 use Rattle.std.specs.Prelude.{IsPermutation}
 use Rattle.std.specs.FinMap as finite
@@ -11,7 +11,7 @@ use Rattle.scan_values.specs.Val.{marked}
 use Rattle.scan_segments.specs.Source.{Store}
 use Rattle.scan_splits.specs.Arrivals.{Arrivals}
 use Rattle.scan_plans.specs.Came.{Came, came, Holds}
-use Rattle.scan_plans.specs.Futures.{FutureData, future_dtype, future_may, future_wanted, future_spoiled, future_overflow, items_of, SameFuture}
+use Rattle.scan_plans.specs.Futures.{FutureData, future_dtype, future_may, future_wanted, future_spoiled, future_damage, future_overflow, items_of, SameFuture}
 use Rattle.scan_plans.specs.Wants.{names_id}
 
 -- a split that is to be read, and what has arrived for it; or the array of one that is read
@@ -32,6 +32,15 @@ split_items store (read a) = map marked a.items
 abbrev pub split_overflow : Store → SplitData → Bool
 split_overflow store (unread f inbox) = future_overflow f store
 split_overflow store (read a) = false
+
+-- a filter of it is damaged at a row that is true when it runs
+abbrev pub split_damage : Store → SplitData → Bool
+split_damage store (unread f inbox) = future_damage f store
+split_damage store (read a) = false
+
+-- its values, none where it is damaged
+abbrev pub clean_items : Store → SplitData → List Marked
+clean_items store s = cond (split_damage store s) [] (split_items store s)
 
 -- the ids that it may still want
 abbrev pub split_may : SplitData → List ℕ
@@ -75,12 +84,19 @@ abbrev pub one_part : List Marked → List (List Marked)
 one_part [] = []
 one_part (x ∷ xs) = (x ∷ xs) ∷ []
 
--- all of several splits: the values of each that has any, whether one overflows, the ids that they may want, how many rows they give at most
+-- all of several splits: the values of each that has any, the same of those without damage, whether one overflows or is
+-- damaged, the ids that they may want, how many rows they give at most
 abbrev pub parts_left : Store → List SplitData → List (List Marked)
 parts_left store ss = flat_map (λ (s : SplitData). one_part (split_items store s)) ss
 
+abbrev pub clean_left : Store → List SplitData → List (List Marked)
+clean_left store ss = flat_map (λ (s : SplitData). one_part (clean_items store s)) ss
+
 abbrev pub overflow_left : Store → List SplitData → Bool
 overflow_left store ss = list_any (split_overflow store) ss
+
+abbrev pub damage_left : Store → List SplitData → Bool
+damage_left store ss = list_any (split_damage store) ss
 
 abbrev pub may_want : List SplitData → ℕ → Bool
 may_want ss id = list_any (λ s. is_among (split_may s) id) ss
@@ -116,11 +132,14 @@ abbrev pub Alike : Bool → List (List Marked) → List (List Marked) → Type 0
 Alike true xs ys = xs ≡ ys
 Alike false xs ys = IsPermutation xs ys
 
--- reading on gives all values of one split, or none: they and those of each split that is left are those of each before
+-- Reading on gives all values of one split, which is not damaged, or none: they and those of each split that is left are
+-- those of each before.
 pub record Goes (ordered : Bool) (holds : Option Store) (given : List Marked) (old new : List SplitData) : Type 0 where
   pub stay : (store : Store) → holds ≡ Some store → AllHold store old → AllHold store new
   pub items : (store : Store) → holds ≡ Some store → AllHold store old → Alike ordered (parts_left store old) (one_part given ++ parts_left store new)
+  pub clean : (store : Store) → holds ≡ Some store → AllHold store old → Alike ordered (clean_left store old) (one_part given ++ clean_left store new)
   pub overflow : (store : Store) → holds ≡ Some store → AllHold store old → overflow_left store new ≡ overflow_left store old
+  pub damage : (store : Store) → holds ≡ Some store → AllHold store old → damage_left store new ≡ damage_left store old
   pub comes : (test : FutureData → Came → Bool) (store : Store) → holds ≡ Some store → AllHold store old → SomeComesTo test store new → SomeComesTo test store old
   pub may : (id : ℕ) → may_want new id ≡ true → may_want old id ≡ true
   pub dtype : (d : DataType) → AllOf d old → AllOf d new
