@@ -8,20 +8,20 @@ use Rattle.scan_values.specs.Masks.{both_true}
 use Rattle.scan_segments.specs.Source.{Store}
 use Rattle.scan_layout.specs.Places.{Place}
 use Rattle.scan_expr.specs.Bound.{Bound}
-use Rattle.scan_plans.specs.PlanTree.{PlanTree}
+use Rattle.scan_plans.specs.PlanTree.{PlanTree, evaluate, numbers}
 use Rattle.scan_plans.specs.PlanData.{PlanData}
 use Rattle.scan_plans.specs.Came.{Came, arrived}
 use Rattle.scan_plans.specs.Futures.{future_data}
-use Rattle.scan_plans.specs.Masks.{MaskData, mask_data, Filter, kept, filtered, spilled, filters_wanted, mask_of, mask_overflow, mask_wanted}
+use Rattle.scan_plans.specs.Masks.{MaskData, mask_data, Filter, kept, filtered, spilled, filters_wanted, filters_spoiled, mask_of, mask_overflow, mask_wanted, mask_spoiled}
 use Rattle.scan_plans.specs.Meaning.{value_at, overflow_at, overflow_on, true_rows, Within}
-use Rattle.scan_plans.specs.Wants.{wanted, are_here, names_id}
-use Rattle.scan_plans.specs.Pruning.{is_numbered, pruned, IsWithin}
+use Rattle.scan_plans.specs.Wants.{wanted, are_here, names_id, spoiled}
+use Rattle.scan_plans.specs.Pruning.{are_numbers, is_numbered, pruned, IsWithin}
 use Rattle.scan_plans.proofs.Filtering.{kept_length}
 use Rattle.scan_plans.proofs.ListWants.{within_fewer}
 use Rattle.scan_plans.proofs.Pruned.{pruned_wants, pruned_keeps, pruned_alike}
 use Rattle.scan_plans.proofs.RowLemmas.{map_rows}
 use Rattle.scan_readers.specs.Readers.{ReaderState, numbers_alone, value_of, overflows_at}
-use Rattle.scan_readers.specs.PlanOf.{IsPlanOf, may_want}
+use Rattle.scan_readers.specs.PlanOf.{IsPlanOf, may_want, may_spoil}
 use Rattle.scan_readers.specs.Evaluations.{rows_true, overflows_on, Filters, Projects, Prunes}
 
 or_assoc : (a b c : Bool) → (a || (b || c)) ≡ ((a || b) || c)
@@ -103,6 +103,45 @@ last_wants here id t f n bits (g ∷ fs) want l h =
     (λ w. ap (λ x. x || t) (names_append id ws (if b then filters_wanted here next fs else [])) ∙ of_first (names_id id ws) (names_id id (if b then filters_wanted here next fs else [])) t w)
     (λ a w. ap (λ x. x || t) (staged id ws b (filters_wanted here next fs) a) ∙ of_rest (names_id id ws) (names_id id (filters_wanted here next fs)) t (last_wants here id t f n next fs want (kept_length g.0 (arrived here) g.1 bits ∙ l) w))
 
+-- ---- what is no good
+-- of two stages the second is not looked at unless all of the first is here
+second_bad : (a b rest c : Bool) → (a || (if b then rest else false)) ≡ true → (a ≡ true → c ≡ true) → (b ≡ true → rest ≡ true → c ≡ true) → c ≡ true
+second_bad a true rest c h f g = either a rest c h f (g refl)
+second_bad a false rest c h f g = either a false c h f (λ z. absurd cc)
+
+last_spoils : (here : Came) (id : ℕ) (t : Bool) (f : Filter) (n : ℕ) (bits : List Bool) (fs : List Filter) → ((m : List Bool) → length m ≡ n → spoiled f.0 here (true_rows f.1 m) id ≡ true → t ≡ true)
+    → length bits ≡ n → filters_spoiled here bits (fs ++ f ∷ []) id ≡ true → (filters_spoiled here bits fs id || t) ≡ true
+last_spoils here id t f n bits [] bad l h =
+    second_bad (spoiled f.0 here (true_rows f.1 bits) id) (are_here (wanted f.0 here (true_rows f.1 bits)) here) false t h (bad bits l) (λ a z. absurd cc)
+last_spoils here id t f n bits (g ∷ fs) bad l h =
+    let one = spoiled g.0 here (true_rows g.1 bits) id in
+    let next = kept g.0 (arrived here) g.1 bits in
+    let b = are_here (wanted g.0 here (true_rows g.1 bits)) here in
+    let rest = filters_spoiled here next fs id in
+    second_bad one b (filters_spoiled here next (fs ++ f ∷ []) id) ((one || (if b then rest else false)) || t) h
+    (of_first one (if b then rest else false) t)
+    (λ a w. rw a (of_rest one rest t (last_spoils here id t f n next fs bad (kept_length g.0 (arrived here) g.1 bits ∙ l) w)))
+
+-- over the numbers of rows nothing is no good
+numbers_spoil : (p : PlanTree) → are_numbers p ≡ true → (here : Came) (is : List ℕ) (id : ℕ) → spoiled p here is id ≡ false
+numbers_spoil (numbers k) h here is id = refl
+numbers_spoil _ h here is id = absurd cc
+
+pub numbered_spoils : (p : PlanTree) → is_numbered p ≡ true → (here : Came) (is : List ℕ) (id : ℕ) → spoiled p here is id ≡ false
+numbered_spoils (evaluate d e p) h here is id = numbers_spoil p h here is id
+numbered_spoils _ h here is id = absurd cc
+
+pruned_spoils : (p : PlanTree) (first : ℕ) (mask : List Bool) (here : Came) (id : ℕ) → mask_spoiled (pruned p first mask) here id ≡ false
+pruned_spoils p first mask here id = by (is_numbered p) refl
+  where
+    none : (c : Bool) → (if c then false else false) ≡ false
+    none true = refl
+    none false = refl
+
+    by : (b : Bool) → is_numbered p ≡ b → filters_spoiled here mask (if b then (p, first) ∷ [] else []) id ≡ false
+    by true h = rw (numbered_spoils p h here (true_rows first mask) id) (none (are_here (wanted p here (true_rows first mask)) here))
+    by false h = refl
+
 -- ---- a filter and a projection
 pub filter_means : (s : ReaderState) (p : PlanData) (first end : ℕ) (m : MaskData) → IsPlanOf s p.expr p → end ≤ s.rows → first + length m.known ≡ end → Filters s p.expr first m (mask_data m.known (m.filters ++ (p.tree, first) ∷ []))
 filter_means s p first end m is below l = record {
@@ -112,6 +151,9 @@ filter_means s p first end m is below l = record {
   wants = λ store here id holds w. last_wants here id (may_want s p.expr store first (first + length m.known) id) (p.tree, first)
       (length m.known) m.known m.filters (λ bits same h. subst (λ n. may_want s p.expr store first (first + n) id ≡ true) same
       (is.wants store here first bits id holds (omega (arith, same, below, l)) h)) refl w;
+  spoils = λ store here id holds w. last_spoils here id (may_spoil s p.expr store first (first + length m.known) id) (p.tree, first)
+      (length m.known) m.known m.filters (λ bits same h. subst (λ n. may_spoil s p.expr store first (first + n) id ≡ true) same
+      (is.spoils store here first bits id holds (omega (arith, same, below, l)) h)) refl w;
 }
   where
     within : (store : Store) → first + length (mask_of m store) ≤ s.rows
@@ -132,6 +174,11 @@ projection_means s p first end m is below l = record {
       let ws = mask_wanted m here in
       let rows = true_rows first (mask_of m (arrived here)) in
       second id ws (are_here ws here) (wanted p.tree here rows) w (names_id id ws || t) (λ h. of_left (names_id id ws) t h) (λ a h. or_more (names_id id ws) t (let same = filtered_length (arrived here) m.known m.filters in subst (λ n. may_want s p.expr store first (first + n) id ≡ true) same (is.wants store here first (mask_of m (arrived here)) id holds (within (arrived here)) h)));
+  spoils = λ store here id holds w.
+      let t = may_spoil s p.expr store first (first + length m.known) id in
+      let bad = mask_spoiled m here id in
+      second_bad bad (are_here (mask_wanted m here) here) (spoiled p.tree here (true_rows first (mask_of m (arrived here))) id) (bad || t) w (λ h. of_left bad t h)
+      (λ a h. or_more bad t (let same = filtered_length (arrived here) m.known m.filters in subst (λ n. may_spoil s p.expr store first (first + n) id ≡ true) same (is.spoils store here first (mask_of m (arrived here)) id holds (within (arrived here)) h)));
 }
   where
     within : (store : Store) → first + length (mask_of m store) ≤ s.rows
@@ -170,6 +217,7 @@ prune_means s p first end mask is below l = record {
       ap (rows_true s p.expr store first) left ∙ rows_again s p.expr store first mask ∙ sym left;
   overflow = λ store. spilled_by store (is_numbered p.tree) (numbers_alone s p.expr.expr) is.numbered;
   wants = pruned_wants p.tree first mask;
+  spoils = pruned_spoils p.tree first mask;
 }
   where
     here : (store : Store) (bits : List Bool) → length bits ≤ length mask → kept p.tree store first bits ≡ rows_true s p.expr store first bits

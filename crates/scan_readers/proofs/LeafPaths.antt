@@ -1,5 +1,5 @@
 -- What a layout touches stands at leaves of its dtype, and a range touches what a part of it touches.
-use Rattle.std.proofs.Common.{◌≡◌, ℕ, ◌+◌, ◌≤◌, ◌==◌, Bool, true, false, ◌||◌, ◌&&◌, List, [], ◌∷◌, ◌++◌, max, min, filter, refl, sym, subst, ◌∙◌}
+use Rattle.std.proofs.Common.{◌≡◌, ℕ, ◌+◌, Bool, true, false, ◌||◌, ◌&&◌, List, [], ◌∷◌, ◌++◌, max, min, refl, subst}
 use Rattle.std.specs.Prelude.{nat_lt, if◌then◌else◌, bytes_eq}
 use Rattle.scan_values.specs.declared.ptype.Nullability.{Nullability}
 use Rattle.scan_values.specs.declared.ptype.Nullability.TheVariants.{NonNullable, Nullable}
@@ -19,9 +19,8 @@ use Rattle.scan_layout.specs.Layout.{Layout, Nodes, node, no_nodes, child, rows_
 use Rattle.scan_layout.specs.Places.{Place, place_of, places_of}
 use Rattle.scan_layout.specs.RowValue.{row_value}
 use Rattle.scan_layout.specs.Touched.{touched, below_step, nth_touched, all_touched, leaf_touched, under_step, field_steps, element_from, element_to}
-use Rattle.scan_layout.proofs.Local.{agree_both, fewer}
+use Rattle.scan_layout.proofs.Local.{agree_both}
 use Rattle.scan_partition.proofs.Names.{bytes_eq-refl}
-use Rattle.scan_plans.specs.Wants.{names_id}
 
 -- ---- facts of each place
 or_left : (a b : Bool) → a ≡ true → (a || b) ≡ true
@@ -131,50 +130,3 @@ mutual
       (λ p h. or_left (under_field f (is_leaf d) (to_field f ∷ p.path)) (is_field_leaf fs (to_field f ∷ p.path)) (and_true (bytes_eq f f) (is_leaf d p.path) (bytes_eq-refl f) h)) (paths l d s a b forms.0))
       (each_less (λ p. is_field_leaf fs p.path ≡ true) (λ p. is_field_leaf (field f d fs) p.path ≡ true) (all_touched ls (field_steps fs) s a b)
       (λ p h. or_right (under_field f (is_leaf d) p.path) (is_field_leaf fs p.path) h) (field_paths fs ls s a b forms.1))
-
--- ---- ids
-abbrev IsOther : ℕ → Place → Type 0
-IsOther id p = (p.id == id) ≡ false
-
-or_parts : (a b : Bool) → (a || b) ≡ false → (a ≡ false) × (b ≡ false)
-or_parts true b h = absurd cc
-or_parts false b h = (refl, h)
-
-none_named : (id : ℕ) (ps : List Place) → names_id id ps ≡ false → Each (IsOther id) ps
-none_named id [] h = tt
-none_named id (p ∷ ps) h = let z = or_parts (p.id == id) (names_id id ps) h in (z.0, none_named id ps z.1)
-
-no_name : (id : ℕ) (ps : List Place) → Each (IsOther id) ps → names_id id ps ≡ false
-no_name id [] h = refl
-no_name id (p ∷ ps) h = rw (h.0, no_name id ps h.1) refl
-
--- a range touches what a part of it touches
-pub touches_more : (l : Layout) (ty : DataType) (s : Store) (a b c d id : ℕ) → HasForm l ty → c ≤ a → b ≤ d → d ≤ rows_of l → names_id id (touched l s a b) ≡ true → names_id id (touched l s c d) ≡ true
-touches_more l ty s a b c d id form low high inside h = by (names_id id (touched l s c d)) refl
-  where
-    by : (t : Bool) → names_id id (touched l s c d) ≡ t → t ≡ true
-    by true e = refl
-    by false e =
-        let none = no_name id (touched l s a b) (fewer l ty (IsOther id) (λ step p. (λ k. k, λ k. k)) s a b c d form low high inside (none_named id (touched l s c d) e)) in
-        absurd (let z : true ≡ false = sym h ∙ none in cc)
-
--- ---- below a step, where all is needed
-pub named_under : (id : ℕ) (step : Step) (Q : Path → Bool) (ps : List Place) → Each (λ p. Q (step ∷ p.path) ≡ true) ps → names_id id ps ≡ true → names_id id (filter (λ (p : Place). Q p.path) (under_step step ps)) ≡ true
-named_under id step Q [] h n = absurd cc
-named_under id step Q (p ∷ ps) h n = rw h.0 (by (p.id == id) n (named_under id step Q ps h.1))
-  where
-    by : (b : Bool) → (b || names_id id ps) ≡ true → (names_id id ps ≡ true → names_id id (filter (λ (p : Place). Q p.path) (under_step step ps)) ≡ true) → (b || names_id id (filter (λ (p : Place). Q p.path) (under_step step ps))) ≡ true
-    by true e rest = refl
-    by false e rest = rest e
-
-pub named_all : (id : ℕ) (Q : Path → Bool) (ps : List Place) → names_id id (filter (λ (p : Place). Q p.path) ps) ≡ true → names_id id ps ≡ true
-named_all id Q [] h = h
-named_all id Q (p ∷ ps) h = by (Q p.path) h (named_all id Q ps)
-  where
-    by : (b : Bool) → names_id id (if b then p ∷ filter (λ (x : Place). Q x.path) ps else filter (λ (x : Place). Q x.path) ps) ≡ true → (names_id id (filter (λ (x : Place). Q x.path) ps) ≡ true → names_id id ps ≡ true) → ((p.id == id) || names_id id ps) ≡ true
-    by true k rest = one (p.id == id) k rest
-      where
-        one : (c : Bool) → (c || names_id id (filter (λ (x : Place). Q x.path) ps)) ≡ true → (names_id id (filter (λ (x : Place). Q x.path) ps) ≡ true → names_id id ps ≡ true) → (c || names_id id ps) ≡ true
-        one true e r = refl
-        one false e r = r e
-    by false k rest = or_right (p.id == id) (names_id id ps) (rest k)

@@ -1,6 +1,8 @@
 pub mod Scopes
 pub mod Keeping
 pub mod Naming
+pub mod SomePlace
+pub mod Flawed
 pub mod Evaluating
 pub mod PlansOf
 pub mod RowPlans

@@ -1,11 +1,12 @@
 -- Plans of expressions that read of a list at most whether it is null.
-use Rattle.std.proofs.Common.{◌≡◌, ℕ, ◌+◌, ◌-◌, Bool, true, false, ◌&&◌, List, Option, Some, None, ℤ, pos, negsuc, refl, ap, sym, subst, ◌∙◌, arith}
+use Rattle.std.proofs.Common.{◌≡◌, ℕ, ◌+◌, ◌-◌, ◌==◌, Bool, true, false, ◌&&◌, List, ◌∷◌, Option, Some, None, ℤ, pos, negsuc, refl, ap, sym, subst, ◌∙◌, arith}
 use Rattle.std.specs.Prelude.{if◌then◌else◌, nat_le, Result, Ok, Err, IfOk}
 use Rattle.scan_values.specs.DataType.{DataType, Name, bool_type, list_type}
 use Rattle.scan_values.specs.declared.ptype.Nullability.TheVariants.{NonNullable, Nullable}
 use Rattle.scan_values.specs.declared.ptype.PType.{PType}
 use Rattle.scan_values.specs.Fits.{fits}
 use Rattle.scan_values.specs.Marked.{Marked, lost, null, gone, boolean, integer, text, list, struct}
+use Rattle.scan_values.specs.Paths.{to_validity}
 use Rattle.scan_segments.specs.Source.{Store}
 use Rattle.scan_expr.specs.declared.op.Unary.{Unary}
 use Rattle.scan_expr.specs.declared.op.Unary.TheVariants.{GetItem, Select, Exclude, Not, IsNull, IsNotNull, ListLength}
@@ -18,6 +19,7 @@ use Rattle.scan_layout.specs.declared.spelling.Spelling.{Spelling}
 use Rattle.scan_layout.specs.Check.{total_rows}
 use Rattle.scan_layout.specs.Form.{HasForm}
 use Rattle.scan_layout.specs.Layout.{Layout, Nodes, node, no_nodes, child, rows_of}
+use Rattle.scan_layout.specs.Places.{Place}
 use Rattle.scan_layout.specs.RowValue.{row_value, elements_between, values_from, under}
 use Rattle.scan_layout.proofs.RowFits.{row_fits}
 use Rattle.scan_partition.specs.declared.item.Item.TheVariants.{Validity as NullItem}
@@ -31,12 +33,15 @@ use Rattle.scan_plans.specs.Formed.{reads, any_reads, reads_root}
 use Rattle.scan_plans.specs.OffsetsData.{offset_at}
 use Rattle.scan_plans.specs.PlanData.{plan_data}
 use Rattle.scan_plans.specs.PlanTree.{PlanTree, leaf, evaluate, constant}
+use Rattle.scan_plans.specs.Wants.{is_bad}
 use Rattle.scan_plans.proofs.Constants.{value_alike, overflow_alike}
+use Rattle.scan_readers.specs.Flaws.{has_flaw}
 use Rattle.scan_readers.specs.LeafPlans.{layout_state}
 use Rattle.scan_readers.specs.ListPlans.{list_layout, list_offsets, IsNeverNull, IsNeverNullPlan, IsNullsPlan}
 use Rattle.scan_readers.specs.KindView.{leaf_of}
 use Rattle.scan_readers.specs.declared.leaf.LeafReader.{LeafReader}
 use Rattle.scan_readers.specs.PlanOf.{IsPlanOf}
+use Rattle.scan_readers.proofs.Flawed.{bytes_flawed}
 use Rattle.scan_readers.proofs.ListOf.{validity_may}
 
 -- ---- of what is never null nothing is read
@@ -111,6 +116,7 @@ module _ (name : Name) (t : DataType) (rows : ℕ) (q : PType) (el : Layout) (sp
         value = λ store i below. value_alike e.scope e.expr _ _ 0 none;
         overflow = λ store i below. overflow_alike e.scope e.expr _ _ 0 none;
         wants = λ store here first mask id holds below w. absurd cc;
+        spoils = λ store here first mask id holds below w. absurd cc;
         exact = tt;
       }
 
@@ -139,7 +145,9 @@ module _ (law : NecessaryIsNeeded) (name : Name) (t : DataType) (rows : ℕ) (q 
       rows = let a = (form.2).1 in let b : total_rows xs ≡ r = ((form.3.1.1.0).2).0 in omega (arith, a, b);
       value = λ store i low. ap (λ v. eval f.scope f.expr v 0) (sym (null_row store i form scope)) ∙ over.values (row_value nulls store i) 0;
       overflow = λ store i low. ap (λ v. overflows f.scope f.expr v 0) (sym (null_row store i form scope)) ∙ over.overflow (row_value nulls store i) 0;
-      wants = λ store here first mask id holds low w. validity_may law name t rows q el sp gs e u r xs y ks ls store first mask id (form.3.1.1.0).0 scope w;
+      wants = λ store here first mask id holds low w. validity_may law name t rows q el sp gs e u r xs y ks ls (λ (z : Place). z.id == id) (λ (z : Place). z.id == id) (λ z h. h) store first mask (form.3.1.1.0).0 scope w;
+      spoils = λ store here first mask id holds low w. validity_may law name t rows q el sp gs e u r xs y ks ls (λ (z : Place). (z.id == id) && is_bad z (here id)) (λ (z : Place). (z.id == id) && has_flaw nulls store z)
+          (λ z. bytes_flawed nulls (to_validity ∷ z.path) store here id z holds) store first mask (form.3.1.1.0).0 scope w;
       exact = tt;
     }
 

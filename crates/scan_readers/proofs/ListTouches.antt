@@ -1,6 +1,7 @@
 -- What plans over a list's children want, the list's rows touch.
 use Rattle.std.proofs.Common.{◌≡◌, ℕ, zero, suc, ◌+◌, ◌-◌, ◌<◌, ◌≤◌, ◌==◌, Bool, true, false, ◌||◌, ◌&&◌, List, [], ◌∷◌, ◌++◌, length, filter, max, min, replicate, Option, Some, None, is_none, refl, ap, sym, ◌∙◌, arith}
-use Rattle.std.specs.Prelude.{if◌then◌else◌, nat_lt, is_some}
+use Rattle.std.specs.Prelude.{nat_lt, is_some}
+use Rattle.std.specs.List.{list_any}
 use Rattle.std.proofs.lemmas.Bool.{ltb-true, ltb-false, eqb-true}
 use Rattle.std.proofs.lemmas.Bool.Decides.{nat_tests}
 use Rattle.std.proofs.lemmas.List.{length-replicate}
@@ -19,8 +20,8 @@ use Rattle.scan_layout.specs.Layout.{Layout, node, rows_of}
 use Rattle.scan_layout.specs.declared.node.LayoutKind.TheVariants.{Leaf, Struct, List as List'}
 use Rattle.scan_layout.specs.Places.{Place, places_of}
 use Rattle.scan_layout.specs.RowValue.{offset_of}
-use Rattle.scan_layout.specs.Touched.{touched, leaf_touched, under_step, least_offset, greatest_offset, lesser, greater, element_from, element_to}
-use Rattle.scan_layout.proofs.Local.{leaf_fewer, least_fewer, greatest_fewer, from_by, to_by, to_most}
+use Rattle.scan_layout.specs.Touched.{touched, below_step, leaf_touched, under_step, least_offset, greatest_offset, lesser, greater, element_from, element_to}
+use Rattle.scan_layout.proofs.Local.{least_fewer, greatest_fewer, from_by, to_by, to_most}
 use Rattle.scan_partition.specs.Lists.{necessary}
 use Rattle.scan_partition.specs.ListUses.{NecessaryIsNeeded, is_leaf_of_class}
 use Rattle.scan_partition.specs.declared.list_.ListChildrenNeeded.{ListChildrenNeeded}
@@ -29,30 +30,8 @@ use Rattle.scan_plans.specs.Came.{Came}
 use Rattle.scan_plans.specs.Lists.{least_row, greatest_row, offset_count, offset_rows}
 use Rattle.scan_plans.specs.Meaning.{true_rows}
 use Rattle.scan_plans.specs.Wants.{names_id, leaf_wanted, are_here, Complete}
-use Rattle.scan_plans.proofs.Wanting.{leaves_touch}
-use Rattle.scan_readers.proofs.LeafPaths.{IsAtLeaf, each_less, paths, touches_more, named_under}
-
-or_left : (a b : Bool) → a ≡ true → (a || b) ≡ true
-or_left true b h = refl
-or_left false b h = absurd cc
-
-or_right : (a b : Bool) → b ≡ true → (a || b) ≡ true
-or_right true b h = refl
-or_right false b h = h
-
--- ---- of two lists of places either
-named_append : (id : ℕ) (Q : Path → Bool) (xs ys : List Place) → names_id id (filter (λ (p : Place). Q p.path) (xs ++ ys)) ≡ (names_id id (filter (λ (p : Place). Q p.path) xs) || names_id id (filter (λ (p : Place). Q p.path) ys))
-named_append id Q [] ys = refl
-named_append id Q (x ∷ xs) ys = by (Q x.path) (named_append id Q xs ys)
-  where
-    or_assoc : (a b c : Bool) → (a || (b || c)) ≡ ((a || b) || c)
-    or_assoc true b c = refl
-    or_assoc false b c = refl
-
-    by : (b : Bool) → names_id id (filter (λ (p : Place). Q p.path) (xs ++ ys)) ≡ (names_id id (filter (λ (p : Place). Q p.path) xs) || names_id id (filter (λ (p : Place). Q p.path) ys))
-        → names_id id (if b then x ∷ filter (λ (p : Place). Q p.path) (xs ++ ys) else filter (λ (p : Place). Q p.path) (xs ++ ys)) ≡ (names_id id (if b then x ∷ filter (λ (p : Place). Q p.path) xs else filter (λ (p : Place). Q p.path) xs) || names_id id (filter (λ (p : Place). Q p.path) ys))
-    by true rest = ap (λ c. (x.id == id) || c) rest ∙ or_assoc (x.id == id) (names_id id (filter (λ (p : Place). Q p.path) xs)) (names_id id (filter (λ (p : Place). Q p.path) ys))
-    by false rest = rest
+use Rattle.scan_readers.proofs.LeafPaths.{IsAtLeaf, each_less}
+use Rattle.scan_readers.proofs.SomePlace.{or_left, or_right, needed_append, needed_under, leaf_touches, leaf_more, touches_more}
 
 -- ---- what is needed of a list
 module _ (law : NecessaryIsNeeded) (t : DataType) (n : Nullability) (e : Expr) where
@@ -81,29 +60,6 @@ validity_needed law t e p h = law t Nullable e (to_validity ∷ p) ∙ by (neces
     by OffsetsAndValidity = or_left (is_leaf (bool_type NonNullable) p) false h
     by All = or_left (is_leaf (bool_type NonNullable) p) false h
 
--- ---- ranges of a leaf
-abbrev IsOther : ℕ → Place → Type 0
-IsOther id p = (p.id == id) ≡ false
-
-or_parts : (a b : Bool) → (a || b) ≡ false → (a ≡ false) × (b ≡ false)
-or_parts true b h = absurd cc
-or_parts false b h = (refl, h)
-
-none_named : (id : ℕ) (ps : List Place) → names_id id ps ≡ false → Each (IsOther id) ps
-none_named id [] h = tt
-none_named id (p ∷ ps) h = let z = or_parts (p.id == id) (names_id id ps) h in (z.0, none_named id ps z.1)
-
-no_name : (id : ℕ) (ps : List Place) → Each (IsOther id) ps → names_id id ps ≡ false
-no_name id [] h = refl
-no_name id (p ∷ ps) h = rw (h.0, no_name id ps h.1) refl
-
-leaf_more : (id base : ℕ) (ps : List Place) (a b c d : ℕ) → c ≤ a → b ≤ d → names_id id (leaf_touched base ps a b) ≡ true → names_id id (leaf_touched base ps c d) ≡ true
-leaf_more id base ps a b c d low high h = by (names_id id (leaf_touched base ps c d)) refl
-  where
-    by : (t : Bool) → names_id id (leaf_touched base ps c d) ≡ t → t ≡ true
-    by true e = refl
-    by false e = let none = no_name id (leaf_touched base ps a b) (leaf_fewer (IsOther id) base ps a b c d low high (none_named id (leaf_touched base ps c d) e)) in absurd (let z : true ≡ false = sym h ∙ none in cc)
-
 -- ---- the rows of offsets
 pub least_greatest : (i : ℕ) (is : List ℕ) → least_row i is ≤ greatest_row i is
 least_greatest i [] = omega arith
@@ -122,18 +78,18 @@ pub none_wanted : (base : ℕ) (ps : List Place) → leaf_wanted base ps [] ≡ 
 none_wanted base [] = refl
 none_wanted base (p ∷ ps) = none_wanted (base + p.rows) ps
 
-pub offsets_touch : (ps : List Place) (first : ℕ) (mask : List Bool) (id : ℕ) → names_id id (leaf_wanted 0 ps (offset_rows (true_rows first mask))) ≡ true → (0 < length mask) × (names_id id (leaf_touched 0 ps first (first + length mask + 1)) ≡ true)
-offsets_touch ps first mask id h = by (true_rows first mask) refl h
+pub offsets_touch : (T : Place → Bool) (ps : List Place) (first : ℕ) (mask : List Bool) → list_any T (leaf_wanted 0 ps (offset_rows (true_rows first mask))) ≡ true → (0 < length mask) × (list_any T (leaf_touched 0 ps first (first + length mask + 1)) ≡ true)
+offsets_touch T ps first mask h = by (true_rows first mask) refl h
   where
-    by : (is : List ℕ) → true_rows first mask ≡ is → names_id id (leaf_wanted 0 ps (offset_rows is)) ≡ true → (0 < length mask) × (names_id id (leaf_touched 0 ps first (first + length mask + 1)) ≡ true)
-    by [] e w = absurd (let z : false ≡ true = sym (ap (names_id id) (none_wanted 0 ps)) ∙ w in cc)
+    by : (is : List ℕ) → true_rows first mask ≡ is → list_any T (leaf_wanted 0 ps (offset_rows is)) ≡ true → (0 < length mask) × (list_any T (leaf_touched 0 ps first (first + length mask + 1)) ≡ true)
+    by [] e w = absurd (let z : false ≡ true = sym (ap (list_any T) (none_wanted 0 ps)) ∙ w in cc)
     by (i ∷ is) e w =
         let b = rows_between first mask i is e in
         let k = least_row i is in
         let m = offset_count i is in
         let long : length (replicate m true) ≡ m = length-replicate m true in
-        let own = leaves_touch ps 0 k (replicate m true) id w in
-        (omega (arith, b.0, b.1, least_greatest i is), leaf_more id 0 ps k (k + length (replicate m true)) first (first + length mask + 1) b.0 (omega (arith, long, b.0, b.1, least_greatest i is)) own)
+        let own = leaf_touches T ps 0 k (replicate m true) w in
+        (omega (arith, b.0, b.1, least_greatest i is), leaf_more T 0 ps k (k + length (replicate m true)) first (first + length mask + 1) b.0 (omega (arith, long, b.0, b.1, least_greatest i is)) own)
 
 -- ---- what has arrived of all of some places
 pub here_complete : (ps : List Place) (here : Came) → are_here ps here ≡ true → Complete ps here
@@ -176,11 +132,11 @@ touches_none (node t rows Struct kids) s a = let z : nat_lt a a ≡ false = grin
 touches_none (node t rows (List' p) kids) s a = let z : nat_lt a a ≡ false = grind (arith, nat_tests) in rw z refl
 
 -- the elements that rows of lists want lie among those that the range touches
-pub elements_touch : (el : Layout) (t : DataType) (s : Store) (most rows first len k m : ℕ) (f g : ℕ → Marked) (id : ℕ) → HasForm el t → most ≡ rows_of el → first + len ≤ rows → 0 < len
+pub elements_touch : (el : Layout) (t : DataType) (s : Store) (most rows first len k m : ℕ) (f g : ℕ → Marked) (T : Place → Bool) → HasForm el t → most ≡ rows_of el → first + len ≤ rows → 0 < len
     → first ≤ k → k + m ≤ first + len + 1 → ((j : ℕ) → k ≤ j → j < k + m → offset_of (f j) ≡ offset_of (g j))
     → let from = least_offset most g k m in let to = min most (greatest_offset g k m) in
-    names_id id (touched el s from (from + (to - from))) ≡ true → names_id id (touched el s (element_from most rows f first (first + len)) (element_to most rows f first (first + len))) ≡ true
-elements_touch el t s most rows first len k m f g id form whole inside some low high same h = by (nat_lt from to) refl
+    list_any T (touched el s from (from + (to - from))) ≡ true → list_any T (touched el s (element_from most rows f first (first + len)) (element_to most rows f first (first + len))) ≡ true
+elements_touch el t s most rows first len k m f g T form whole inside some low high same h = by (nat_lt from to) refl
   where
     from : ℕ
     from = least_offset most g k m
@@ -194,47 +150,49 @@ elements_touch el t s most rows first len k m f g id form whole inside some low 
     greatest : greatest_offset f k m ≡ greatest_offset g k m
     greatest = greatest_alike f g k m same
 
-    by : (b : Bool) → nat_lt from to ≡ b → names_id id (touched el s (element_from most rows f first (first + len)) (element_to most rows f first (first + len))) ≡ true
+    by : (b : Bool) → nat_lt from to ≡ b → list_any T (touched el s (element_from most rows f first (first + len)) (element_to most rows f first (first + len))) ≡ true
     by true e =
         let up : from < to = ltb-true from to e in
         let lo = least_fewer most f first (first + len + 1 - first) k m low (omega (arith, high)) in
         let hi = greatest_fewer f first (first + len + 1 - first) k m low (omega (arith, high)) in
-        touches_more el t s from (from + (to - from)) (element_from most rows f first (first + len)) (element_to most rows f first (first + len)) id form
+        touches_more el t T s from (from + (to - from)) (element_from most rows f first (first + len)) (element_to most rows f first (first + len)) form
         (from_by most from (least_offset most f first (first + len + 1 - first)) ((first == 0) && (first + len == rows)) (λ _. omega (arith, lo, least)))
         (to_by (from + (to - from)) most (min most (greatest_offset f first (first + len + 1 - first))) ((first == 0) && (first + len == rows)) (λ _. omega (arith, up)) (λ _. omega (arith, up, hi, greatest)))
         (let z = to_most most rows f first (first + len) in omega (arith, z, whole)) h
     by false e =
         let down : to ≤ from = ltb-false from to e in
         let flat : from + (to - from) ≡ from = omega (arith, down) in
-        let none : names_id id (touched el s from (from + (to - from))) ≡ false = ap (λ b. names_id id (touched el s from b)) flat ∙ ap (names_id id) (touches_none el s from) in
+        let none : list_any T (touched el s from (from + (to - from))) ≡ false = ap (λ b. list_any T (touched el s from b)) flat ∙ ap (list_any T) (touches_none el s from) in
         absurd (let z : true ≡ false = sym h ∙ none in cc)
 
 -- ---- a list's range touches what the ranges of its children touch
-module _ (law : NecessaryIsNeeded) (t : DataType) (n : Nullability) (e : Expr) (id : ℕ) where
+module _ (law : NecessaryIsNeeded) (t : DataType) (n : Nullability) (e : Expr) (S T : Place → Bool) where
   abbrev pub Q : Path → Bool
   Q p = needed (list_type t n) e p
 
-  abbrev pub Named : List Place → Type 0
-  Named ps = names_id id (filter (λ (p : Place). Q p.path) ps) ≡ true
+  abbrev pub Meets : List Place → Type 0
+  Meets ps = list_any T (filter (λ (p : Place). Q p.path) ps) ≡ true
 
-  first_of : (xs ys : List Place) → Named xs → Named (xs ++ ys)
-  first_of xs ys h = named_append id Q xs ys ∙ or_left (names_id id (filter (λ (p : Place). Q p.path) xs)) (names_id id (filter (λ (p : Place). Q p.path) ys)) h
+  first_of : (xs ys : List Place) → Meets xs → Meets (xs ++ ys)
+  first_of xs ys h = needed_append Q T xs ys ∙ or_left (list_any T (filter (λ (p : Place). Q p.path) xs)) (list_any T (filter (λ (p : Place). Q p.path) ys)) h
 
-  second_of : (xs ys : List Place) → Named ys → Named (xs ++ ys)
-  second_of xs ys h = named_append id Q xs ys ∙ or_right (names_id id (filter (λ (p : Place). Q p.path) xs)) (names_id id (filter (λ (p : Place). Q p.path) ys)) h
+  second_of : (xs ys : List Place) → Meets ys → Meets (xs ++ ys)
+  second_of xs ys h = needed_append Q T xs ys ∙ or_right (list_any T (filter (λ (p : Place). Q p.path) xs)) (list_any T (filter (λ (p : Place). Q p.path) ys)) h
 
-  pub in_offsets : (q : PType) (c : ListChildrenNeeded) (A B C : List Place) → necessary e ≡ c → (c ≡ Validity → ⊥) → Each (IsAtLeaf (int_type q NonNullable)) B → names_id id B ≡ true → Named (under_step to_validity A ++ (under_step to_offsets B ++ under_step to_elements C))
-  in_offsets q c A B C is above paths h =
+  pub in_offsets : (q : PType) (c : ListChildrenNeeded) (A B C : List Place) → necessary e ≡ c → (c ≡ Validity → ⊥) → ((p : Place) → S p ≡ true → T (below_step to_offsets p) ≡ true) → Each (IsAtLeaf (int_type q NonNullable)) B → list_any S B ≡ true
+      → Meets (under_step to_validity A ++ (under_step to_offsets B ++ under_step to_elements C))
+  in_offsets q c A B C is above less paths h =
       second_of (under_step to_validity A) (under_step to_offsets B ++ under_step to_elements C) (first_of (under_step to_offsets B) (under_step to_elements C)
-      (named_under id to_offsets Q B (each_less (IsAtLeaf (int_type q NonNullable)) (λ p. Q (to_offsets ∷ p.path) ≡ true) B (λ p k. offsets_needed law t n e q p.path c is above k) paths) h))
+      (needed_under to_offsets Q S T less B (each_less (IsAtLeaf (int_type q NonNullable)) (λ p. Q (to_offsets ∷ p.path) ≡ true) B (λ p k. offsets_needed law t n e q p.path c is above k) paths) h))
 
-  pub in_elements : (A B C : List Place) → necessary e ≡ All → Each (IsAtLeaf t) C → names_id id C ≡ true → Named (under_step to_validity A ++ (under_step to_offsets B ++ under_step to_elements C))
-  in_elements A B C is paths h =
+  pub in_elements : (A B C : List Place) → necessary e ≡ All → ((p : Place) → S p ≡ true → T (below_step to_elements p) ≡ true) → Each (IsAtLeaf t) C → list_any S C ≡ true → Meets (under_step to_validity A ++ (under_step to_offsets B ++ under_step to_elements C))
+  in_elements A B C is less paths h =
       second_of (under_step to_validity A) (under_step to_offsets B ++ under_step to_elements C) (second_of (under_step to_offsets B) (under_step to_elements C)
-      (named_under id to_elements Q C (each_less (IsAtLeaf t) (λ p. Q (to_elements ∷ p.path) ≡ true) C (λ p k. elements_needed law t n e p.path is k) paths) h))
+      (needed_under to_elements Q S T less C (each_less (IsAtLeaf t) (λ p. Q (to_elements ∷ p.path) ≡ true) C (λ p k. elements_needed law t n e p.path is k) paths) h))
 
-pub in_validity : (law : NecessaryIsNeeded) (t : DataType) (e : Expr) (id : ℕ) (A B : List Place) → Each (IsAtLeaf (bool_type NonNullable)) A → names_id id A ≡ true → names_id id (filter (λ (p : Place). needed (list_type t Nullable) e p.path) (under_step to_validity A ++ B)) ≡ true
-in_validity law t e id A B paths h =
-    named_append id (λ p. needed (list_type t Nullable) e p) (under_step to_validity A) B
-    ∙ or_left (names_id id (filter (λ (p : Place). needed (list_type t Nullable) e p.path) (under_step to_validity A))) (names_id id (filter (λ (p : Place). needed (list_type t Nullable) e p.path) B))
-    (named_under id to_validity (λ p. needed (list_type t Nullable) e p) A (each_less (IsAtLeaf (bool_type NonNullable)) (λ p. needed (list_type t Nullable) e (to_validity ∷ p.path) ≡ true) A (λ p k. validity_needed law t e p.path k) paths) h)
+pub in_validity : (law : NecessaryIsNeeded) (t : DataType) (e : Expr) (S T : Place → Bool) (A B : List Place) → ((p : Place) → S p ≡ true → T (below_step to_validity p) ≡ true) → Each (IsAtLeaf (bool_type NonNullable)) A → list_any S A ≡ true
+    → list_any T (filter (λ (p : Place). needed (list_type t Nullable) e p.path) (under_step to_validity A ++ B)) ≡ true
+in_validity law t e S T A B less paths h =
+    needed_append (λ p. needed (list_type t Nullable) e p) T (under_step to_validity A) B
+    ∙ or_left (list_any T (filter (λ (p : Place). needed (list_type t Nullable) e p.path) (under_step to_validity A))) (list_any T (filter (λ (p : Place). needed (list_type t Nullable) e p.path) B))
+    (needed_under to_validity (λ p. needed (list_type t Nullable) e p) S T less A (each_less (IsAtLeaf (bool_type NonNullable)) (λ p. needed (list_type t Nullable) e (to_validity ∷ p.path) ≡ true) A (λ p k. validity_needed law t e p.path k) paths) h)

@@ -1,6 +1,7 @@
 -- Plans over arrays and leaves are plans of their readers.
-use Rattle.std.proofs.Common.{◌≡◌, ℕ, ◌+◌, Bool, true, false, List, [], ◌∷◌, ◌++◌, length, max, min, filter, refl, ap, sym, subst, ◌∙◌, arith}
+use Rattle.std.proofs.Common.{◌≡◌, ℕ, ◌+◌, ◌==◌, ◌&&◌, Bool, true, false, List, [], ◌∷◌, ◌++◌, length, max, min, filter, refl, ap, sym, subst, ◌∙◌, arith}
 use Rattle.std.specs.Prelude.{if◌then◌else◌, nat_lt, Result, Ok, Err, IfOk, OnOk, OnErr}
+use Rattle.std.specs.List.{list_any}
 use Rattle.scan_values.specs.Arrays.{ArrayData}
 use Rattle.scan_values.specs.DataType.{DataType, Name, bool_type, int_type, utf8_type, list_type, struct_type}
 use Rattle.scan_values.specs.Kinds.{is_scalar_type}
@@ -19,16 +20,20 @@ use Rattle.scan_expr.specs.Needs.{needed}
 use Rattle.scan_plans.specs.PlanTree.{PlanTree, leaf, rows, evaluate, constant}
 use Rattle.scan_plans.specs.PlanData.{PlanData, plan_data}
 use Rattle.scan_plans.specs.Formed.{reads}
-use Rattle.scan_plans.specs.Wants.{names_id}
+use Rattle.scan_plans.specs.Meaning.{true_rows}
+use Rattle.scan_plans.specs.Wants.{names_id, leaf_wanted, is_bad}
 use Rattle.scan_plans.proofs.Constants.{value_alike, overflow_alike}
 use Rattle.scan_plans.proofs.Wanting.{leaves_touch}
+use Rattle.scan_readers.specs.Flaws.{has_flaw}
 use Rattle.scan_readers.specs.PlanOf.{IsPlanOf}
 use Rattle.scan_readers.specs.RowsData.{rows_state}
 use Rattle.scan_readers.specs.LeafPlans.{layout_state, leaf_layout, leaf_tree}
 use Rattle.scan_readers.specs.declared.kind.ReaderKind.{ReaderKind}
 use Rattle.scan_readers.specs.KindView.{layout_of}
 use Rattle.scan_readers.specs.ReaderData.{IsReader}
+use Rattle.scan_readers.proofs.Flawed.{bytes_flawed}
 use Rattle.scan_readers.proofs.Scopes.{needed_here}
+use Rattle.scan_readers.proofs.SomePlace.{any_mono, leaf_touches}
 use Rattle.scan_readers.proofs.Keeping.{kept_each, own_plan}
 
 -- ---- arrays
@@ -41,6 +46,7 @@ rows_plan name a e = record {
   value = λ store i h. refl;
   overflow = λ store i h. refl;
   wants = λ store here first mask id holds h w. absurd cc;
+  spoils = λ store here first mask id holds h w. absurd cc;
   exact = λ here is. nothing (reads e.scope e.expr);
 }
   where
@@ -101,6 +107,11 @@ module _ (name : Name) (spelling : Spelling) (segments : List (ℕ × ℕ)) (e :
     value = λ store i below. refl;
     overflow = λ store i below. refl;
     wants = λ store here first mask id holds below w. ap (names_id id) (all_needed e.scope e.expr spelling segments 0 first (first + length mask) (needed_here e.scope e.expr scalar h)) ∙ leaves_touch (places_of e.scope spelling segments) 0 first mask id w;
+    spoils = λ store here first mask id holds below w.
+        let T : Place → Bool = λ p. (p.id == id) && has_flaw (leaf_layout e.scope spelling segments) store p in
+        let ps = places_of e.scope spelling segments in
+        ap (list_any T) (all_needed e.scope e.expr spelling segments 0 first (first + length mask) (needed_here e.scope e.expr scalar h))
+        ∙ leaf_touches T ps 0 first mask (any_mono (λ p. (p.id == id) && is_bad p (here id)) T (λ p. bytes_flawed (leaf_layout e.scope spelling segments) p.path store here id p holds) (leaf_wanted 0 ps (true_rows first mask)) w);
     exact = λ here is. rw h refl;
   }
 
@@ -113,6 +124,7 @@ module _ (name : Name) (spelling : Spelling) (segments : List (ℕ × ℕ)) (e :
     value = λ store i below. value_alike e.scope e.expr _ _ 0 h;
     overflow = λ store i below. overflow_alike e.scope e.expr _ _ 0 h;
     wants = λ store here first mask id holds below w. absurd cc;
+    spoils = λ store here first mask id holds below w. absurd cc;
     exact = λ here is. rw h refl;
   }
 

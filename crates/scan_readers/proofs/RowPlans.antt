@@ -1,10 +1,9 @@
 -- Plans over row numbers and rows are plans of a reader that numbers them.
-use Rattle.std.proofs.Common.{◌≡◌, ℕ, ◌==◌, ◌+◌, ◌<◌, ◌≤◌, ◌^◌, Bool, true, false, not, ◌||◌, ◌&&◌, List, [], ◌∷◌, map, length, filter, Some, refl, ap, sym, subst, ◌∙◌, arith}
+use Rattle.std.proofs.Common.{◌≡◌, ℕ, ◌==◌, ◌+◌, ◌<◌, ◌≤◌, ◌^◌, Bool, true, false, not, ◌||◌, ◌&&◌, List, [], ◌∷◌, map, length, Some, refl, ap, sym, subst, ◌∙◌, arith}
 use Rattle.std.specs.Prelude.{if◌then◌else◌, is_some}
 use Rattle.std.proofs.lemmas.List.Folds.{list_any-append}
 use Rattle.scan_values.specs.DataType.{DataType}
 use Rattle.scan_values.specs.Marked.{Markeds, struct}
-use Rattle.scan_values.specs.Paths.{Path}
 use Rattle.scan_segments.specs.Source.{Store}
 use Rattle.scan_layout.specs.Places.{Place}
 use Rattle.scan_expr.specs.Bound.{Bound}
@@ -28,12 +27,13 @@ use Rattle.scan_plans.specs.Formed.{IsNode}
 use Rattle.scan_plans.specs.Meaning.{values_at, overflow_in, true_rows, AllWithin, AreFields}
 use Rattle.scan_plans.specs.PlanData.{PlanData, plan_data}
 use Rattle.scan_plans.specs.PlanTree.{PlanTree, evaluate, over, numbers, plans}
-use Rattle.scan_plans.specs.Wants.{wanted, all_wanted, names_id}
+use Rattle.scan_plans.specs.Wants.{wanted, all_wanted, names_id, spoiled, any_spoiled}
 use Rattle.scan_readers.specs.Kept.{Kept, Stay, find_plan}
-use Rattle.scan_readers.specs.PlanOf.{IsPlanOf, may_want}
+use Rattle.scan_readers.specs.PlanOf.{IsPlanOf, may_want, may_spoil}
 use Rattle.scan_readers.specs.Readers.{ReaderState, number_of}
 use Rattle.scan_readers.specs.RowIdxData.{numbered_state, kept_by_numbers}
-use Rattle.scan_readers.specs.RowParts.{WantsPart, IsPartPlan, ArePartPlans}
+use Rattle.scan_readers.specs.RowParts.{WantsPart, SpoilsPart, IsPartPlan, ArePartPlans}
+use Rattle.scan_readers.proofs.SomePlace.{either, needed_more}
 
 -- ---- booleans
 none_of : (a b c : Bool) → b ≡ false → (a && (b && c)) ≡ false
@@ -50,10 +50,6 @@ or_swap true false = refl
 or_swap false true = refl
 or_swap false false = refl
 
-either : (a b c : Bool) → (a || b) ≡ true → (a ≡ true → c ≡ true) → (b ≡ true → c ≡ true) → c ≡ true
-either true b c h f g = f refl
-either false b c h f g = g h
-
 -- ---- a part over the rows' numbers, and one over the rows
 module _ (s : ReaderState) (number : ℕ) (p : Bound) where
   pub number_part : number + s.rows < 2 ^ 64 → p.scope ≡ number_type → IsPartPlan s number TheRowIdx p (evaluate p.scope p.expr (numbers number))
@@ -64,6 +60,7 @@ module _ (s : ReaderState) (number : ℕ) (p : Bound) where
     value = λ store k h. refl;
     overflow = λ store k h. refl;
     wants = λ here is. refl;
+    spoils = λ here is id. refl;
   }
 
   pub child_part : (q : PlanData) → IsPlanOf s p q → uses_row_index p.expr ≡ false → IsPartPlan s number TheChild p q.tree
@@ -74,6 +71,7 @@ module _ (s : ReaderState) (number : ℕ) (p : Bound) where
     value = λ store k h. is.value store k h ∙ any_row p.scope p.expr (s.value store k) (number_of s.first_number k) 0 free;
     overflow = λ store k h. is.overflow store k h ∙ any_row_overflows p.scope p.expr (s.value store k) (number_of s.first_number k) 0 free;
     wants = is.wants;
+    spoils = is.spoils;
   }
 
 -- ---- an expression without row numbers
@@ -86,20 +84,9 @@ unnumbered_plan s number e p free is = record {
   value = λ store i h. is.value store i h ∙ any_row e.scope e.expr (s.value store i) (number_of s.first_number i) (number + i) free;
   overflow = λ store i h. is.overflow store i h ∙ any_row_overflows e.scope e.expr (s.value store i) (number_of s.first_number i) (number + i) free;
   wants = is.wants;
+  spoils = is.spoils;
   exact = tt;
 }
-
--- ---- what is needed
-names_filter : (f g : Path → Bool) (id : ℕ) → ((path : Path) → f path ≡ true → g path ≡ true) → (places : List Place) → names_id id (filter (λ (z : Place). f z.path) places) ≡ true → names_id id (filter (λ (z : Place). g z.path) places) ≡ true
-names_filter f g id less [] h = h
-names_filter f g id less (z ∷ places) h = by (f z.path) (g z.path) (less z.path) (names_filter f g id less places) h
-  where
-    by : (a b : Bool) → (a ≡ true → b ≡ true) → (names_id id (filter (λ (x : Place). f x.path) places) ≡ true → names_id id (filter (λ (x : Place). g x.path) places) ≡ true)
-        → names_id id (if a then z ∷ filter (λ (x : Place). f x.path) places else filter (λ (x : Place). f x.path) places) ≡ true → names_id id (if b then z ∷ filter (λ (x : Place). g x.path) places else filter (λ (x : Place). g x.path) places) ≡ true
-    by true true r rest h = either (z.id == id) (names_id id (filter (λ (x : Place). f x.path) places)) ((z.id == id) || names_id id (filter (λ (x : Place). g x.path) places)) h (λ w. rw w refl) (λ w. rw (rest w) (or_swap (z.id == id) true))
-    by true false r rest h = absurd (let w : false ≡ true = r refl in cc)
-    by false true r rest h = rw (rest h) (or_swap (z.id == id) true)
-    by false false r rest h = rest h
 
 -- ---- what an expression is parted into, of which it is known that row numbers stand in it
 by_numbers : (a b : Bool) (s : DataType) (e : Expr) (p : Bound) → RowIdx p ≡ row_split_by a b s e → (a ≡ true) × (b ≡ false)
@@ -133,6 +120,7 @@ module _ (s : ReaderState) (number : ℕ) (e : Bound) where
         value = λ store i h. is.value store i h ∙ keeps.values (s.value store i) (number + i) 0;
         overflow = λ store i h. is.overflow store i h ∙ keeps.overflow (s.value store i) (number + i) 0;
         wants = λ store here first mask id holds h w. absurd (let none = is.wants here (true_rows first mask) in let z : false ≡ true = ap (names_id id) (sym none) ∙ w in cc);
+        spoils = λ store here first mask id holds h w. absurd (let none = is.spoils here (true_rows first mask) id in let z : false ≡ true = sym none ∙ w in cc);
         exact = tt;
       }
 
@@ -165,7 +153,13 @@ module _ (s : ReaderState) (number : ℕ) (e : Bound) where
       → (store : Store) (here : Came) (first : ℕ) (mask : List Bool) (id : ℕ) → Holds store here → first + length mask ≤ s.rows
       → names_id id (wanted n here (true_rows first mask)) ≡ true → may_want s e store first (first + length mask) id ≡ true
   part_wants TheRowIdx p n a lies store here first mask id holds h w = absurd (let none = a here (true_rows first mask) in let z : false ≡ true = ap (names_id id) (sym none) ∙ w in cc)
-  part_wants TheChild p n a lies store here first mask id holds h w = names_filter (needed p.scope p.expr) (needed e.scope e.expr) id (λ path. (lies path).1) (s.touched store first (first + length mask)) (a store here first mask id holds h w)
+  part_wants TheChild p n a lies store here first mask id holds h w = needed_more (needed p.scope p.expr) (needed e.scope e.expr) (λ (z : Place). z.id == id) (λ path. (lies path).1) (s.touched store first (first + length mask)) (a store here first mask id holds h w)
+
+  part_spoils : (x : Partition) (p : Bound) (n : PlanTree) → SpoilsPart s x p n → OfChild x (LiesUnder p.scope p.expr [] e.scope e.expr)
+      → (store : Store) (here : Came) (first : ℕ) (mask : List Bool) (id : ℕ) → Holds store here → first + length mask ≤ s.rows
+      → spoiled n here (true_rows first mask) id ≡ true → may_spoil s e store first (first + length mask) id ≡ true
+  part_spoils TheRowIdx p n a lies store here first mask id holds h w = absurd (let none = a here (true_rows first mask) id in let z : false ≡ true = sym none ∙ w in cc)
+  part_spoils TheChild p n a lies store here first mask id holds h w = needed_more (needed p.scope p.expr) (needed e.scope e.expr) (λ (z : Place). (z.id == id) && s.flawed store z) (λ path. (lies path).1) (s.touched store first (first + length mask)) (a store here first mask id holds h w)
 
   parts_want : (items : List Partition) (ps : List Bound) (ns : List PlanTree) → ArePartPlans s number items ps ns → EachOfChild e items ps
       → (store : Store) (here : Came) (first : ℕ) (mask : List Bool) (id : ℕ) → Holds store here → first + length mask ≤ s.rows
@@ -180,6 +174,18 @@ module _ (s : ReaderState) (number : ℕ) (e : Bound) where
       (sym (list_any-append (λ (z : Place). z.id == id) (wanted n here (true_rows first mask)) (all_wanted (plans ns) here (true_rows first mask))) ∙ w)
       (part_wants x p n (a.0).wants lies.0 store here first mask id holds h) (parts_want items ps ns a.1 lies.1 store here first mask id holds h)
 
+  parts_spoil : (items : List Partition) (ps : List Bound) (ns : List PlanTree) → ArePartPlans s number items ps ns → EachOfChild e items ps
+      → (store : Store) (here : Came) (first : ℕ) (mask : List Bool) (id : ℕ) → Holds store here → first + length mask ≤ s.rows
+      → any_spoiled (plans ns) here (true_rows first mask) id ≡ true → may_spoil s e store first (first + length mask) id ≡ true
+  parts_spoil [] [] [] a lies store here first mask id holds h w = absurd (let z : false ≡ true = w in cc)
+  parts_spoil [] [] (n ∷ ns) a lies store here first mask id holds h w = absurd a
+  parts_spoil [] (p ∷ ps) ns a lies store here first mask id holds h w = absurd a
+  parts_spoil (x ∷ items) [] ns a lies store here first mask id holds h w = absurd a
+  parts_spoil (x ∷ items) (p ∷ ps) [] a lies store here first mask id holds h w = absurd a
+  parts_spoil (x ∷ items) (p ∷ ps) (n ∷ ns) a lies store here first mask id holds h w =
+      either (spoiled n here (true_rows first mask) id) (any_spoiled (plans ns) here (true_rows first mask) id) (may_spoil s e store first (first + length mask) id) w
+      (part_spoils x p n (a.0).spoils lies.0 store here first mask id holds h) (parts_spoil items ps ns a.1 lies.1 store here first mask id holds h)
+
   pub both_plan : (d : RowDivided) (ns : List PlanTree) → uses_row_index e.expr ≡ true → Both d ≡ row_split e.scope e.expr → KeepsRows e (Both d)
       → EachOfChild e d.items d.parts → ArePartPlans s number d.items d.parts ns
       → IsPlanOf (numbered_state number s) e (plan_data e (over d.root.scope d.root.expr (plans ns)))
@@ -193,6 +199,7 @@ module _ (s : ReaderState) (number : ℕ) (e : Bound) where
         value = λ store i h. ap (λ (vs : Markeds). eval d.root.scope d.root.expr (struct vs) 0) (values_are d.items d.parts ns a store i h) ∙ keeps.values (s.value store i) (number + i) 0;
         overflow = λ store i h. spills store i h ∙ keeps.overflow (s.value store i) (number + i) 0;
         wants = parts_want d.items d.parts ns a lies;
+        spoils = parts_spoil d.items d.parts ns a lies;
         exact = tt;
       }
     where

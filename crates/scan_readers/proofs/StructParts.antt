@@ -1,6 +1,7 @@
 -- Plans over the children of a struct are plans of the struct.
-use Rattle.std.proofs.Common.{◌≡◌, ℕ, zero, suc, ◌==◌, ◌+◌, ◌<◌, ◌≤◌, Bool, true, false, ◌||◌, List, [], ◌∷◌, length, max, min, filter, Some, None, refl, ap, sym, subst, ◌∙◌, arith}
+use Rattle.std.proofs.Common.{◌≡◌, ℕ, zero, suc, ◌==◌, ◌+◌, ◌<◌, ◌≤◌, Bool, true, false, ◌||◌, ◌&&◌, List, [], ◌∷◌, length, max, min, filter, Some, None, refl, ap, sym, subst, ◌∙◌, arith}
 use Rattle.std.specs.Prelude.{if◌then◌else◌, nat_lt}
+use Rattle.std.specs.List.{list_any}
 use Rattle.std.proofs.lemmas.Bool.Decides.{nat_tests}
 use Rattle.std.proofs.lemmas.List.Folds.{list_any-append}
 use Rattle.scan_values.specs.declared.ptype.Nullability.{Nullability}
@@ -23,20 +24,23 @@ use Rattle.scan_layout.specs.Layout.{Layout, Nodes, node, no_nodes, child, rows_
 use Rattle.scan_layout.specs.Places.{Place, places_of}
 use Rattle.scan_layout.specs.RowValue.{row_value, row_values, struct_value}
 use Rattle.scan_layout.specs.Slots.{nth_kid}
-use Rattle.scan_layout.specs.Touched.{touched, all_touched, leaf_touched, struct_steps}
+use Rattle.scan_layout.specs.Touched.{touched, below_step, all_touched, leaf_touched, struct_steps}
 use Rattle.scan_plans.specs.Came.{Came, Holds}
 use Rattle.scan_plans.specs.Meaning.{value_at, values_at, overflow_at, overflow_in, true_rows, Within, AllWithin}
 use Rattle.scan_plans.specs.PlanData.{plan_data}
 use Rattle.scan_plans.specs.PlanTree.{PlanTree, PlanTrees, over, no_plans, plan}
-use Rattle.scan_plans.specs.Wants.{wanted, all_wanted, names_id}
+use Rattle.scan_plans.specs.Wants.{wanted, all_wanted, names_id, spoiled, any_spoiled}
 use Rattle.scan_partition.specs.declared.item.Item.{Item}
 use Rattle.scan_partition.specs.Divided.{Divided}
 use Rattle.scan_partition.specs.Needing.{EachLiesUnder, item_step, item_path}
 use Rattle.scan_partition.specs.Split.{Keeps, part_values, parts_overflow, joined_value_of, joined_overflows}
+use Rattle.scan_readers.specs.Flaws.{has_flaw}
 use Rattle.scan_readers.specs.LeafPlans.{layout_state}
-use Rattle.scan_readers.specs.PlanOf.{IsPlanOf, may_want}
+use Rattle.scan_readers.specs.PlanOf.{IsPlanOf, may_want, may_spoil}
 use Rattle.scan_readers.specs.StructPlans.{item_value, IsChildPlan, AreChildPlans}
-use Rattle.scan_readers.proofs.StructRows.{is_row, agrees, child_value, in_struct, below_needed}
+use Rattle.scan_readers.proofs.Flawed.{named_below}
+use Rattle.scan_readers.proofs.SomePlace.{either, below_needed}
+use Rattle.scan_readers.proofs.StructRows.{is_row, agrees, child_value, leads_item, leads_touched, leads_lists}
 
 leaf_none : (base : ℕ) (places : List Place) (a b : ℕ) → b ≤ a → leaf_touched base places a b ≡ []
 leaf_none base [] a b h = refl
@@ -59,14 +63,6 @@ or_swap true true = refl
 or_swap true false = refl
 or_swap false true = refl
 or_swap false false = refl
-
-or_assoc : (a b c : Bool) → (a || (b || c)) ≡ ((a || b) || c)
-or_assoc true b c = refl
-or_assoc false b c = refl
-
-either : (a b c : Bool) → (a || b) ≡ true → (a ≡ true → c ≡ true) → (b ≡ true → c ≡ true) → c ≡ true
-either true b c h f g = f refl
-either false b c h f g = g h
 
 -- what a part needs of its item, an expression needs below the item
 abbrev pub NeedsBelow : Item → Bound → Bound → Type 0
@@ -91,21 +87,34 @@ module _ (name : Name) (fs : Fields) (n : Nullability) (rows : ℕ) (kids : Node
   abbrev whole_expr : Bound
   whole_expr = bound_of (struct_type fs n) x
 
+  -- of the segments that a part needs of its child one passes a test: below the child one passes where the expression needs it
+  child_meets : (item : Item) (p : Bound) (q : PlanTree) (c : IsChildPlan fs n kids item p q) → NeedsBelow item p whole_expr → (S T : Place → Bool) → ((z : Place) → S z ≡ true → T (below_step (item_step item) z) ≡ true)
+      → (store : Store) (a b : ℕ) → list_any S (filter (λ (z : Place). needed p.scope p.expr z.path) (touched c.layout store a b)) ≡ true
+      → list_any T (filter (λ (z : Place). needed (struct_type fs n) x z.path) (touched whole_layout store a b)) ≡ true
+  child_meets item p q c lies S T less store a b held = by (nat_lt a b) refl
+    where
+      by : (t : Bool) → nat_lt a b ≡ t → list_any T (filter (λ (z : Place). needed (struct_type fs n) x z.path) (if t then all_touched kids (struct_steps (struct_type fs n)) store a b else [])) ≡ true
+      by true t = leads_touched (needed (struct_type fs n) x) T kids (struct_steps (struct_type fs n)) (item_step item) c.layout store a b (leads_item fs n kids item c.index c.layout c.child c.kid forms)
+          (below_needed (needed p.scope p.expr) (needed (struct_type fs n) x) (item_step item) S T lies less (touched c.layout store a b) held)
+      by false t = absurd (let none = nothing_touched c.layout store a b t in let z : false ≡ true = ap (λ (ps : List Place). list_any S (filter (λ (z : Place). needed p.scope p.expr z.path) ps)) (sym none) ∙ held in cc)
+
   child_wants : (item : Item) (p : Bound) (q : PlanTree) → IsChildPlan fs n kids item p q → NeedsBelow item p whole_expr
       → (store : Store) (here : Came) (first : ℕ) (mask : List Bool) (id : ℕ) → Holds store here → first + length mask ≤ rows
       → names_id id (wanted q here (true_rows first mask)) ≡ true
       → may_want (layout_state name whole_layout) whole_expr store first (first + length mask) id ≡ true
-  child_wants item p q c lies store here first mask id holds below w = by (nat_lt first (first + length mask)) refl
-    where
-      all : rows_of c.layout ≡ rows
-      all = kid_rows rows kids c.index c.layout even c.kid
+  child_wants item p q c lies store here first mask id holds below w =
+      let all : rows_of c.layout ≡ rows = kid_rows rows kids c.index c.layout even c.kid in
+      child_meets item p q c lies (λ (z : Place). z.id == id) (λ (z : Place). z.id == id) (λ z h. h) store first (first + length mask) ((c.plan name).wants store here first mask id holds (omega (arith, all, below)) w)
 
-      held : names_id id (filter (λ (z : Place). needed p.scope p.expr z.path) (touched c.layout store first (first + length mask))) ≡ true
-      held = (c.plan name).wants store here first mask id holds (omega (arith, all, below)) w
-
-      by : (t : Bool) → nat_lt first (first + length mask) ≡ t → names_id id (filter (λ (z : Place). needed (struct_type fs n) x z.path) (if t then all_touched kids (struct_steps (struct_type fs n)) store first (first + length mask) else [])) ≡ true
-      by true t = in_struct fs n kids item c.index c.layout (needed (struct_type fs n) x) store first (first + length mask) id c.child c.kid forms (below_needed (needed p.scope p.expr) (needed (struct_type fs n) x) (item_step item) id lies (touched c.layout store first (first + length mask)) held)
-      by false t = absurd (let none = nothing_touched c.layout store first (first + length mask) t in let z : false ≡ true = ap (λ (ps : List Place). names_id id (filter (λ (z : Place). needed p.scope p.expr z.path) ps)) (sym none) ∙ held in cc)
+  child_spoils : (item : Item) (p : Bound) (q : PlanTree) → IsChildPlan fs n kids item p q → NeedsBelow item p whole_expr
+      → (store : Store) (here : Came) (first : ℕ) (mask : List Bool) (id : ℕ) → Holds store here → first + length mask ≤ rows
+      → spoiled q here (true_rows first mask) id ≡ true
+      → may_spoil (layout_state name whole_layout) whole_expr store first (first + length mask) id ≡ true
+  child_spoils item p q c lies store here first mask id holds below w =
+      let all : rows_of c.layout ≡ rows = kid_rows rows kids c.index c.layout even c.kid in
+      child_meets item p q c lies (λ (z : Place). (z.id == id) && has_flaw c.layout store z) (λ (z : Place). (z.id == id) && has_flaw whole_layout store z)
+      (named_below whole_layout c.layout (item_step item) store id (λ B. leads_lists B kids (struct_steps (struct_type fs n)) (item_step item) c.layout (leads_item fs n kids item c.index c.layout c.child c.kid forms)))
+      store first (first + length mask) ((c.plan name).spoils store here first mask id holds (omega (arith, all, below)) w)
 
   child_at : (item : Item) (p : Bound) (q : PlanTree) → IsChildPlan fs n kids item p q → (store : Store) (i : ℕ) → i < rows → value_at q store i ≡ eval p.scope p.expr (item_value fs n kids store i item) 0
   child_at item p q c store i below =
@@ -132,6 +141,7 @@ module _ (name : Name) (fs : Fields) (n : Nullability) (rows : ℕ) (kids : Node
     value = λ store i below. child_at item p q c store i below ∙ keeps.values (struct_value n (row_values kids store i)) (item_value fs n kids store i) 0 (is_row fs n kids store i forms) (agrees fs n kids store i forms);
     overflow = λ store i below. child_spills item p q c store i below ∙ keeps.overflow (struct_value n (row_values kids store i)) (item_value fs n kids store i) 0 (is_row fs n kids store i forms) (agrees fs n kids store i forms);
     wants = child_wants item p q c lies;
+    spoils = child_spoils item p q c lies;
     exact = tt;
   }
 
@@ -174,6 +184,19 @@ module _ (name : Name) (fs : Fields) (n : Nullability) (rows : ℕ) (kids : Node
       (sym (list_any-append (λ (z : Place). z.id == id) (wanted q here (true_rows first mask)) (all_wanted ps here (true_rows first mask))) ∙ w)
       (child_wants item p q c.0 lies.0 store here first mask id holds below) (parts_want items parts ps c.1 lies.1 store here first mask id holds below)
 
+  parts_spoil : (items : List Item) (parts : List Bound) (ps : PlanTrees) → AreChildPlans fs n kids items parts ps → EachBelow items parts whole_expr
+      → (store : Store) (here : Came) (first : ℕ) (mask : List Bool) (id : ℕ) → Holds store here → first + length mask ≤ rows
+      → any_spoiled ps here (true_rows first mask) id ≡ true
+      → may_spoil (layout_state name whole_layout) whole_expr store first (first + length mask) id ≡ true
+  parts_spoil [] [] no_plans c lies store here first mask id holds below w = absurd cc
+  parts_spoil [] [] (plan q ps) c lies store here first mask id holds below w = absurd c
+  parts_spoil [] (p ∷ parts) ps c lies store here first mask id holds below w = absurd c
+  parts_spoil (item ∷ items) [] ps c lies store here first mask id holds below w = absurd c
+  parts_spoil (item ∷ items) (p ∷ parts) no_plans c lies store here first mask id holds below w = absurd c
+  parts_spoil (item ∷ items) (p ∷ parts) (plan q ps) c lies store here first mask id holds below w =
+      either (spoiled q here (true_rows first mask) id) (any_spoiled ps here (true_rows first mask) id) (may_spoil (layout_state name whole_layout) whole_expr store first (first + length mask) id) w
+      (child_spoils item p q c.0 lies.0 store here first mask id holds below) (parts_spoil items parts ps c.1 lies.1 store here first mask id holds below)
+
   pub over_plan : (d : Divided) (ps : PlanTrees) → AreChildPlans fs n kids d.items d.parts ps
       → Keeps whole_expr (infer d.root.scope d.root.expr) (joined_value_of d) (joined_overflows d) → EachBelow d.items d.parts whole_expr
       → IsPlanOf (layout_state name whole_layout) whole_expr (plan_data whole_expr (over d.root.scope d.root.expr ps))
@@ -185,6 +208,7 @@ module _ (name : Name) (fs : Fields) (n : Nullability) (rows : ℕ) (kids : Node
     value = λ store i below. ap (λ (vs : Markeds). eval d.root.scope d.root.expr (struct vs) 0) (parts_at d.items d.parts ps c store i below) ∙ keeps.values (struct_value n (row_values kids store i)) (item_value fs n kids store i) 0 (is_row fs n kids store i forms) (agrees fs n kids store i forms);
     overflow = λ store i below. spills store i below ∙ keeps.overflow (struct_value n (row_values kids store i)) (item_value fs n kids store i) 0 (is_row fs n kids store i forms) (agrees fs n kids store i forms);
     wants = parts_want d.items d.parts ps c lies;
+    spoils = parts_spoil d.items d.parts ps c lies;
     exact = tt;
   }
     where

@@ -1,7 +1,7 @@
 -- Rows of structs, by their items, and what they touch.
-use Rattle.std.proofs.Common.{◌≡◌, ℕ, zero, suc, ◌==◌, ◌+◌, ◌≤◌, Bool, true, false, cond, ◌||◌, List, [], ◌∷◌, ◌++◌, filter, Option, Some, None, refl, ap, sym, subst, ◌∙◌, arith}
-use Rattle.std.specs.Prelude.{if◌then◌else◌, option_map, position, bytes_eq}
-use Rattle.std.specs.List.{position_from}
+use Rattle.std.proofs.Common.{◌≡◌, ℕ, zero, suc, ◌+◌, ◌≤◌, Bool, true, false, cond, List, [], ◌∷◌, map, filter, Option, Some, None, ◌⊎◌, inl, inr, refl, ap, sym, subst, ◌∙◌, arith}
+use Rattle.std.specs.Prelude.{option_map, position, bytes_eq}
+use Rattle.std.specs.List.{position_from, list_any}
 use Rattle.std.proofs.lemmas.Slice.Eq.{bytes_eq-Decides}
 use Rattle.std.proofs.lemmas.List.Folds.{list_any-append}
 use Rattle.scan_values.specs.declared.ptype.Nullability.{Nullability}
@@ -21,13 +21,14 @@ use Rattle.scan_layout.specs.RowValue.{row_value, row_values, struct_value, unde
 use Rattle.scan_layout.specs.Slots.{nth_kid}
 use Rattle.scan_layout.specs.Touched.{touched, all_touched, under_step, field_steps, struct_steps}
 use Rattle.scan_layout.proofs.Placing.{from_first}
-use Rattle.scan_plans.specs.Wants.{names_id}
 use Rattle.scan_partition.specs.Rows.{Even, IsRow, FieldsAgree, Agrees}
 use Rattle.scan_partition.specs.declared.item.Item.{Item}
 use Rattle.scan_partition.specs.declared.item.Item.TheVariants.{Field, Validity}
 use Rattle.scan_partition.specs.Needing.{item_step}
+use Rattle.scan_readers.specs.Flaws.{ListOffsets, below, lists_of, lists_under}
 use Rattle.scan_readers.specs.Reached.{item_child}
 use Rattle.scan_readers.specs.StructPlans.{item_value}
+use Rattle.scan_readers.proofs.SomePlace.{or_left, or_right, needed_append}
 
 -- ---- a row is a value of the struct
 even : (fs : Fields) (kids : Nodes) (store : Store) (i : ℕ) → HaveForms kids (field_types (field_list fs)) → Even fs (row_values kids store i)
@@ -111,118 +112,80 @@ picked (field m d fs) (child l ls) f k (suc j) c store i p e h = by (bytes_eq f 
     by true later q = let same : k ≡ k + suc j = cc in absurd (omega (arith, same))
     by false later q = later (q ∙ ap Some moved)
 
--- ---- segments that are needed, below a step
-or_of : (a b c d : Bool) → (a || b) ≡ true → (a ≡ true → c ≡ true) → (b ≡ true → d ≡ true) → (c || d) ≡ true
-or_of true b c d h f g = rw (f refl) refl
-or_of false b true d h f g = refl
-or_of false b false d h f g = g h
+-- ---- the child at a step
+-- a step leads to a child
+abbrev pub Leads : Nodes → List Step → Step → Layout → Type 0
+Leads no_nodes steps step c = ⊥
+Leads (child l ls) [] step c = ⊥
+Leads (child l ls) (s ∷ steps) step c = ((s ≡ step) × (l ≡ c)) ⊎ Leads ls steps step c
 
-or_right : (a b : Bool) → b ≡ true → (a || b) ≡ true
-or_right true b h = refl
-or_right false b h = h
-
-or_left : (a b : Bool) → a ≡ true → (a || b) ≡ true
-or_left true b h = refl
-or_left false b h = absurd cc
-
-pub below_needed : (P Q : Path → Bool) (step : Step) (id : ℕ) → ((p : Path) → P p ≡ true → Q (step ∷ p) ≡ true) → (ps : List Place) → names_id id (filter (λ (x : Place). P x.path) ps) ≡ true → names_id id (filter (λ (x : Place). Q x.path) (under_step step ps)) ≡ true
-below_needed P Q step id f [] h = h
-below_needed P Q step id f (p ∷ ps) h = by (P p.path) (Q (step ∷ p.path)) (f p.path) (below_needed P Q step id f ps) h
+leads_field : (fs : Fields) (kids : Nodes) (f : Name) (k j : ℕ) (c : Layout) → position_from (bytes_eq f) k (names_of (field_list fs)) ≡ Some (k + j) → nth_kid kids j ≡ Some c → HaveForms kids (field_types (field_list fs))
+    → Leads kids (field_steps fs) (to_field f) c
+leads_field no_fields kids f k j c p e h = absurd (let z : None ≡ Some (k + j) = p in cc)
+leads_field (field m d fs) no_nodes f k j c p e h = absurd h
+leads_field (field m d fs) (child l ls) f k zero c p e h = by (bytes_eq f m) refl p
   where
-    by : (b c : Bool) → (b ≡ true → c ≡ true) → (names_id id (filter (λ (x : Place). P x.path) ps) ≡ true
-        → names_id id (filter (λ (x : Place). Q x.path) (under_step step ps)) ≡ true)
-        → names_id id (if b then p ∷ filter (λ (x : Place). P x.path) ps else filter (λ (x : Place). P x.path) ps) ≡ true
-        → names_id id (if c then record p { path = step ∷ p.path } ∷ filter (λ (x : Place). Q x.path) (under_step step ps) else filter (λ (x : Place). Q x.path)
-        (under_step step ps)) ≡ true
-    by true true g rest e = or_of (p.id == id) (names_id id (filter (λ (x : Place). P x.path) ps)) (p.id == id) (names_id id (filter (λ (x : Place). Q x.path) (under_step step ps))) e (λ z. z) rest
-    by true false g rest e = absurd (let z : false ≡ true = g refl in cc)
-    by false true g rest e = or_right (p.id == id) (names_id id (filter (λ (x : Place). Q x.path) (under_step step ps))) (rest e)
-    by false false g rest e = rest e
-
-names_append : (id : ℕ) (ps qs : List Place) → names_id id (ps ++ qs) ≡ (names_id id ps || names_id id qs)
-names_append id ps qs = list_any-append (λ (p : Place). p.id == id) ps qs
-
-or_assoc : (a b c : Bool) → (a || (b || c)) ≡ ((a || b) || c)
-or_assoc true b c = refl
-or_assoc false b c = refl
-
-needed_append : (Q : Path → Bool) (id : ℕ) (ps qs : List Place) → names_id id (filter (λ (x : Place). Q x.path) (ps ++ qs)) ≡ (names_id id (filter (λ (x : Place). Q x.path) ps) || names_id id (filter (λ (x : Place). Q x.path) qs))
-needed_append Q id [] qs = refl
-needed_append Q id (p ∷ ps) qs = by (Q p.path) (needed_append Q id ps qs)
-  where
-    by : (b : Bool) → names_id id (filter (λ (x : Place). Q x.path) (ps ++ qs))
-        ≡ (names_id id (filter (λ (x : Place). Q x.path) ps) || names_id id (filter (λ (x : Place). Q x.path) qs))
-        → names_id id (if b then p ∷ filter (λ (x : Place). Q x.path) (ps ++ qs) else filter (λ (x : Place). Q x.path) (ps ++ qs))
-        ≡ (names_id id (if b then p ∷ filter (λ (x : Place). Q x.path) ps else filter (λ (x : Place). Q x.path) ps) || names_id id
-        (filter (λ (x : Place). Q x.path) qs))
-    by true rest = ap (λ z. (p.id == id) || z) rest ∙ or_assoc (p.id == id) (names_id id (filter (λ (x : Place). Q x.path) ps)) (names_id id (filter (λ (x : Place). Q x.path) qs))
-    by false rest = rest
-
--- the segments of a field's child are among those of the struct
-in_fields : (fs : Fields) (kids : Nodes) (f : Name) (k j : ℕ) (c : Layout) (Q : Path → Bool) (store : Store) (a b id : ℕ)
-    → position_from (bytes_eq f) k (names_of (field_list fs)) ≡ Some (k + j) → nth_kid kids j ≡ Some c → HaveForms kids (field_types (field_list fs))
-    → names_id id (filter (λ (x : Place). Q x.path) (under_step (to_field f) (touched c store a b))) ≡ true
-    → names_id id (filter (λ (x : Place). Q x.path) (all_touched kids (field_steps fs) store a b)) ≡ true
-in_fields no_fields kids f k j c Q store a b id p e h w = absurd (let z : None ≡ Some (k + j) = p in cc)
-in_fields (field m d fs) no_nodes f k j c Q store a b id p e h w = absurd h
-in_fields (field m d fs) (child l ls) f k zero c Q store a b id p e h w =
-    needed_append Q id (under_step (to_field m) (touched l store a b)) (all_touched ls (field_steps fs) store a b)
-    ∙ or_left (names_id id (filter (λ (x : Place). Q x.path) (under_step (to_field m) (touched l store a b))))
-    (names_id id (filter (λ (x : Place). Q x.path) (all_touched ls (field_steps fs) store a b))) (by (bytes_eq f m) refl p)
-  where
-    by : (t : Bool) → bytes_eq f m ≡ t → cond t (Some k) (position_from (bytes_eq f) (k + 1) (names_of (field_list fs))) ≡ Some (k + 0) → names_id id (filter (λ (x : Place). Q x.path) (under_step (to_field m) (touched l store a b))) ≡ true
-    by true s q =
-        let same : c ≡ l = cc in
-        let name : f ≡ m = (bytes_eq-Decides f m).0 s in
-        subst (λ (g : Name). names_id id (filter (λ (x : Place). Q x.path) (under_step (to_field g) (touched l store a b))) ≡ true) name (subst (λ (z : Layout). names_id id (filter (λ (x : Place). Q x.path) (under_step (to_field f) (touched z store a b))) ≡ true) same w)
+    by : (t : Bool) → bytes_eq f m ≡ t → cond t (Some k) (position_from (bytes_eq f) (k + 1) (names_of (field_list fs))) ≡ Some (k + 0) → Leads (child l ls) (to_field m ∷ field_steps fs) (to_field f) c
+    by true s q = let same : l ≡ c = cc in let name : f ≡ m = (bytes_eq-Decides f m).0 s in inl (ap to_field (sym name), same)
     by false s q = let late : k + 1 ≤ k + 0 = not_before (bytes_eq f) (k + 1) (k + 0) (names_of (field_list fs)) q in absurd (omega (arith, late))
-in_fields (field m d fs) (child l ls) f k (suc j) c Q store a b id p e h w =
-    needed_append Q id (under_step (to_field m) (touched l store a b)) (all_touched ls (field_steps fs) store a b)
-    ∙ or_right (names_id id (filter (λ (x : Place). Q x.path) (under_step (to_field m) (touched l store a b))))
-    (names_id id (filter (λ (x : Place). Q x.path) (all_touched ls (field_steps fs) store a b)))
-    (by (bytes_eq f m) (λ q. in_fields fs ls f (k + 1) j c Q store a b id q e h.1 w) p)
+leads_field (field m d fs) (child l ls) f k (suc j) c p e h = by (bytes_eq f m) (λ q. leads_field fs ls f (k + 1) j c q e h.1) p
   where
     moved : k + suc j ≡ k + 1 + j
     moved = omega arith
 
-    by : (t : Bool) → (position_from (bytes_eq f) (k + 1) (names_of (field_list fs)) ≡ Some (k + 1 + j)
-        → names_id id (filter (λ (x : Place). Q x.path) (all_touched ls (field_steps fs) store a b)) ≡ true)
-        → cond t (Some k) (position_from (bytes_eq f) (k + 1) (names_of (field_list fs))) ≡ Some (k + suc j)
-        → names_id id (filter (λ (x : Place). Q x.path) (all_touched ls (field_steps fs) store a b)) ≡ true
+    by : (t : Bool) → (position_from (bytes_eq f) (k + 1) (names_of (field_list fs)) ≡ Some (k + 1 + j) → Leads ls (field_steps fs) (to_field f) c)
+        → cond t (Some k) (position_from (bytes_eq f) (k + 1) (names_of (field_list fs))) ≡ Some (k + suc j) → Leads (child l ls) (to_field m ∷ field_steps fs) (to_field f) c
     by true later q = let same : k ≡ k + suc j = cc in absurd (omega (arith, same))
-    by false later q = later (q ∙ ap Some moved)
+    by false later q = inr (later (q ∙ ap Some moved))
 
-pub in_struct : (fs : Fields) (n : Nullability) (kids : Nodes) (item : Item) (j : ℕ) (c : Layout) (Q : Path → Bool) (store : Store) (a b id : ℕ)
-    → item_child fs n item ≡ Some j → nth_kid kids j ≡ Some c → HaveForms kids (with_validity n (field_types (field_list fs)))
-    → names_id id (filter (λ (x : Place). Q x.path) (under_step (item_step item) (touched c store a b))) ≡ true
-    → names_id id (filter (λ (x : Place). Q x.path) (all_touched kids (struct_steps (struct_type fs n)) store a b)) ≡ true
-in_struct fs NonNullable kids (Field f) j c Q store a b id p e h w = by (position (bytes_eq f) (names_of (field_list fs))) refl p
+-- that of an item
+pub leads_item : (fs : Fields) (n : Nullability) (kids : Nodes) (item : Item) (j : ℕ) (c : Layout) → item_child fs n item ≡ Some j → nth_kid kids j ≡ Some c → HaveForms kids (with_validity n (field_types (field_list fs)))
+    → Leads kids (struct_steps (struct_type fs n)) (item_step item) c
+leads_item fs NonNullable kids (Field f) j c p e h = by (position (bytes_eq f) (names_of (field_list fs))) refl p
   where
-    by : (o : Option ℕ) → position (bytes_eq f) (names_of (field_list fs)) ≡ o → option_map (λ k. 0 + k) o ≡ Some j → names_id id (filter (λ (x : Place). Q x.path) (all_touched kids (field_steps fs) store a b)) ≡ true
+    by : (o : Option ℕ) → position (bytes_eq f) (names_of (field_list fs)) ≡ o → option_map (λ k. 0 + k) o ≡ Some j → Leads kids (field_steps fs) (to_field f) c
     by None s q = absurd (let z : None ≡ Some j = q in cc)
-    by (Some k) s q = let same : 0 + k ≡ j = cc in in_fields fs kids f 0 j c Q store a b id (from_first (bytes_eq f) (names_of (field_list fs)) ∙ s ∙ ap Some (omega (arith, same))) e h w
-in_struct fs NonNullable kids Validity j c Q store a b id p e h w = absurd (let z : None ≡ Some j = p in cc)
-in_struct fs Nullable no_nodes item j c Q store a b id p e h w = absurd h
-in_struct fs Nullable (child v ls) (Field f) j c Q store a b id p e h w = by (position (bytes_eq f) (names_of (field_list fs))) refl p
+    by (Some k) s q = let same : 0 + k ≡ j = cc in leads_field fs kids f 0 j c (from_first (bytes_eq f) (names_of (field_list fs)) ∙ s ∙ ap Some (omega (arith, same))) e h
+leads_item fs NonNullable kids Validity j c p e h = absurd (let z : None ≡ Some j = p in cc)
+leads_item fs Nullable no_nodes item j c p e h = absurd h
+leads_item fs Nullable (child v ls) (Field f) j c p e h = by (position (bytes_eq f) (names_of (field_list fs))) refl p
   where
-    by : (o : Option ℕ) → position (bytes_eq f) (names_of (field_list fs)) ≡ o → option_map (λ k. 1 + k) o ≡ Some j → names_id id (filter (λ (x : Place). Q x.path) (all_touched (child v ls) (to_validity ∷ field_steps fs) store a b)) ≡ true
+    by : (o : Option ℕ) → position (bytes_eq f) (names_of (field_list fs)) ≡ o → option_map (λ k. 1 + k) o ≡ Some j → Leads (child v ls) (to_validity ∷ field_steps fs) (to_field f) c
     by None s q = absurd (let z : None ≡ Some j = q in cc)
     by (Some k) s q =
         let same : 1 + k ≡ j = cc in
         let next : j ≡ suc k = omega (arith, same) in
         let kid : nth_kid ls k ≡ Some c = subst (λ (m : ℕ). nth_kid (child v ls) m ≡ Some c) next e in
-        needed_append Q id (under_step to_validity (touched v store a b)) (all_touched ls (field_steps fs) store a b)
-        ∙ or_right (names_id id (filter (λ (x : Place). Q x.path) (under_step to_validity (touched v store a b))))
-        (names_id id (filter (λ (x : Place). Q x.path) (all_touched ls (field_steps fs) store a b)))
-        (in_fields fs ls f 0 k c Q store a b id (from_first (bytes_eq f) (names_of (field_list fs)) ∙ s ∙ ap Some (omega arith)) kid h.1 w)
-in_struct fs Nullable (child v ls) Validity j c Q store a b id p e h w =
+        inr (leads_field fs ls f 0 k c (from_first (bytes_eq f) (names_of (field_list fs)) ∙ s ∙ ap Some (omega arith)) kid h.1)
+leads_item fs Nullable (child v ls) Validity j c p e h =
     let first : 0 ≡ j = cc in
     let kid : nth_kid (child v ls) 0 ≡ Some c = subst (λ (m : ℕ). nth_kid (child v ls) m ≡ Some c) (sym first) e in
-    let same : c ≡ v = cc in
-    needed_append Q id (under_step to_validity (touched v store a b)) (all_touched ls (field_steps fs) store a b)
-    ∙ or_left (names_id id (filter (λ (x : Place). Q x.path) (under_step to_validity (touched v store a b))))
-    (names_id id (filter (λ (x : Place). Q x.path) (all_touched ls (field_steps fs) store a b)))
-    (subst (λ (z : Layout). names_id id (filter (λ (x : Place). Q x.path) (under_step to_validity (touched z store a b))) ≡ true) same w)
+    let same : v ≡ c = cc in
+    inl (refl, same)
+
+-- the segments of the child are among those of all, where they are needed
+pub leads_touched : (Q : Path → Bool) (T : Place → Bool) (kids : Nodes) (steps : List Step) (step : Step) (c : Layout) (store : Store) (a b : ℕ) → Leads kids steps step c
+    → list_any T (filter (λ (x : Place). Q x.path) (under_step step (touched c store a b))) ≡ true → list_any T (filter (λ (x : Place). Q x.path) (all_touched kids steps store a b)) ≡ true
+leads_touched Q T no_nodes steps step c store a b h w = absurd h
+leads_touched Q T (child l ls) [] step c store a b h w = absurd h
+leads_touched Q T (child l ls) (s ∷ steps) step c store a b (inl h) w =
+    let F : Step → Layout → Bool = λ u z. list_any T (filter (λ (x : Place). Q x.path) (under_step u (touched z store a b))) in
+    needed_append Q T (under_step s (touched l store a b)) (all_touched ls steps store a b)
+    ∙ or_left (F s l) (list_any T (filter (λ (x : Place). Q x.path) (all_touched ls steps store a b))) ((λ r. F (h.0 r) (h.1 r)) ∙ w)
+leads_touched Q T (child l ls) (s ∷ steps) step c store a b (inr h) w =
+    needed_append Q T (under_step s (touched l store a b)) (all_touched ls steps store a b)
+    ∙ or_right (list_any T (filter (λ (x : Place). Q x.path) (under_step s (touched l store a b)))) (list_any T (filter (λ (x : Place). Q x.path) (all_touched ls steps store a b)))
+    (leads_touched Q T ls steps step c store a b h w)
+
+-- and so are its lists
+pub leads_lists : (B : ListOffsets → Bool) (kids : Nodes) (steps : List Step) (step : Step) (c : Layout) → Leads kids steps step c → list_any B (map (below step) (lists_of c)) ≡ true → list_any B (lists_under kids steps) ≡ true
+leads_lists B no_nodes steps step c h w = absurd h
+leads_lists B (child l ls) [] step c h w = absurd h
+leads_lists B (child l ls) (s ∷ steps) step c (inl h) w =
+    let F : Step → Layout → Bool = λ u z. list_any B (map (below u) (lists_of z)) in
+    list_any-append B (map (below s) (lists_of l)) (lists_under ls steps) ∙ or_left (F s l) (list_any B (lists_under ls steps)) ((λ r. F (h.0 r) (h.1 r)) ∙ w)
+leads_lists B (child l ls) (s ∷ steps) step c (inr h) w =
+    list_any-append B (map (below s) (lists_of l)) (lists_under ls steps) ∙ or_right (list_any B (map (below s) (lists_of l))) (list_any B (lists_under ls steps)) (leads_lists B ls steps step c h w)
 
 -- ---- what is read of an item
 pub child_value : (fs : Fields) (n : Nullability) (kids : Nodes) (item : Item) (j : ℕ) (c : Layout) (store : Store) (i : ℕ)

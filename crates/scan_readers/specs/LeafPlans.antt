@@ -15,6 +15,7 @@ use Rattle.scan_splits.specs.LayoutSplits.{misses}
 use Rattle.scan_plans.specs.Formed.{reads}
 use Rattle.scan_plans.specs.PlanTree.{PlanTree, leaf, evaluate, constant}
 use Rattle.scan_plans.specs.Wants.{leaf_wanted}
+use Rattle.scan_readers.specs.Flaws.{has_flaw}
 use Rattle.scan_readers.specs.Readers.{ReaderState}
 
 -- the segments that rows of a leaf want
@@ -32,6 +33,7 @@ layout_state name l = record {
   first_number = None;
   value = row_value l;
   touched = touched l;
+  flawed = has_flaw l;
   holding = leaf_holding l;
   edges = λ masks start end. edges l (map path_of masks) start end;
   misses = misses l;

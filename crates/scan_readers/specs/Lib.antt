@@ -1,4 +1,5 @@
 pub mod Readers
+pub mod Flaws
 pub mod FieldNames
 pub mod PlanOf
 pub mod Kept

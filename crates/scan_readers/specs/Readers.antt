@@ -25,6 +25,8 @@ pub record ReaderState : Type 0 where
   pub value : Store → ℕ → Marked
   -- the segments that the rows from one up to another touch, where they stand
   pub touched : Store → ℕ → ℕ → List Place
+  -- what a store has of a segment where it stands is no good
+  pub flawed : Store → Place → Bool
   -- the segments that rows want, where an expression that reads its scope wants just these
   pub holding : Option (List ℕ → List Place)
   -- the rows at which it is split by masks in a range

@@ -28,6 +28,7 @@ numbered_state offset s = record {
   first_number = Some offset;
   value = s.value;
   touched = s.touched;
+  flawed = s.flawed;
   holding = None;
   edges = s.edges;
   misses = s.misses;

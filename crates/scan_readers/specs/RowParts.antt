@@ -13,8 +13,8 @@ use Rattle.scan_plans.specs.Came.{Came, Holds}
 use Rattle.scan_plans.specs.Meaning.{value_at, overflow_at, plan_dtype, true_rows, Within}
 use Rattle.scan_plans.specs.PlanTree.{PlanTree}
 use Rattle.scan_plans.specs.Pruning.{is_numbered}
-use Rattle.scan_plans.specs.Wants.{wanted, names_id}
-use Rattle.scan_readers.specs.PlanOf.{may_want}
+use Rattle.scan_plans.specs.Wants.{wanted, names_id, spoiled}
+use Rattle.scan_readers.specs.PlanOf.{may_want, may_spoil}
 use Rattle.scan_readers.specs.Readers.{ReaderState}
 
 -- a part reads the rows' numbers
@@ -28,6 +28,13 @@ WantsPart s RowIdx p n = (here : Came) (is : List ℕ) → ◌≡◌ {A = List P
 WantsPart s Child p n =
     (store : Store) (here : Came) (first : ℕ) (mask : List Bool) (id : ℕ) → Holds store here → first + length mask ≤ s.rows → names_id id (wanted n here (true_rows first mask)) ≡ true → may_want s p store first (first + length mask) id ≡ true
 
+-- over the rows' numbers nothing is no good, over the rows what is no good where the part needs it
+abbrev pub SpoilsPart : ReaderState → Partition → Bound → PlanTree → Type 0
+SpoilsPart s RowIdx p n = (here : Came) (is : List ℕ) (id : ℕ) → spoiled n here is id ≡ false
+SpoilsPart s Child p n =
+    (store : Store) (here : Came) (first : ℕ) (mask : List Bool) (id : ℕ) → Holds store here → first + length mask ≤ s.rows
+    → spoiled n here (true_rows first mask) id ≡ true → may_spoil s p store first (first + length mask) id ≡ true
+
 -- a plan of a part, on what it reads of the rows of a reader, of which the first has a number
 pub record IsPartPlan (s : ReaderState) (number : ℕ) (i : Partition) (p : Bound) (n : PlanTree) : Type 0 where
   pub dtype : plan_dtype n ≡ infer p.scope p.expr
@@ -36,6 +43,7 @@ pub record IsPartPlan (s : ReaderState) (number : ℕ) (i : Partition) (p : Boun
   pub value : (store : Store) (k : ℕ) → k < s.rows → value_at n store k ≡ eval p.scope p.expr (read_value (s.value store k) (number + k) i) 0
   pub overflow : (store : Store) (k : ℕ) → k < s.rows → overflow_at n store k ≡ overflows p.scope p.expr (read_value (s.value store k) (number + k) i) 0
   pub wants : WantsPart s i p n
+  pub spoils : SpoilsPart s i p n
 
 -- a plan of each part
 abbrev pub ArePartPlans : ReaderState → ℕ → List Partition → List Bound → List PlanTree → Type 0

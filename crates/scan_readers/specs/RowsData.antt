@@ -28,6 +28,7 @@ rows_state name a = record {
   first_number = None;
   value = λ store i. marked (get_or a.items i null_val);
   touched = λ store start end. [];
+  flawed = λ store p. false;
   holding = Some (λ is. []);
   edges = λ masks start end. end ∷ [];
   misses = λ masks. false;
