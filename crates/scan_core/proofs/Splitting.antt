@@ -1,31 +1,33 @@
 -- What the plans of a scan give at the rows of a mask.
-use Rattle.std.proofs.Common.{◌≡◌, ℕ, suc, ◌==◌, ◌+◌, ◌≤◌, Bool, true, false, ◌||◌, ◌&&◌, List, [], ◌∷◌, ◌++◌, map, length, Option, Some, None, is_none, refl, ap, sym, subst, ◌∙◌, arith}
+use Rattle.std.proofs.Common.{◌≡◌, ℕ, suc, ◌==◌, ◌+◌, ◌<◌, ◌≤◌, Bool, true, false, ◌||◌, ◌&&◌, List, [], ◌∷◌, ◌++◌, map, length, Option, Some, None, is_none, refl, ap, sym, subst, ◌∙◌, arith}
 use Rattle.std.specs.Prelude.{if◌then◌else◌, not, is_some}
 use Rattle.std.proofs.lemmas.Bool.{eqb-true}
 use Rattle.std.proofs.lemmas.List.Folds.{list_any-append}
+use Rattle.std.specs.List.{list_any}
 use Rattle.scan_values.specs.Marked.{Marked, is_true}
 use Rattle.scan_values.specs.Masks.{by_rank}
+use Rattle.scan_values.specs.Val.{is_clean}
 use Rattle.scan_segments.specs.Source.{Store}
 use Rattle.scan_layout.specs.Places.{Place, places_of}
 use Rattle.scan_expr.specs.Bound.{Bound}
 use Rattle.scan_plans.specs.Came.{Came, arrived, Holds}
-use Rattle.scan_plans.specs.Masks.{mask_data, kept, filtered, spilled, filters_wanted}
-use Rattle.scan_plans.specs.Meaning.{overflow_on, true_rows}
-use Rattle.scan_plans.specs.OffsetsData.{offset_places}
+use Rattle.scan_plans.specs.Masks.{Filter, mask_data, kept, filtered, damaged, spilled, filters_wanted, filters_spoiled}
+use Rattle.scan_plans.specs.Meaning.{value_at, damage_at, damage_on, overflow_on, true_rows}
+use Rattle.scan_plans.specs.OffsetsData.{OffsetsData, offset_places}
 use Rattle.scan_plans.specs.PlanData.{PlanData}
 use Rattle.scan_plans.specs.PlanTree.{PlanTree, leaf, rows, evaluate, over, constant, lists, lengths, valid, numbers, by_lengths, PlanTrees, no_plans, plan}
-use Rattle.scan_plans.specs.Wants.{offsets_wanted, wanted, all_wanted, names_id, are_here, knows_elements, Complete}
+use Rattle.scan_plans.specs.Wants.{leaf_wanted, offsets_wanted, wanted, all_wanted, names_id, are_here, knows_elements, Complete, spoils, offsets_spoiled, spoiled, any_spoiled}
 use Rattle.scan_plans.proofs.Building.{no_rows}
 use Rattle.scan_plans.proofs.Filtering.{kept_by}
 use Rattle.scan_plans.proofs.LeafWalk.{no_rows_wanted}
 use Rattle.scan_plans.proofs.Pruned.{numbered_wants}
 use Rattle.scan_plans.proofs.Transfer.{items_same}
 use Rattle.scan_readers.specs.Evaluations.{rows_true, overflows_on, Filters, Projects}
-use Rattle.scan_readers.specs.PlanOf.{IsPlanOf, may_want}
+use Rattle.scan_readers.specs.PlanOf.{IsPlanOf, may_want, may_spoil}
 use Rattle.scan_readers.specs.Readers.{ReaderState, numbers_alone, value_of}
-use Rattle.scan_readers.proofs.Evaluating.{filter_means, projection_means}
+use Rattle.scan_readers.proofs.Evaluating.{filter_means, numbered_spoils, projection_means}
 use Rattle.scan_streams.specs.Plans.{PlansData, filters_from, split_data}
-use Rattle.scan_core.specs.SplitMeaning.{passed, passing_overflows, has_true, rows_may_want, split_may_want, ArePlansOf, IsScanOf, IsSplitOf}
+use Rattle.scan_core.specs.SplitMeaning.{damages_on, passed, passing_damage, passing_overflows, has_true, rows_may_want, split_may_want, rows_may_spoil, split_may_spoil, ArePlansOf, IsScanOf, IsSplitOf}
 
 -- ---- no row wants nothing
 both_none : (xs ys : List Place) → xs ≡ [] → ys ≡ [] → xs ++ ys ≡ []
@@ -95,6 +97,17 @@ kept_is s c p store first bits is w = (conjunct_means s c p first bits is w).mas
 spilled_is : (s : ReaderState) (c : Bound) (p : PlanData) (store : Store) (first : ℕ) (bits : List Bool) → IsPlanOf s c p → first + length bits ≤ s.rows → overflow_on p.tree store (true_rows first bits) ≡ overflows_on s c store first bits
 spilled_is s c p store first bits is w = sym (or_false (overflow_on p.tree store (true_rows first bits))) ∙ (conjunct_means s c p first bits is w).overflow store
 
+damaged_is : (s : ReaderState) (c : Bound) (p : PlanData) (store : Store) (first : ℕ) (bits : List Bool) → IsPlanOf s c p → first + length bits ≤ s.rows → damage_on p.tree store (true_rows first bits) ≡ damages_on s c store first bits
+damaged_is s c p store first bits is w = any_rows first bits (λ i h. ap (λ v. not (is_clean v)) (is.value store i (omega (arith, h, w))))
+  where
+    own : ℕ → Bool
+    own i = not (is_clean (value_of s c store i))
+
+    any_rows : (k : ℕ) (bs : List Bool) → ((i : ℕ) → i < k + length bs → damage_at p.tree store i ≡ own i) → list_any (damage_at p.tree store) (true_rows k bs) ≡ list_any own (true_rows k bs)
+    any_rows k [] h = refl
+    any_rows k (true ∷ bs) h = rw (h k (omega arith), any_rows (k + 1) bs (λ i l. h i (omega (arith, l)))) refl
+    any_rows k (false ∷ bs) h = any_rows (k + 1) bs (λ i l. h i (omega (arith, l)))
+
 kept_same : (p : PlanTree) (k : ℕ) (here : Came) (store : Store) (bits : List Bool) → Holds store here → Complete (wanted p here (true_rows k bits)) here → kept p store k bits ≡ kept p (arrived here) k bits
 kept_same p k here store bits h c = kept_by p store k bits ∙ ap (λ (vs : List Marked). by_rank bits (map is_true vs)) (items_same p here store (true_rows k bits) h c) ∙ sym (kept_by p (arrived here) k bits)
 
@@ -102,7 +115,7 @@ pub rows_length : (s : ReaderState) (e : Bound) (store : Store) (k : ℕ) (bits 
 rows_length s e store k [] = refl
 rows_length s e store k (b ∷ bits) = ap suc (rows_length s e store (k + 1) bits)
 
--- ---- what filters leave, and where they overflow
+-- ---- what filters leave, where they overflow, and where they are damaged
 next_within : (s : ReaderState) (c : Bound) (store : Store) (first : ℕ) (bits : List Bool) → first + length bits ≤ s.rows → first + length (rows_true s c store first bits) ≤ s.rows
 next_within s c store first bits w = let same = rows_length s c store first bits in omega (arith, same, w)
 
@@ -121,6 +134,14 @@ filters_spill s (c ∷ cs) [] store first bits a w = absurd a
 filters_spill s (c ∷ cs) (p ∷ ps) store first bits a w =
     rw (spilled_is s c p store first bits a.0.0 w, kept_is s c p store first bits a.0.0 w)
     (ap (λ b. overflows_on s c store first bits || b) (filters_spill s cs ps store first (rows_true s c store first bits) a.1 (next_within s c store first bits w)))
+
+filters_damaged : (s : ReaderState) (cs : List Bound) (ps : List PlanData) (store : Store) (first : ℕ) (bits : List Bool) → ArePlansOf s cs ps → first + length bits ≤ s.rows → damaged store bits (filters_from first ps) ≡ passing_damage s cs store first bits
+filters_damaged s [] [] store first bits a w = refl
+filters_damaged s [] (p ∷ ps) store first bits a w = absurd a
+filters_damaged s (c ∷ cs) [] store first bits a w = absurd a
+filters_damaged s (c ∷ cs) (p ∷ ps) store first bits a w =
+    rw (damaged_is s c p store first bits a.0.0 w, kept_is s c p store first bits a.0.0 w)
+    (ap (λ b. damages_on s c store first bits || b) (filters_damaged s cs ps store first (rows_true s c store first bits) a.1 (next_within s c store first bits w)))
 
 -- ---- what is wanted
 none_named : (id : ℕ) (ps : List Place) (b : Bool) → ps ≡ [] → names_id id ps ≡ true → b ≡ true
@@ -163,15 +184,15 @@ after_here here ws mid rest h = rw (h, here_append ws mid here h) (append_assoc 
     append_assoc [] ys zs = refl
     append_assoc (x ∷ xs) ys zs = ap (λ ps. x ∷ ps) (append_assoc xs ys zs)
 
+append_none : (xs : List Place) → xs ++ [] ≡ xs
+append_none [] = refl
+append_none (x ∷ xs) = ap (λ ps. x ∷ ps) (append_none xs)
+
 -- and where not
 after_lacking : (here : Came) (ws mid rest : List Place) → are_here ws here ≡ false → after here (after here ws mid) rest ≡ ws
 after_lacking here ws mid rest h =
     let none : after here ws mid ≡ ws = rw h (append_none ws) in
     rw none (rw h (append_none ws))
-  where
-    append_none : (xs : List Place) → xs ++ [] ≡ xs
-    append_none [] = refl
-    append_none (x ∷ xs) = ap (λ ps. x ∷ ps) (append_none xs)
 
 split_wants : (s : ReaderState) (cs : List Bound) (e : Bound) (ps : List PlanData) (p : PlanData) (store : Store) (here : Came) (first : ℕ) (bits : List Bool) (id : ℕ) → ArePlansOf s cs ps → IsPlanOf s e p → Holds store here → first + length bits ≤ s.rows
     → names_id id (after here (filters_wanted here bits (filters_from first ps)) (wanted p.tree here (true_rows first (filtered (arrived here) bits (filters_from first ps))))) ≡ true → split_may_want s cs e store first bits id ≡ true
@@ -205,6 +226,107 @@ split_wants s (c ∷ cs) e (q ∷ ps) p store here first bits id a is holds w h 
         let alone : names_id id ws ≡ true = sym (ap (names_id id) (after_lacking here ws (filters_wanted here next (filters_from first ps)) (wanted p.tree here (true_rows first (filtered (arrived here) next (filters_from first ps)))) k)) ∙ h in
         or_first (rows_may_want s c store first bits id) (split_may_want s cs e store first (rows_true s c store first bits) id) (own alone)
 
+-- ---- what is no good
+nor : (a b : Bool) → a ≡ false → b ≡ false → (a || b) ≡ false
+nor true b h k = absurd cc
+nor false b h k = k
+
+false_if : (b c : Bool) → c ≡ false → (if b then c else false) ≡ false
+false_if true c h = h
+false_if false c h = refl
+
+no_segment : (ps : List Place) (here : Came) (id : ℕ) → ps ≡ [] → spoils ps here id ≡ false
+no_segment ps here id e = ap (λ (qs : List Place). spoils qs here id) e
+
+no_offset_spoiled : (o : OffsetsData) (here : Came) (id : ℕ) → offsets_spoiled o here [] id ≡ false
+no_offset_spoiled o here id = nor (spoils (offsets_wanted o []) here id) false (no_segment (offsets_wanted o []) here id (no_rows_wanted 0 (offset_places o))) refl
+
+mutual
+  none_spoiled : (p : PlanTree) (here : Came) (id : ℕ) → spoiled p here [] id ≡ false
+  none_spoiled (leaf d s gs) here id = no_segment (leaf_wanted 0 (places_of d s gs) []) here id (no_rows_wanted 0 (places_of d s gs))
+  none_spoiled (rows d vs) here id = refl
+  none_spoiled (evaluate d e p) here id = none_spoiled p here id
+  none_spoiled (over d e ps) here id = none_spoiled_in ps here id
+  none_spoiled (constant d e) here id = refl
+  none_spoiled (lists d p o) here id =
+      nor (offsets_spoiled o here [] id) (if knows_elements o here [] then spoiled p here [] id else false) (no_offset_spoiled o here id)
+      (false_if (knows_elements o here []) (spoiled p here [] id) (none_spoiled p here id))
+  none_spoiled (lengths o) here id = no_offset_spoiled o here id
+  none_spoiled (valid p v) here id = nor (spoiled v here [] id) (spoiled p here [] id) (none_spoiled v here id) (none_spoiled p here id)
+  none_spoiled (numbers k) here id = refl
+  none_spoiled (by_lengths d e t f p) here id = none_spoiled p here id
+
+  none_spoiled_in : (ps : PlanTrees) (here : Came) (id : ℕ) → any_spoiled ps here [] id ≡ false
+  none_spoiled_in no_plans here id = refl
+  none_spoiled_in (plan p ps) here id = nor (spoiled p here [] id) (any_spoiled ps here [] id) (none_spoiled p here id) (none_spoiled_in ps here id)
+
+rows_spoil : (s : ReaderState) (c : Bound) (p : PlanData) (store : Store) (here : Came) (first : ℕ) (bits : List Bool) (id : ℕ) → IsPlanOf s c p
+    → Holds store here → first + length bits ≤ s.rows → spoiled p.tree here (true_rows first bits) id ≡ true
+    → rows_may_spoil s c store first bits id ≡ true
+rows_spoil s c p store here first bits id is holds w h = by (has_true bits) (numbers_alone s c.expr) refl refl
+  where
+    m : Bool
+    m = may_spoil s c store first (first + length bits) id
+
+    by : (b n : Bool) → has_true bits ≡ b → numbers_alone s c.expr ≡ n → (b && (not n && m)) ≡ true
+    by false n e k = sym (ap (λ js. spoiled p.tree here js id) (no_rows first bits e) ∙ none_spoiled p.tree here id) ∙ h
+    by true true e k = sym (numbered_spoils p.tree (is.numbered ∙ k) here (true_rows first bits) id) ∙ h
+    by true false e k = is.spoils store here first bits id holds w h
+
+or_assoc : (a b c : Bool) → ((a || b) || c) ≡ (a || (b || c))
+or_assoc true b c = refl
+or_assoc false b c = refl
+
+-- a projection behind filters
+abbrev SpoiledBehind : Came → List Bool → List Filter → PlanTree → ℕ → ℕ → Bool
+SpoiledBehind here bits fs p first id = filters_spoiled here bits fs id || (if are_here (filters_wanted here bits fs) here then spoiled p here (true_rows first (filtered (arrived here) bits fs)) id else false)
+
+split_spoils : (s : ReaderState) (cs : List Bound) (e : Bound) (ps : List PlanData) (p : PlanData) (store : Store) (here : Came) (first : ℕ) (bits : List Bool) (id : ℕ) → ArePlansOf s cs ps → IsPlanOf s e p → Holds store here → first + length bits ≤ s.rows
+    → SpoiledBehind here bits (filters_from first ps) p.tree first id ≡ true → split_may_spoil s cs e store first bits id ≡ true
+split_spoils s [] e [] p store here first bits id a is holds w h = rows_spoil s e p store here first bits id is holds w h
+split_spoils s [] e (q ∷ ps) p store here first bits id a is holds w h = absurd a
+split_spoils s (c ∷ cs) e [] p store here first bits id a is holds w h = absurd a
+split_spoils s (c ∷ cs) e (q ∷ ps) p store here first bits id a is holds w h =
+    by (are_here ws here) refl (λ same more. split_spoils s cs e ps p store here first (rows_true s c store first bits) id a.1 is holds (next_within s c store first bits w)
+    (subst (λ (bs : List Bool). SpoiledBehind here bs (filters_from first ps) p.tree first id ≡ true) same more)) h
+  where
+    ws : List Place
+    ws = wanted q.tree here (true_rows first bits)
+
+    next : List Bool
+    next = kept q.tree (arrived here) first bits
+
+    bad : Bool
+    bad = spoiled q.tree here (true_rows first bits) id
+
+    mid : Bool
+    mid = filters_spoiled here next (filters_from first ps) id
+
+    more : List Place
+    more = filters_wanted here next (filters_from first ps)
+
+    last : Bool
+    last = spoiled p.tree here (true_rows first (filtered (arrived here) next (filters_from first ps))) id
+
+    own : bad ≡ true → rows_may_spoil s c store first bits id ≡ true
+    own b = rows_spoil s c q store here first bits id a.0.0 holds w b
+
+    alone : (x : Bool) → ((x || false) || false) ≡ true → x ≡ true
+    alone true z = refl
+    alone false z = z
+
+    by : (b : Bool) → are_here ws here ≡ b → (next ≡ rows_true s c store first bits → SpoiledBehind here next (filters_from first ps) p.tree first id ≡ true → split_may_spoil s cs e store first (rows_true s c store first bits) id ≡ true)
+        → ((bad || (if b then mid else false)) || (if are_here (ws ++ (if b then more else [])) here then last else false)) ≡ true
+        → (rows_may_spoil s c store first bits id || split_may_spoil s cs e store first (rows_true s c store first bits) id) ≡ true
+    by true k later z =
+        let same : next ≡ rows_true s c store first bits = sym (kept_same q.tree first here store bits holds (here_complete ws here k)) ∙ kept_is s c q store first bits a.0.0 w in
+        let both : (bad || (mid || (if are_here more here then last else false))) ≡ true = sym (or_assoc bad mid (if are_here more here then last else false)) ∙ ap (λ b. (bad || mid) || (if b then last else false)) (sym (here_append ws more here k)) ∙ z in
+        or_mono bad (rows_may_spoil s c store first bits id) (mid || (if are_here more here then last else false)) (split_may_spoil s cs e store first (rows_true s c store first bits) id) own (later same) both
+    by false k later z =
+        let none : are_here (ws ++ []) here ≡ false = ap (λ ps. are_here ps here) (append_none ws) ∙ k in
+        let only : ((bad || false) || false) ≡ true = sym (ap (λ b. (bad || false) || (if b then last else false)) none) ∙ z in
+        or_first (rows_may_spoil s c store first bits id) (split_may_spoil s cs e store first (rows_true s c store first bits) id) (own (alone bad only))
+
 -- ---- a split
 projected : (s : ReaderState) (cs : List Bound) (e : Bound) (p : PlansData) (first : ℕ) (mask : List Bool) → IsScanOf s cs e p → first + length mask ≤ s.rows → Projects s e first (mask_data mask (filters_from first p.conjuncts)) (split_data p first mask)
 projected s cs e p first mask is w =
@@ -218,7 +340,9 @@ split_means s cs e p first mask is w = record {
   dtype = (projected s cs e p first mask is w).dtype;
   items = λ store. (projected s cs e p first mask is w).items store ∙ ap (λ bs. map (value_of s e store) (true_rows first bs)) (pass store);
   overflow = λ store. (projected s cs e p first mask is w).overflow store ∙ (λ i. spill store i || overflows_on s e store first (pass store i));
+  damage = λ store. or_false (damaged store mask (filters_from first p.conjuncts)) ∙ filters_damaged s cs p.conjuncts store first mask is.conjuncts w;
   wants = λ store here id holds h. split_wants s cs e p.conjuncts p.projection store here first mask id is.conjuncts is.projection holds w h;
+  spoils = λ store here id holds h. split_spoils s cs e p.conjuncts p.projection store here first mask id is.conjuncts is.projection holds w h;
 }
   where
     pass : (store : Store) → filtered store mask (filters_from first p.conjuncts) ≡ passed s cs store first mask

@@ -5,9 +5,9 @@ use Rattle.scan_values.specs.Marked.{is_true}
 use Rattle.scan_segments.specs.Source.{Store}
 use Rattle.scan_expr.specs.Bound.{Bound}
 use Rattle.scan_readers.specs.Evaluations.{rows_true}
-use Rattle.scan_readers.specs.PlanOf.{may_want}
+use Rattle.scan_readers.specs.PlanOf.{may_want, may_spoil}
 use Rattle.scan_readers.specs.Readers.{ReaderState, numbers_alone, value_of}
-use Rattle.scan_core.specs.SplitMeaning.{passed, has_true, rows_may_want, split_may_want, in_turn}
+use Rattle.scan_core.specs.SplitMeaning.{passed, has_true, rows_may_want, split_may_want, rows_may_spoil, split_may_spoil, in_turn}
 
 -- those over row numbers alone, and the others
 abbrev pub numbered : ReaderState → List Bound → List Bound
@@ -110,52 +110,74 @@ below_true [] (b ∷ bs) h t = absurd h
 below_true (a ∷ xs) [] h t = absurd h
 below_true (a ∷ xs) (b ∷ bs) h t = or_mono a b (has_true xs) (has_true bs) h.0 (below_true xs bs h.1) t
 
--- ---- fewer rows want no more
-fewer_want : (s : ReaderState) (c : Bound) (store : Store) (k : ℕ) (xs bs : List Bool) (id : ℕ) → Below xs bs → rows_may_want s c store k xs id ≡ true → rows_may_want s c store k bs id ≡ true
-fewer_want s c store k xs bs id h w =
-    let long : length bs ≡ length xs = sym (below_length xs bs h) in
-    rw long (and_mono (has_true xs) (has_true bs) (not (numbers_alone s c.expr) && may_want s c store k (k + length xs) id) (below_true xs bs h) w)
+-- ---- a test of an expression up to a row, where a row of a mask is true, and of conjuncts one after another
+module _ (s : ReaderState) (store : Store) (k : ℕ) (M : Bound → ℕ → Bool) where
+  abbrev pub rows_may : Bound → List Bool → Bool
+  rows_may c bits = has_true bits && (not (numbers_alone s c.expr) && M c (k + length bits))
 
-none_alone : (s : ReaderState) (c : Bound) (store : Store) (k : ℕ) (bits : List Bool) (id : ℕ) → numbers_alone s c.expr ≡ true → rows_may_want s c store k bits id ≡ false
-none_alone s c store k bits id e = rw e (by (has_true bits))
-  where
-    by : (b : Bool) → (b && false) ≡ false
-    by true = refl
-    by false = refl
+  abbrev pub split_may : List Bound → Bound → List Bool → Bool
+  split_may [] e bits = rows_may e bits
+  split_may (c ∷ cs) e bits = rows_may c bits || split_may cs e (rows_true s c store k bits)
 
--- those over row numbers alone want nothing
-skip_numbered : (s : ReaderState) (cs ds : List Bound) (e : Bound) (store : Store) (k : ℕ) (bits : List Bool) (id : ℕ) → split_may_want s (numbered s cs ++ ds) e store k bits id ≡ split_may_want s ds e store k (passed s (numbered s cs) store k bits) id
-skip_numbered s [] ds e store k bits id = refl
-skip_numbered s (c ∷ cs) ds e store k bits id = by (numbers_alone s c.expr) refl (λ bs. skip_numbered s cs ds e store k bs id)
-  where
-    by : (b : Bool) → numbers_alone s c.expr ≡ b → ((bs : List Bool) → split_may_want s (numbered s cs ++ ds) e store k bs id ≡ split_may_want s ds e store k (passed s (numbered s cs) store k bs) id)
-        → split_may_want s (cond b (c ∷ numbered s cs) (numbered s cs) ++ ds) e store k bits id ≡ split_may_want s ds e store k (passed s (cond b (c ∷ numbered s cs) (numbered s cs)) store k bits) id
-    by true h rest = ap (λ b. b || split_may_want s (numbered s cs ++ ds) e store k (rows_true s c store k bits) id) (none_alone s c store k bits id h) ∙ rest (rows_true s c store k bits)
-    by false h rest = rest bits
+  -- no more passes it with fewer rows
+  fewer_may : (c : Bound) (xs bs : List Bool) → Below xs bs → rows_may c xs ≡ true → rows_may c bs ≡ true
+  fewer_may c xs bs h w =
+      let long : length bs ≡ length xs = sym (below_length xs bs h) in
+      rw long (and_mono (has_true xs) (has_true bs) (not (numbers_alone s c.expr) && M c (k + length xs)) (below_true xs bs h) w)
 
--- of the others, under no more rows than those over row numbers leave
-others_want : (s : ReaderState) (cs : List Bound) (e : Bound) (store : Store) (k : ℕ) (less bits : List Bool) (id : ℕ) → Below less (passed s (numbered s cs) store k bits) → split_may_want s (others s cs) e store k less id ≡ true → split_may_want s cs e store k bits id ≡ true
-others_want s [] e store k less bits id h w = fewer_want s e store k less bits id h w
-others_want s (c ∷ cs) e store k less bits id h w = by (numbers_alone s c.expr) (λ fewer. others_want s cs e store k fewer (rows_true s c store k bits) id) h w
-  where
-    next : List Bool
-    next = rows_true s c store k bits
+  none_alone : (c : Bound) (bits : List Bool) → numbers_alone s c.expr ≡ true → rows_may c bits ≡ false
+  none_alone c bits e = rw e (by (has_true bits))
+    where
+      by : (b : Bool) → (b && false) ≡ false
+      by true = refl
+      by false = refl
 
-    later : (b : Bool) → split_may_want s cs e store k next id ≡ true → (b || split_may_want s cs e store k next id) ≡ true
-    later true g = refl
-    later false g = g
+  -- those over row numbers alone pass it never
+  skip_numbered : (cs ds : List Bound) (e : Bound) (bits : List Bool) → split_may (numbered s cs ++ ds) e bits ≡ split_may ds e (passed s (numbered s cs) store k bits)
+  skip_numbered [] ds e bits = refl
+  skip_numbered (c ∷ cs) ds e bits = by (numbers_alone s c.expr) refl (λ bs. skip_numbered cs ds e bs)
+    where
+      by : (b : Bool) → numbers_alone s c.expr ≡ b → ((bs : List Bool) → split_may (numbered s cs ++ ds) e bs ≡ split_may ds e (passed s (numbered s cs) store k bs))
+          → split_may (cond b (c ∷ numbered s cs) (numbered s cs) ++ ds) e bits ≡ split_may ds e (passed s (cond b (c ∷ numbered s cs) (numbered s cs)) store k bits)
+      by true h rest = ap (λ b. b || split_may (numbered s cs ++ ds) e (rows_true s c store k bits)) (none_alone c bits h) ∙ rest (rows_true s c store k bits)
+      by false h rest = rest bits
 
-    by : (b : Bool) → ((fewer : List Bool) → Below fewer (passed s (numbered s cs) store k next) → split_may_want s (others s cs) e store k fewer id ≡ true → split_may_want s cs e store k next id ≡ true)
-        → Below less (passed s (cond b (c ∷ numbered s cs) (numbered s cs)) store k bits) → split_may_want s (cond (not b) (c ∷ others s cs) (others s cs)) e store k less id ≡ true
-        → (rows_may_want s c store k bits id || split_may_want s cs e store k next id) ≡ true
-    by true rest h w = later (rows_may_want s c store k bits id) (rest less h w)
-    by false rest h w =
-        let below = below_more less (passed s (numbered s cs) store k bits) bits h (passed_below s (numbered s cs) store k bits) in
-        let under : Below (rows_true s c store k less) (passed s (numbered s cs) store k next) = subst (λ (bs : List Bool). Below (rows_true s c store k less) bs) (passed_swap s c (numbered s cs) store k bits) (rows_mono s c store k less (passed s (numbered s cs) store k bits) h) in
-        or_mono (rows_may_want s c store k less id) (rows_may_want s c store k bits id) (split_may_want s (others s cs) e store k (rows_true s c store k less) id) (split_may_want s cs e store k next id)
-        (fewer_want s c store k less bits id below) (rest (rows_true s c store k less) under) w
+  -- of the others, under no more rows than those over row numbers leave
+  others_may : (cs : List Bound) (e : Bound) (less bits : List Bool) → Below less (passed s (numbered s cs) store k bits) → split_may (others s cs) e less ≡ true → split_may cs e bits ≡ true
+  others_may [] e less bits h w = fewer_may e less bits h w
+  others_may (c ∷ cs) e less bits h w = by (numbers_alone s c.expr) (λ fewer. others_may cs e fewer (rows_true s c store k bits)) h w
+    where
+      next : List Bool
+      next = rows_true s c store k bits
+
+      later : (b : Bool) → split_may cs e next ≡ true → (b || split_may cs e next) ≡ true
+      later true g = refl
+      later false g = g
+
+      by : (b : Bool) → ((fewer : List Bool) → Below fewer (passed s (numbered s cs) store k next) → split_may (others s cs) e fewer ≡ true → split_may cs e next ≡ true)
+          → Below less (passed s (cond b (c ∷ numbered s cs) (numbered s cs)) store k bits) → split_may (cond (not b) (c ∷ others s cs) (others s cs)) e less ≡ true
+          → (rows_may c bits || split_may cs e next) ≡ true
+      by true rest h w = later (rows_may c bits) (rest less h w)
+      by false rest h w =
+          let below = below_more less (passed s (numbered s cs) store k bits) bits h (passed_below s (numbered s cs) store k bits) in
+          let under : Below (rows_true s c store k less) (passed s (numbered s cs) store k next) = subst (λ (bs : List Bool). Below (rows_true s c store k less) bs) (passed_swap s c (numbered s cs) store k bits) (rows_mono s c store k less (passed s (numbered s cs) store k bits) h) in
+          or_mono (rows_may c less) (rows_may c bits) (split_may (others s cs) e (rows_true s c store k less)) (split_may cs e next) (fewer_may c less bits below) (rest (rows_true s c store k less) under) w
+
+  turn_may : (cs : List Bound) (e : Bound) (bits : List Bool) → split_may (in_turn s cs) e bits ≡ true → split_may cs e bits ≡ true
+  turn_may cs e bits w = others_may cs e (passed s (numbered s cs) store k bits) bits (below_itself (passed s (numbered s cs) store k bits)) (sym (skip_numbered cs (others s cs) e bits) ∙ w)
 
 -- ---- the order wants no more
+pub want_is : (s : ReaderState) (cs : List Bound) (e : Bound) (store : Store) (k : ℕ) (bits : List Bool) (id : ℕ) → split_may_want s cs e store k bits id ≡ split_may s store k (λ c end. may_want s c store k end id) cs e bits
+want_is s [] e store k bits id = refl
+want_is s (c ∷ cs) e store k bits id = ap (λ b. rows_may_want s c store k bits id || b) (want_is s cs e store k (rows_true s c store k bits) id)
+
 pub turn_wants : (s : ReaderState) (cs : List Bound) (e : Bound) (store : Store) (k : ℕ) (bits : List Bool) (id : ℕ) → split_may_want s (in_turn s cs) e store k bits id ≡ true → split_may_want s cs e store k bits id ≡ true
-turn_wants s cs e store k bits id w =
-    others_want s cs e store k (passed s (numbered s cs) store k bits) bits id (below_itself (passed s (numbered s cs) store k bits)) (sym (skip_numbered s cs (others s cs) e store k bits id) ∙ w)
+turn_wants s cs e store k bits id w = want_is s cs e store k bits id ∙ turn_may s store k (λ c end. may_want s c store k end id) cs e bits (sym (want_is s (in_turn s cs) e store k bits id) ∙ w)
+
+-- ---- nor is more no good
+pub spoil_is : (s : ReaderState) (cs : List Bound) (e : Bound) (store : Store) (k : ℕ) (bits : List Bool) (id : ℕ) → split_may_spoil s cs e store k bits id ≡ split_may s store k (λ c end. may_spoil s c store k end id) cs e bits
+spoil_is s [] e store k bits id = refl
+spoil_is s (c ∷ cs) e store k bits id = ap (λ b. rows_may_spoil s c store k bits id || b) (spoil_is s cs e store k (rows_true s c store k bits) id)
+
+pub turn_spoils : (s : ReaderState) (cs : List Bound) (e : Bound) (store : Store) (k : ℕ) (bits : List Bool) (id : ℕ) → split_may_spoil s (in_turn s cs) e store k bits id ≡ true → split_may_spoil s cs e store k bits id ≡ true
+turn_spoils s cs e store k bits id w = spoil_is s cs e store k bits id ∙ turn_may s store k (λ c end. may_spoil s c store k end id) cs e bits (sym (spoil_is s (in_turn s cs) e store k bits id) ∙ w)

@@ -3,15 +3,16 @@ use Rattle.std.specs.Prelude.{◌≡◌, ◌<◌, false, [], length, true, Some,
 use Rattle.scan_values.specs.Arrays.{ArrayData}
 use Rattle.scan_segments.specs.Source.{Store}
 use Rattle.scan_plans.specs.Came.{Came, Holds}
-use Rattle.scan_plans.specs.Futures.{FutureData, GivesItems, items_of, future_wanted, future_spoiled, future_overflow}
+use Rattle.scan_plans.specs.Futures.{FutureData, GivesItems, items_of, future_wanted, future_spoiled, future_damage, future_overflow}
 use Rattle.scan_plans.specs.Given.{AreLacking}
 use Rattle.scan_core.specs.declared.split.SplitPoll.{SplitPoll}
 use Rattle.scan_core.specs.declared.split.SplitPoll.TheVariants.{Ready, Pending, Corrupt, Map, Overflow, NoMemory}
 
--- no row is left, whatever holds what has arrived, and nothing overflows
+-- no row is left, whatever holds what has arrived, nothing overflows, and no filter is damaged
 pub record LeavesNone (here : Came) (f : FutureData) : Type 0 where
   pub items : (store : Store) → Holds store here → items_of f store ≡ []
   pub within : (store : Store) → Holds store here → future_overflow f store ≡ false
+  pub clean : (store : Store) → Holds store here → future_damage f store ≡ false
 
 -- the array of the rows that are left, at least one, of which a step answers this
 pub record MapsItems {R : Type 0} (answers : ArrayData → R → Type 0) (here : Came) (f : FutureData) (a : ArrayData) (r : R) : Type 0 where

@@ -1,6 +1,6 @@
 //! Laws of scans. Each is the contract of a function that does nothing.
 ghost use Rattle.scan_core.specs.Given.{SplitsGiveWhatIsAsked};
-ghost use Rattle.scan_core.specs.SplitMeaning.{SplitsMeanTheirExpressions, OrderChangesNoRow, OrderWantsNoMore, InTurnMeansWritten};
+ghost use Rattle.scan_core.specs.SplitMeaning.{SplitsMeanTheirExpressions, OrderChangesNoRow, OrderWantsNoMore, OrderSpoilsNoMore, InTurnMeansWritten};
 ghost use Rattle.scan_core.specs.SplitRanges.{SplitsOfARangeFollow, SplitsOfAllFollow};
 ghost use Rattle.scan_core.specs.Streaming.{StreamsGiveTheFirstRows};
 
@@ -18,6 +18,11 @@ pub fn order_of_conjuncts_changes_no_row()
 /// And nothing more is wanted then.
 pub fn order_of_conjuncts_wants_no_more()
     ensures { OrderWantsNoMore }
+{}
+
+/// Nor is more found to be no good.
+pub fn order_of_conjuncts_spoils_no_more()
+    ensures { OrderSpoilsNoMore }
 {}
 
 /// So the splits of a scan that is set up give and want what its filter means as it is written.

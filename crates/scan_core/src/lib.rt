@@ -19,8 +19,9 @@ mod threads;
 pub use builder::ScanBuilder;
 pub use field_masks::referenced_field_masks;
 pub use laws::{
-    order_of_conjuncts_changes_no_row, order_of_conjuncts_wants_no_more, splits_follow_each_other,
-    splits_give_what_is_asked, splits_in_turn_mean_what_is_written, splits_mean_their_expressions,
+    order_of_conjuncts_changes_no_row, order_of_conjuncts_spoils_no_more,
+    order_of_conjuncts_wants_no_more, splits_follow_each_other, splits_give_what_is_asked,
+    splits_in_turn_mean_what_is_written, splits_mean_their_expressions,
     streams_give_the_first_rows,
 };
 pub use lazy_stream::LazyScanStream;
