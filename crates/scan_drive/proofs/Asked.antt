@@ -8,12 +8,10 @@ use Rattle.scan_values.specs.Selections.{is_among}
 use Rattle.scan_segments.specs.Source.{SourceState, Store}
 use Rattle.scan_splits.specs.Arrivals.{Arrivals}
 use Rattle.scan_splits.specs.Wanted.{no_repeats}
-use Rattle.scan_drive.specs.Asks.{LinkedBut, EachLinkedBut, IsWantedBy, WaitsThere}
+use Rattle.scan_drive.specs.Asks.{LinkedBut, EachLinkedBut, WaitsThere}
 use Rattle.scan_drive.specs.Desks.{Waiters, waits}
 use Rattle.scan_drive.specs.Drives.{desk_at, EachLinked, SourcesMove, SlotsKeep}
 use Rattle.scan_drive.specs.Files.{Part}
-use Rattle.scan_drive.specs.Links.{Linked}
-use Rattle.scan_drive.specs.Looks.{WaitsForAll}
 use Rattle.scan_drive.specs.Measures.{is_there, Advances, EachAdvances}
 use Rattle.scan_drive.specs.Slots.{slot_at, nothing, is_reading, stage_waits, MayTake, SlotKeeps}
 use Rattle.scan_drive.specs.Splits.{SplitState, Event}
@@ -23,9 +21,9 @@ use Rattle.scan_drive.specs.declared.files.ScanFile.{ScanFile}
 use Rattle.scan_drive.specs.declared.slot.Slot.{Slot}
 use Rattle.scan_drive.specs.declared.slot.Stage.{Stage}
 use Rattle.scan_drive.specs.declared.slot.Stage.TheVariants as stage
-use Rattle.scan_drive.proofs.Handing.{le_or_lt, and_both, not_true, among_head, among_later, at_set, at_set_same, at_set_other}
-use Rattle.scan_drive.proofs.Keeping.{keeps_refl, keeps_then}
-use Rattle.scan_drive.proofs.Nearing.{advances_refl, advances_then}
+use Rattle.scan_drive.proofs.Handing.{le_or_lt, and_both, not_true, among_later, at_set, at_set_same, at_set_other}
+use Rattle.scan_drive.proofs.Keeping.{keeps_then}
+use Rattle.scan_drive.proofs.Nearing.{advances_then}
 
 -- the first of a list without repeats is not among the others
 pub not_later : (place : ℕ) (rest : List ℕ) → no_repeats (place ∷ rest) ≡ true → (q : ℕ) → is_among rest q ≡ true → q ≢ place
@@ -157,7 +155,8 @@ module _ {W I R : Type 0} (split : W → SplitState I) where
 
 module _ {O S W I R : Type 0} (source : S → SourceState) (split : W → SplitState I) (comes : W → Arrivals → Store → Event → Type 0) (items : R → List I) where
   -- one slot has moved, as far as the store of its file is told
-  pub kept_set : (files now : List (ScanFile O S)) (May : ℕ → ℕ → Type 0) (before slots : List (Slot W R)) (place : ℕ) (s : Slot W R) (x : ScanFile O S) (c : Cache) → SourcesMove source May files now → SlotsKeep source split comes items files before slots → EachAdvances split before slots → place < length slots →
+  pub kept_set : (files now : List (ScanFile O S)) (May : ℕ → ℕ → Type 0) (before slots : List (Slot W R)) (place : ℕ) (s : Slot W R) (x : ScanFile O S) (c : Cache) → SourcesMove source May files now
+      → SlotsKeep source split comes items files before slots → EachAdvances split before slots → place < length slots →
       x ≡ get_or now (slot_at slots place).file x → (slot_at slots place).file < length now → CacheAgrees source now c →
       ((p : Part I) (store : Store) → (source x.source).holds ≡ Some store → Trusts x.source_id store c → SlotKeeps split comes items p store (slot_at slots place) s) → SlotsKeep source split comes items files before (set slots place s)
   kept_set files now May before slots place s x c m h a lt e klt agrees k f p store q told =

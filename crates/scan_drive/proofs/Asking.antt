@@ -1,18 +1,18 @@
 -- A place that waits for several ids, which the source is asked for.
-use Rattle.std.proofs.Common.{◌≡◌, ℕ, suc, zero, get_or, ◌<◌, ◌≤◌, List, [], ◌∷◌, ◌++◌, length, Bool, true, false, not, ◌||◌, ◌&&◌, cond, eqb, Option, Some, None, refl, sym, ap, ◌∙◌, subst, arith, append_assoc, append-nil}
+use Rattle.std.proofs.Common.{◌≡◌, ℕ, suc, zero, get_or, ◌<◌, ◌≤◌, List, [], ◌∷◌, ◌++◌, length, Bool, true, false, ◌||◌, ◌&&◌, cond, eqb, Option, Some, None, inl, inr, refl, sym, ap, ◌∙◌, subst, arith, append_assoc, append-nil}
+use Rattle.std.specs.Prelude.{◌⊎◌, nat_eq}
 use Rattle.std.proofs.lemmas.Bool.Decides.{nat_tests}
 use Rattle.scan_values.specs.Selections.{is_among}
-use Rattle.scan_segments.specs.Source.{SourceState, Stays}
-use Rattle.scan_splits.specs.Wanted.{no_repeats}
+use Rattle.scan_segments.specs.Source.{SourceState, Stays, Ends, without_live}
 use Rattle.scan_drive.specs.Sources.{SourceMoves}
 use Rattle.scan_drive.specs.Desks.{Waiters, waiters_at, waits, is_in, added, Moves, Asks}
 use Rattle.scan_drive.proofs.Desking.{moved, among_snoc}
 
-pub moves_none : (May : ℕ → Type 0) (s t : SourceState) → t.holds ≡ s.holds → t.asked ≡ s.asked → s.faults ≤ t.faults → t.turns ≤ s.turns → t.can_fail ≡ s.can_fail → SourceMoves May s t
-moves_none May s t h a f u c = record { holds = h; ids = []; asked = a ∙ sym (append-nil s.asked); may = λ id n. absurd cc; faults = f; turns = u; can_fail = c }
+pub moves_none : (May : ℕ → Type 0) (s t : SourceState) → t.holds ≡ s.holds → t.asked ≡ s.asked → ((id : ℕ) → t.live id ≡ true → s.live id ≡ true) → s.faults ≤ t.faults → t.turns ≤ s.turns → t.can_fail ≡ s.can_fail → SourceMoves May s t
+moves_none May s t h a l f u c = record { holds = h; ids = []; asked = a ∙ sym (append-nil s.asked); may = λ id n. absurd cc; live = λ id on. inl (l id on); faults = f; turns = u; can_fail = c }
 
 pub moves_self : (May : ℕ → Type 0) (s : SourceState) → SourceMoves May s s
-moves_self May s = moves_none May s s refl refl (omega arith) (omega arith) refl
+moves_self May s = moves_none May s s refl refl (λ id on. on) (omega arith) (omega arith) refl
 
 among_both : (xs ys : List ℕ) (id : ℕ) → is_among (xs ++ ys) id ≡ (is_among xs id || is_among ys id)
 among_both [] ys id = refl
@@ -28,20 +28,47 @@ moves_then May r s t p q = record {
   ids = p.ids ++ q.ids;
   asked = q.asked ∙ ap (λ xs. xs ++ q.ids) p.asked ∙ append_assoc r.asked p.ids q.ids;
   may = λ id n. go id (is_among p.ids id) refl (sym (among_both p.ids q.ids id) ∙ n);
+  live = λ id on. was id (q.live id on);
   faults = let f = p.faults in let h = q.faults in omega arith;
   turns = let f = p.turns in let h = q.turns in omega arith;
   can_fail = q.can_fail ∙ p.can_fail;
 }
   where
+    Was : ℕ → Type 0
+    Was id = (r.live id ≡ true) ⊎ (is_among (p.ids ++ q.ids) id ≡ true)
+
+    before : (id : ℕ) → (r.live id ≡ true) ⊎ (is_among p.ids id ≡ true) → Was id
+    before id (inl on) = inl on
+    before id (inr m) = inr (among_both p.ids q.ids id ∙ ap (λ b. b || is_among q.ids id) m)
+
+    was : (id : ℕ) → (s.live id ≡ true) ⊎ (is_among q.ids id ≡ true) → Was id
+    was id (inl on) = before id (p.live id on)
+    was id (inr m) = inr (among_both p.ids q.ids id ∙ ap (λ b. is_among p.ids id || b) m ∙ or_true (is_among p.ids id))
+      where
+        or_true : (b : Bool) → (b || true) ≡ true
+        or_true true = refl
+        or_true false = refl
+
     go : (id : ℕ) (b : Bool) → is_among p.ids id ≡ b → (is_among p.ids id || is_among q.ids id) ≡ true → May id
     go id true e n = p.may id e
     go id false e n = q.may id (rw e at n)
 
 pub moves_weaker : (May Can : ℕ → Type 0) (s t : SourceState) → ((id : ℕ) → May id → Can id) → SourceMoves May s t → SourceMoves Can s t
-moves_weaker May Can s t w p = record { holds = p.holds; ids = p.ids; asked = p.asked; may = λ id n. w id (p.may id n); faults = p.faults; turns = p.turns; can_fail = p.can_fail }
+moves_weaker May Can s t w p = record { holds = p.holds; ids = p.ids; asked = p.asked; may = λ id n. w id (p.may id n); live = p.live; faults = p.faults; turns = p.turns; can_fail = p.can_fail }
 
 pub moves_stay : (May : ℕ → Type 0) (s t : SourceState) → Stays s t → SourceMoves May s t
-moves_stay May s t h = moves_none May s t h.holds h.asked h.faults h.turns h.can_fail
+moves_stay May s t h = moves_none May s t h.holds h.asked (λ id on. sym (ap (λ (f : ℕ → Bool). f id) h.live) ∙ on) h.faults h.turns h.can_fail
+
+-- a request that ends
+ended_live : (id : ℕ) (live now : ℕ → Bool) → now ≡ without_live id live → (k : ℕ) → now k ≡ true → live k ≡ true
+ended_live id live now e k on = go (nat_eq k id) (sym (ap (λ (f : ℕ → Bool). f k) e) ∙ on)
+  where
+    go : (b : Bool) → cond b false (live k) ≡ true → live k ≡ true
+    go true h = absurd cc
+    go false h = h
+
+pub moves_ends : (May : ℕ → Type 0) (id : ℕ) (s t : SourceState) → Ends id s t → SourceMoves May s t
+moves_ends May id s t h = moves_none May s t h.holds h.asked (ended_live id s.live t.live h.live) h.faults h.turns h.can_fail
 
 pub moves_asks : (May : ℕ → Type 0) (o : Option (List ℕ)) (id : ℕ) (s t : SourceState) → May id → Asks o id s t → SourceMoves May s t
 moves_asks May (Some places) id s t m h = subst (SourceMoves May s) (sym h) (moves_self May s)
@@ -50,11 +77,16 @@ moves_asks May None id s t m h = record {
   ids = id ∷ [];
   asked = h.asked;
   may = λ k n. go k (eqb id k) refl n;
+  live = λ k on. begun k (nat_eq k id) refl (sym (ap (λ (f : ℕ → Bool). f k) h.live) ∙ on);
   faults = h.faults;
   turns = h.turns;
   can_fail = h.can_fail;
 }
   where
+    begun : (k : ℕ) (b : Bool) → nat_eq k id ≡ b → cond (nat_eq k id) true (s.live k) ≡ true → (s.live k ≡ true) ⊎ (is_among (id ∷ []) k ≡ true)
+    begun k true e on = let same : id ≡ k = grind (arith, nat_tests) in inr (let m : eqb id k ≡ true = grind (arith, nat_tests) in rw m refl)
+    begun k false e on = inl (rw e at on)
+
     go : (k : ℕ) (b : Bool) → eqb id k ≡ b → is_among (id ∷ []) k ≡ true → May k
     go k true e n = let same : id ≡ k = grind (arith, nat_tests) in subst May same m
     go k false e n = let bad : false ≡ true = rw e at n in absurd cc

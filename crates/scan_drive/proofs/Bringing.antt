@@ -12,7 +12,7 @@ use Rattle.scan_splits.specs.declared.inbox.Arrival.{Arrival}
 use Rattle.scan_drive.specs.Desks.{Waiters, waiters_at, waits, is_in, live_ids, Moves}
 use Rattle.scan_drive.specs.Fetches.{WaitOn, BringsNearer}
 use Rattle.scan_drive.specs.Links.{Linked}
-use Rattle.scan_drive.specs.Measures.{IsNearer, Advances, EachAdvances}
+use Rattle.scan_drive.specs.Measures.{IsNearer, EachAdvances}
 use Rattle.scan_drive.specs.Slots.{slot_at, stage_waits, at_each, handed, given_up}
 use Rattle.scan_drive.specs.Splits.{SplitState}
 use Rattle.scan_drive.specs.Drives.{desk_at, BringsFileNearer}
@@ -59,7 +59,8 @@ module _ {W I R : Type 0} (split : W → SplitState I) where
   pub lost_advances : (file id : ℕ) (h : Halt) (places : List ℕ) (d : Waiters) (slots : List (Slot W R)) → Linked file d slots → waiters_at d id ≡ Some places → no_repeats places ≡ true → EachAdvances split slots (at_each (given_up h) places slots)
   lost_advances file id h places d slots l is once = all_each split id (given_up h) places slots (take_all file id places d slots l is) once (λ s t. advances_lost split h s)
 
-  ended_nearer : (file id : ℕ) (f : Slot W R → Slot W R) (places : List ℕ) (s t : SourceState) (d : Waiters) (slots : List (Slot W R)) → Linked file d slots → waiters_at d id ≡ Some places → no_repeats places ≡ true → ((x : Slot W R) → stage_waits x.stage id ≡ true → IsNearer split x (f x)) → BringsNearer split id s t d slots (at_each f places slots)
+  ended_nearer : (file id : ℕ) (f : Slot W R → Slot W R) (places : List ℕ) (s t : SourceState) (d : Waiters) (slots : List (Slot W R)) → Linked file d slots → waiters_at d id ≡ Some places
+      → no_repeats places ≡ true → ((x : Slot W R) → stage_waits x.stage id ≡ true → IsNearer split x (f x)) → BringsNearer split id s t d slots (at_each f places slots)
   ended_nearer file id f places s t d slots l is once h place w v =
       let m : is_among places place ≡ true = sym (ap (λ o. is_in o place) is) ∙ w in
       let at : slot_at (at_each f places slots) place ≡ f (slot_at slots place) = each_at id f places slots place (take_all file id places d slots l is) once ∙ ap (λ b. cond b (f (slot_at slots place)) (slot_at slots place)) m in
@@ -122,7 +123,9 @@ module _ {W I R : Type 0} (split : W → SplitState I) where
   pub fetching_skip : (x : ℕ) (ids rest : List ℕ) (s t : SourceState) (d e : Waiters) (old now : List (Slot W R)) → Fetching ids (x ∷ rest) s t d e old now → is_some (waiters_at e x) ≡ false → Fetching ids rest s t d e old now
   fetching_skip x ids rest s t d e old now h off = record { turns = h.turns; at = λ id place m w v. go id place (h.at id place m w v) }
     where
-      go : (id place : ℕ) → ((t.turns < s.turns) ⊎ IsNearer split (slot_at old place) (slot_at now place)) ⊎ ((is_among (x ∷ rest) id ≡ true) × (waits e id place ≡ true) × (slot_at now place ≡ slot_at old place)) → ((t.turns < s.turns) ⊎ IsNearer split (slot_at old place) (slot_at now place)) ⊎ ((is_among rest id ≡ true) × (waits e id place ≡ true) × (slot_at now place ≡ slot_at old place))
+      go : (id place : ℕ) → ((t.turns < s.turns) ⊎ IsNearer split (slot_at old place) (slot_at now place))
+          ⊎ ((is_among (x ∷ rest) id ≡ true) × (waits e id place ≡ true) × (slot_at now place ≡ slot_at old place))
+          → ((t.turns < s.turns) ⊎ IsNearer split (slot_at old place) (slot_at now place)) ⊎ ((is_among rest id ≡ true) × (waits e id place ≡ true) × (slot_at now place ≡ slot_at old place))
       go id place (inl n) = inl n
       go id place (inr r) = cases (cases_eq x id)
         where
@@ -143,7 +146,8 @@ module _ {O S W I R : Type 0} (source : S → SourceState) (split : W → SplitS
   pub first_none : (first : ℕ) (files : List (ScanFile O S)) (desks : List Waiters) (slots : List (Slot W R)) → FirstNearer first first files files desks desks slots slots
   first_none first files desks slots = record { before = λ e. (refl, refl, refl); after = λ lt. absurd (omega arith) }
 
-  pub first_next : (first k : ℕ) (files0 files : List (ScanFile O S)) (desks0 desks : List Waiters) (slots0 slots new : List (Slot W R)) (x y : ScanFile O S) (d e : Waiters) → first ≤ k → k < length files → k < length desks → x ≡ get_or files k x → d ≡ get_or desks k d → FirstNearer first k files0 files desks0 desks slots0 slots → EachAdvances split slots new →
+  pub first_next : (first k : ℕ) (files0 files : List (ScanFile O S)) (desks0 desks : List Waiters) (slots0 slots new : List (Slot W R)) (x y : ScanFile O S) (d e : Waiters) → first ≤ k
+      → k < length files → k < length desks → x ≡ get_or files k x → d ≡ get_or desks k d → FirstNearer first k files0 files desks0 desks slots0 slots → EachAdvances split slots new →
       ((id : ℕ) → BringsNearer split id (source x.source) (source y.source) d slots new) → FirstNearer first (k + 1) files0 (set files k y) desks0 (set desks k e) slots0 new
   first_next first k files0 files desks0 desks slots0 slots new x y d e le lt dlt at dat h adv near = record {
     before = λ is. absurd (omega arith);
@@ -165,6 +169,7 @@ module _ {O S W I R : Type 0} (source : S → SourceState) (split : W → SplitS
           (subst (λ (ss : List (Slot W R)). ((source y.source).turns < (source x.source).turns) ⊎ IsNearer split (slot_at ss place) (slot_at new place)) same.2 now))
       go (inr n) f id place w v = later (h.after (omega (arith, le, n)) f id place w v)
         where
-          later : ((source (get_or files first f).source).turns < (source (get_or files0 first f).source).turns) ⊎ IsNearer split (slot_at slots0 place) (slot_at slots place) → ((source (get_or (set files k y) first f).source).turns < (source (get_or files0 first f).source).turns) ⊎ IsNearer split (slot_at slots0 place) (slot_at new place)
+          later : ((source (get_or files first f).source).turns < (source (get_or files0 first f).source).turns) ⊎ IsNearer split (slot_at slots0 place) (slot_at slots place)
+              → ((source (get_or (set files k y) first f).source).turns < (source (get_or files0 first f).source).turns) ⊎ IsNearer split (slot_at slots0 place) (slot_at new place)
           later (inl l) = inl (subst (λ (z : ScanFile O S). (source z.source).turns < (source (get_or files0 first f).source).turns) (sym (get_or-set_other files k first y f (λ q. n (sym q)))) l)
           later (inr m) = inr (nearer_then split (slot_at slots0 place) (slot_at slots place) (slot_at new place) m (adv.at place))

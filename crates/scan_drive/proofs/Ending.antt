@@ -1,8 +1,7 @@
 -- How a drive ends, and what it has given then.
-use Rattle.std.proofs.Common.{◌≡◌, ◌≢◌, ℕ, suc, zero, ◌+◌, ◌-◌, ◌<◌, ◌≤◌, List, [], ◌∷◌, ◌++◌, length, Bool, true, false, Option, Some, None, IfSome, inl, inr, refl, sym, ap, ◌∙◌, subst, arith, append_assoc, append-nil, length-set}
+use Rattle.std.proofs.Common.{◌≡◌, ◌≢◌, ℕ, suc, ◌+◌, ◌<◌, ◌≤◌, List, [], ◌∷◌, ◌++◌, length, Bool, true, false, Option, Some, None, inl, inr, refl, sym, ap, ◌∙◌, subst, arith, append_assoc, append-nil}
 use Rattle.std.specs.Prelude.{◌⊎◌}
 use Rattle.std.proofs.lemmas.Bool.{cases_eq}
-use Rattle.std.proofs.lemmas.List.{get_or_default}
 use Rattle.scan_segments.specs.Source.{Store}
 use Rattle.scan_splits.specs.Arrivals.{Arrivals}
 use Rattle.scan_drive.specs.Actives.{AllOk, groups_left, groups_in}
@@ -16,10 +15,9 @@ use Rattle.scan_drive.specs.Losses.{HaltsStay}
 use Rattle.scan_drive.specs.Measures.{slots_steps}
 use Rattle.scan_drive.specs.Turns.{TurnsWait, IsTooMany, FitsIn}
 use Rattle.scan_drive.specs.declared.phase.Tally.{Tally}
-use Rattle.scan_drive.specs.Files.{Group, Told, told_at, AllTell, answer, limited, cut, count}
-use Rattle.scan_drive.specs.Moves.{KeepsRest}
+use Rattle.scan_drive.specs.Files.{Told, told_at, AllTell, answer, limited, cut, count}
 use Rattle.scan_drive.specs.Phases.{phase_at, phase_left, PhaseOk, PhasesOk, SpentBelow, rest, rest_from}
-use Rattle.scan_drive.specs.Rounds.{Sound, Stands, IsReady, AreAsking, AskNamed, IsEnd}
+use Rattle.scan_drive.specs.Rounds.{Sound, IsReady, AreAsking, AskNamed, IsEnd}
 use Rattle.scan_drive.specs.Splits.{SplitState, Event}
 use Rattle.scan_drive.specs.declared.active.Active.{Active}
 use Rattle.scan_drive.specs.declared.phase.Phase.{Phase}
@@ -35,6 +33,14 @@ module _ {W I F : Type 0} (split : W → SplitState I) (comes : W → Arrivals �
   rest_spent place [] ps h = refl
   rest_spent place (t ∷ ts) [] h = refl
   rest_spent place (t ∷ ts) (p ∷ ps) h = ap (λ gs. gs ++ rest_from split comes (place + 1) ts ps) (spent_left split comes place t p (h 0 (omega arith))) ∙ rest_spent (place + 1) ts ps (λ k lt. h (suc k) (omega (arith, lt)))
+
+module _ {W I R : Type 0} (split : W → SplitState I) (comes : W → Arrivals → Store → Event → Type 0) (items : R → List I) where
+  -- no limit is met where there is none
+  pub cut_none : (a : Active W R) (chunks chunks' : List (Rattle.scan_drive.specs.declared.delivery.Chunk.Chunk R)) (left : Option ℕ) → left ≡ None → IsCut split comes items a chunks chunks' left → ⊥
+  cut_none a chunks chunks' left e c = bad (sym (ap (limit_of (count (given items chunks))) e) ∙ c.was)
+    where
+      bad : None ≡ Some c.most → ⊥
+      bad q = absurd cc
 
 module _ {W I R F : Type 0} (split : W → SplitState I) (comes : W → Arrivals → Store → Event → Type 0) (items : R → List I) where
   -- all is given
@@ -62,14 +68,17 @@ module _ {W I R F : Type 0} (split : W → SplitState I) (comes : W → Arrivals
           sym (ap (λ l. limited (limit_of (count g) l) (answer tale)) e ∙ ap (cut (count g + n)) (sym all_given) ∙ cut_is ∙ all_given)
 
   -- the limit is met
-  pub done_cut : (tale : List (Told I)) (d : Drive W R F) (chunks : List (Rattle.scan_drive.specs.declared.delivery.Chunk.Chunk R)) → IsCut split comes items d.active d.chunks.items chunks d.left → Sound split comes items tale d → AllTell tale → given items chunks ≡ limited (limit_in split comes items d) (answer tale)
+  pub done_cut : (tale : List (Told I)) (d : Drive W R F) (chunks : List (Rattle.scan_drive.specs.declared.delivery.Chunk.Chunk R)) → IsCut split comes items d.active d.chunks.items chunks d.left
+      → Sound split comes items tale d → AllTell tale → given items chunks ≡ limited (limit_in split comes items d) (answer tale)
   done_cut tale d chunks c s all =
       c.groups tale all s.ok (rest split comes tale d.phases.items)
       ∙ ap (cut c.most) (s.sums all)
       ∙ sym (ap (λ l. limited l (answer tale)) c.was)
 
   -- rows were given
-  pub sound_more : (tale : List (Told I)) (d e : Drive W R F) → IsMore split comes items d.active e.active d.chunks.items e.chunks.items d.left e.left → (AllOk split comes items tale d.active → AllOk split comes items tale e.active) → e.phases.items ≡ d.phases.items → e.tally ≡ d.tally → Sound split comes items tale d → Sound split comes items tale e
+  pub sound_more : (tale : List (Told I)) (d e : Drive W R F) → IsMore split comes items d.active e.active d.chunks.items e.chunks.items d.left e.left
+      → (AllOk split comes items tale d.active → AllOk split comes items tale e.active) → e.phases.items ≡ d.phases.items → e.tally ≡ d.tally → Sound split comes items tale d
+      → Sound split comes items tale e
   sound_more tale d e m ok p t s = record {
     phases = subst (λ ps. PhasesOk split comes tale ps) (sym p) s.phases;
     ok = ok s.ok;
@@ -82,11 +91,14 @@ module _ {W I R F : Type 0} (split : W → SplitState I) (comes : W → Arrivals
         ∙ s.sums all;
   }
 
-  pub stops_more : (tale : List (Told I)) (d e : Drive W R F) → IsMore split comes items d.active e.active d.chunks.items e.chunks.items d.left e.left → (AllOk split comes items tale d.active → AllOk split comes items tale e.active) → e.phases.items ≡ d.phases.items → e.tally ≡ d.tally → Sound split comes items tale d → StopsAt split comes items tale d e
+  pub stops_more : (tale : List (Told I)) (d e : Drive W R F) → IsMore split comes items d.active e.active d.chunks.items e.chunks.items d.left e.left
+      → (AllOk split comes items tale d.active → AllOk split comes items tale e.active) → e.phases.items ≡ d.phases.items → e.tally ≡ d.tally → Sound split comes items tale d
+      → StopsAt split comes items tale d e
   stops_more tale d e m ok p t s = (sound_more tale d e m ok p t s, m.counts.room, m.counts.limit)
 
   -- a file is not read, and all before it is given
-  pub stops_file : (tale : List (Told I)) (d e f : Drive W R F) (i : ℕ) (why : F) → phase_at e.phases.items i ≡ phase.Held why → Forgets i e.phases.items f.phases.items → f.active ≡ e.active → f.chunks ≡ e.chunks → f.tally ≡ e.tally → f.left ≡ e.left → StopsAt split comes items tale d e → StopsAt split comes items tale d f
+  pub stops_file : (tale : List (Told I)) (d e f : Drive W R F) (i : ℕ) (why : F) → phase_at e.phases.items i ≡ phase.Held why → Forgets i e.phases.items f.phases.items → f.active ≡ e.active
+      → f.chunks ≡ e.chunks → f.tally ≡ e.tally → f.left ≡ e.left → StopsAt split comes items tale d e → StopsAt split comes items tale d f
   stops_file tale d e f i why held g active chunks tally left s = (
     record {
       phases = λ k. phases k (cases_eq k i);
@@ -106,12 +118,16 @@ module _ {W I R F : Type 0} (split : W → SplitState I) (comes : W → Arrivals
       phases k (inr ne) = subst (PhaseOk split comes (told_at tale k)) (sym (g.others k ne)) (s.0.phases k)
 
       keeps : (k : ℕ) → (k ≡ i) ⊎ (k ≢ i) → phase_left split comes k (told_at tale k) (phase_at f.phases.items k) ≡ phase_left split comes k (told_at tale k) (phase_at e.phases.items k)
-      keeps k (inl is) = subst (λ j. phase_left split comes j (told_at tale j) (phase_at f.phases.items j) ≡ phase_left split comes j (told_at tale j) (phase_at e.phases.items j)) (sym is) (ap (phase_left split comes i (told_at tale i)) g.here ∙ sym (ap (phase_left split comes i (told_at tale i)) held))
+      keeps k (inl is) = subst (λ j. phase_left split comes j (told_at tale j) (phase_at f.phases.items j) ≡ phase_left split comes j (told_at tale j) (phase_at e.phases.items j)) (sym is)
+          (ap (phase_left split comes i (told_at tale i)) g.here ∙ sym (ap (phase_left split comes i (told_at tale i)) held))
       keeps k (inr ne) = ap (phase_left split comes k (told_at tale k)) (g.others k ne)
 
   -- splits were polled and their rows given
-  pub settled : (asking : List ℕ) (d e : Drive W R F) → e.phases.items ≡ d.phases.items → e.first ≡ d.first → e.tally ≡ d.tally → e.report ≡ d.report → ((n : ℕ) → IsReady n d.active → IsReady n e.active) → HaltsStay d.active.slots.items e.active.slots.items → AreAsking asking e.active.slots.items → no_repeats asking ≡ true →
-      ((desks : List Waiters) → EachLinked desks d.active.slots.items → EachLinkedBut asking desks e.active.slots.items) → ((tale : List (Told I)) → AllOk split comes items tale d.active → AskNamed tale asking e.active.slots.items) → ((tale : List (Told I)) → AllOk split comes items tale d.active → AllOk split comes items tale e.active) →
+  pub settled : (asking : List ℕ) (d e : Drive W R F) → e.phases.items ≡ d.phases.items → e.first ≡ d.first → e.tally ≡ d.tally → e.report ≡ d.report
+      → ((n : ℕ) → IsReady n d.active → IsReady n e.active) → HaltsStay d.active.slots.items e.active.slots.items → AreAsking asking e.active.slots.items → no_repeats asking ≡ true →
+      ((desks : List Waiters) → EachLinked desks d.active.slots.items → EachLinkedBut asking desks e.active.slots.items)
+      → ((tale : List (Told I)) → AllOk split comes items tale d.active → AskNamed tale asking e.active.slots.items)
+      → ((tale : List (Told I)) → AllOk split comes items tale d.active → AllOk split comes items tale e.active) →
       IsMore split comes items d.active e.active d.chunks.items e.chunks.items d.left e.left →
       TurnsWait e.active × ((slots_steps split e.active.slots.items < slots_steps split d.active.slots.items) ⊎ ((slots_steps split e.active.slots.items ≤ slots_steps split d.active.slots.items) × (e.active.turns.items ≡ d.active.turns.items))) →
       (e.active.turns.items ≡ [] → IsEnd e.first e.tally e.phases.items → ⊥) → Settles split comes items asking d e
@@ -134,6 +150,7 @@ module _ {W I R F : Type 0} (split : W → SplitState I) (comes : W → Arrivals
     named = named;
     sound = λ tale s. sound_more tale d e more (ok tale) p t s;
     limit = more.counts.limit;
+    order = more.order;
     waits = steps.0;
     goes = goes;
     steps = steps.1;

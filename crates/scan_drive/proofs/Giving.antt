@@ -16,6 +16,7 @@ use Rattle.scan_drive.specs.declared.slot.Halt.TheVariants as halt
 use Rattle.scan_drive.specs.declared.slot.Slot.{Slot}
 use Rattle.scan_drive.specs.declared.slot.Stage.TheVariants as stage
 use Rattle.scan_drive.proofs.Handing.{among_head, among_later}
+use Rattle.scan_drive.proofs.Ordering.{order_none, order_then, order_stays, order_rows}
 use Rattle.scan_drive.proofs.Resting.{groups_others}
 use Rattle.scan_drive.proofs.Seating.{apart_front}
 
@@ -109,7 +110,7 @@ module _ {W I R : Type 0} (split : W → SplitState I) (comes : W → Arrivals �
 
   -- nothing is given yet
   pub more_none : (a : Active W R) (chunks : List (Chunk R)) (left : Option ℕ) → HasRoom left → IsMore split comes items a a chunks chunks left left
-  more_none a chunks left room = record { groups = λ tale all ok. refl; counts = record { limit = refl; room = room } }
+  more_none a chunks left room = record { groups = λ tale all ok. refl; counts = record { limit = refl; room = room }; order = order_none a }
 
   stays_groups : (tale : List (Told I)) (old new : Active W R) → Stays old new → groups_left split comes items tale new ≡ groups_left split comes items tale old
   stays_groups tale old new s = ap (λ ts. groups_in split comes items tale ts.items new.slots.items) s.turns ∙ ap (groups_in split comes items tale old.turns.items) s.slots
@@ -118,7 +119,7 @@ module _ {W I R : Type 0} (split : W → SplitState I) (comes : W → Arrivals �
   stays_ok tale old new s ok q m = subst (λ (slots : List (Slot W R)). SlotOk split comes items tale (slot_at slots q)) (sym s.slots) (ok q (sym (ap (λ ts. is_among ts.items q) s.turns) ∙ m))
 
   pub more_stays : (old mid new : Active W R) (chunks chunks' : List (Chunk R)) (left left' : Option ℕ) → IsMore split comes items old mid chunks chunks' left left' → Stays mid new → IsMore split comes items old new chunks chunks' left left'
-  more_stays old mid new chunks chunks' left left' m s = record { groups = λ tale all ok. ap (λ gs. given items chunks' ++ gs) (stays_groups tale mid new s) ∙ m.groups tale all ok; counts = m.counts }
+  more_stays old mid new chunks chunks' left left' m s = record { groups = λ tale all ok. ap (λ gs. given items chunks' ++ gs) (stays_groups tale mid new s) ∙ m.groups tale all ok; counts = m.counts; order = order_then old mid new m.order (order_stays mid new s) }
 
   -- the rows of the split whose turn it is are given
   pub more_rows : (file : ℕ) (rows : R) (old mid new : Active W R) (chunks now chunks' : List (Chunk R)) (left here left' : Option ℕ) → Seated mid → ((tale : List (Told I)) → AllOk split comes items tale old → AllOk split comes items tale mid) →
@@ -130,6 +131,7 @@ module _ {W I R : Type 0} (split : W → SplitState I) (comes : W → Arrivals �
         ∙ ap (λ gs. given items now ++ gs) (sym (front_groups tale file rows mid new seats f all (keeps tale ok)))
         ∙ m.groups tale all ok;
     counts = record { limit = g.counts.limit ∙ m.counts.limit; room = g.counts.room };
+    order = order_then old mid new m.order (order_rows file rows mid new f);
   }
 
   -- the first of them are, and the limit is met

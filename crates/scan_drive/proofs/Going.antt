@@ -1,5 +1,5 @@
 -- A round keeps how the state of a drive stands for its answer.
-use Rattle.std.proofs.Common.{◌≡◌, ℕ, ◌+◌, ◌<◌, ◌≤◌, List, [], ◌∷◌, ◌++◌, length, get_or, Bool, true, false, Some, inl, inr, refl, sym, ap, ◌∙◌, subst, arith}
+use Rattle.std.proofs.Common.{◌≡◌, ℕ, ◌+◌, ◌<◌, ◌≤◌, List, [], ◌∷◌, ◌++◌, length, get_or, true, false, inl, inr, refl, sym, ap, ◌∙◌, subst, arith}
 use Rattle.std.specs.Prelude.{◌⊎◌}
 use Rattle.scan_values.specs.Selections.{is_among}
 use Rattle.scan_segments.specs.Source.{SourceState, Store}
@@ -15,16 +15,14 @@ use Rattle.scan_drive.specs.Measures.{is_there, slots_steps, EachAdvances}
 use Rattle.scan_drive.specs.Moves.{IsNamed, KeepsSources, EachMoves, tell, tells}
 use Rattle.scan_drive.specs.Openers.{OpenerState}
 use Rattle.scan_drive.specs.Phases.{rest}
-use Rattle.scan_drive.specs.Rounds.{IsReady, Stands, Sound, IsEnd, ServesFront, files_turns, steps_left}
+use Rattle.scan_drive.specs.Rounds.{Stands, Sound, IsEnd, ServesFront, files_turns, steps_left}
 use Rattle.scan_drive.specs.Slots.{slot_at, is_read, is_reading, is_halted, HasNews}
 use Rattle.scan_drive.specs.Splits.{SplitState, Event}
-use Rattle.scan_drive.specs.Trades.{CacheAgrees, FilesTrade}
+use Rattle.scan_drive.specs.Trades.{FilesTrade}
 use Rattle.scan_drive.specs.Turns.{TurnsWait, FrontWaits}
 use Rattle.scan_drive.specs.Wants.{Cache}
-use Rattle.scan_drive.specs.declared.active.Active.{Active}
 use Rattle.scan_drive.specs.declared.files.ScanFile.{ScanFile}
 use Rattle.scan_drive.specs.declared.round.Drive.{Drive}
-use Rattle.scan_drive.specs.declared.slot.Slot.{Slot}
 use Rattle.scan_drive.specs.declared.slot.Stage.{Stage}
 use Rattle.scan_drive.specs.declared.slot.Stage.TheVariants as stage
 use Rattle.scan_drive.proofs.Asked.{reading_there}
@@ -55,7 +53,9 @@ is_read_on (stage.Halted x k) t r h = absurd cc
 
 module _ {O S W I R F : Type 0} (state : O → OpenerState I) (polls : O → O → Type 0) (source : S → SourceState) (split : W → SplitState I) (comes : W → Arrivals → Store → Event → Type 0) (items : R → List I) where
   -- files after a whole round, which were asked only for what they name, where the drive was sound
-  pub moves_all : (asking : List ℕ) (a b c : List (ScanFile O S)) (d0 d1 d2 : Drive W R F) → EachMoves state polls source (Unit {0}) a b → (Sound split comes items (tells state source a) d0 → Sound split comes items (tells state source a) d1) → Settles split comes items asking d1 d2 → Stands (length a) d2 → SourcesMove source (IsWantedBy asking d2.active.slots.items) b c → EachMoves state polls source (Sound split comes items (tells state source a) d0) a c
+  pub moves_all : (asking : List ℕ) (a b c : List (ScanFile O S)) (d0 d1 d2 : Drive W R F) → EachMoves state polls source (Unit {0}) a b
+      → (Sound split comes items (tells state source a) d0 → Sound split comes items (tells state source a) d1) → Settles split comes items asking d1 d2 → Stands (length a) d2
+      → SourcesMove source (IsWantedBy asking d2.active.slots.items) b c → EachMoves state polls source (Sound split comes items (tells state source a) d0) a c
   moves_all asking a b c d0 d1 d2 m sound s stands n =
       each_then state polls source If a b c (each_under state polls source (Unit {0}) If (λ h. tt) a b m) (each_sources state polls source If (IsWantedBy asking d2.active.slots.items) b c n named)
     where
@@ -70,7 +70,9 @@ module _ {O S W I R F : Type 0} (state : O → OpenerState I) (polls : O → O �
           subst (λ (t : Told I). IsNamed t id) told (s.named (tells state source a) (sound h).ok k id w)
 
   -- slots after wants and polls
-  pub sound_served : (a b : List (ScanFile O S)) (d e : Drive W R F) → EachMoves state polls source (Unit {0}) a b → EachAdvances split d.active.slots.items e.active.slots.items → SlotsKeep source split comes items b d.active.slots.items e.active.slots.items → e.active.turns ≡ d.active.turns → e.phases ≡ d.phases → e.chunks ≡ d.chunks → e.tally ≡ d.tally → Stands (length a) d →
+  pub sound_served : (a b : List (ScanFile O S)) (d e : Drive W R F) → EachMoves state polls source (Unit {0}) a b → EachAdvances split d.active.slots.items e.active.slots.items
+      → SlotsKeep source split comes items b d.active.slots.items e.active.slots.items → e.active.turns ≡ d.active.turns → e.phases ≡ d.phases → e.chunks ≡ d.chunks → e.tally ≡ d.tally
+      → Stands (length a) d →
       Sound split comes items (tells state source a) d → Sound split comes items (tells state source a) e
   sound_served a b d e m adv keep turns phases chunks tally stands s = record {
     phases = subst (λ ps. Rattle.scan_drive.specs.Phases.PhasesOk split comes tale ps.items) (sym phases) s.phases;
@@ -97,13 +99,17 @@ module _ {O S W I R F : Type 0} (state : O → OpenerState I) (polls : O → O �
           let same : told_at tale k ≡ tell state source (get_or b k f) = get_or-map state polls source (Unit {0}) a k untold f lt ∙ sym (told_same state polls source (Unit {0}) (get_or a k f) (get_or b k f) (m.at k f)) in
           keep f p store q (sym (ap (λ (t : Told I). t.store) same) ∙ told)))
 
-  pub stands_served : (n : ℕ) (d e : Drive W R F) → EachAdvances split d.active.slots.items e.active.slots.items → (HasNews d.active.slots.items d.active.news.items → HasNews e.active.slots.items e.active.news.items) → e.active.turns ≡ d.active.turns → e.active.free ≡ d.active.free → e.phases ≡ d.phases → e.first ≡ d.first → e.left ≡ d.left → Stands n d → Stands n e
+  pub stands_served : (n : ℕ) (d e : Drive W R F) → EachAdvances split d.active.slots.items e.active.slots.items
+      → (HasNews d.active.slots.items d.active.news.items → HasNews e.active.slots.items e.active.news.items) → e.active.turns ≡ d.active.turns → e.active.free ≡ d.active.free → e.phases ≡ d.phases
+      → e.first ≡ d.first → e.left ≡ d.left → Stands n d → Stands n e
   stands_served n d e adv news turns free phases first left s = record {
     lens = ap (λ ps. length ps.items) phases ∙ s.lens;
     first = subst (λ k. k ≤ n) (sym first) s.first;
     below = subst (λ k. Rattle.scan_drive.specs.Phases.SpentBelow e.phases.items k) (sym first) (subst (λ ps. Rattle.scan_drive.specs.Phases.SpentBelow ps.items d.first) (sym phases) s.below);
     ready = record {
-      seated = subst (λ ts. Rattle.scan_drive.specs.Actives.AreSeats ts.items e.active.free.items e.active.slots.items) (sym turns) (subst (λ fs. Rattle.scan_drive.specs.Actives.AreSeats d.active.turns.items fs.items e.active.slots.items) (sym free) (seated_advances split d.active.turns.items d.active.free.items d.active.slots.items e.active.slots.items adv s.ready.seated));
+      seated = subst (λ ts. Rattle.scan_drive.specs.Actives.AreSeats ts.items e.active.free.items e.active.slots.items) (sym turns)
+          (subst (λ fs. Rattle.scan_drive.specs.Actives.AreSeats d.active.turns.items fs.items e.active.slots.items) (sym free)
+          (seated_advances split d.active.turns.items d.active.free.items d.active.slots.items e.active.slots.items adv s.ready.seated));
       filled = λ q m. (adv.at q).there ∙ s.ready.filled q (sym (ap (λ ts. is_among ts.items q) turns) ∙ m);
       within = within_advances split n d.active.slots.items e.active.slots.items adv s.ready.within;
       news = news s.ready.news;
@@ -177,9 +183,15 @@ module _ {W I R F : Type 0} (split : W → SplitState I) (comes : W → Arrivals
   limit_same d e c l = λ i. Rattle.scan_drive.specs.Chunks.limit_of (Rattle.scan_drive.specs.Files.count (given items (c i).items)) (l i)
 
 -- sources alone have moved: why files are not read stays
-pub why_same : {O S W I F : Type 0} (state : O → OpenerState I) (polls : O → O → Type 0) (refuses : O → O → F → Type 0) (source : S → SourceState) (May : ℕ → ℕ → Type 0) (files mid now : List (ScanFile O S)) → SourcesMove source May mid now → (old : List (Rattle.scan_drive.specs.declared.phase.Phase.Phase W F)) (ps new : List (Rattle.scan_drive.specs.declared.phase.Phase.Phase W F)) → new ≡ ps → Rattle.scan_drive.specs.Moves.HoldsWhy state polls refuses files mid old ps → Rattle.scan_drive.specs.Moves.HoldsWhy state polls refuses files now old new
+pub why_same : {O S W I F : Type 0} (state : O → OpenerState I) (polls : O → O → Type 0) (refuses : O → O → F → Type 0) (source : S → SourceState) (May : ℕ → ℕ → Type 0)
+    (files mid now : List (ScanFile O S)) → SourcesMove source May mid now → (old : List (Rattle.scan_drive.specs.declared.phase.Phase.Phase W F))
+    (ps new : List (Rattle.scan_drive.specs.declared.phase.Phase.Phase W F)) → new ≡ ps → Rattle.scan_drive.specs.Moves.HoldsWhy state polls refuses files mid old ps
+    → Rattle.scan_drive.specs.Moves.HoldsWhy state polls refuses files now old new
 why_same {O} {S} state polls refuses source May files mid now m old ps new e h k why is = go (h k why (sym (ap (λ qs. Rattle.scan_drive.specs.Phases.phase_at qs k) e) ∙ is))
   where
-    go : (Rattle.scan_drive.specs.Phases.phase_at old k ≡ Rattle.scan_drive.specs.declared.phase.Phase.TheVariants.Held why) ⊎ ((f : ScanFile O S) → Rattle.scan_drive.specs.Openers.IsRefused state polls refuses (get_or files k f).opener (get_or mid k f).opener why) → (Rattle.scan_drive.specs.Phases.phase_at old k ≡ Rattle.scan_drive.specs.declared.phase.Phase.TheVariants.Held why) ⊎ ((f : ScanFile O S) → Rattle.scan_drive.specs.Openers.IsRefused state polls refuses (get_or files k f).opener (get_or now k f).opener why)
+    go : (Rattle.scan_drive.specs.Phases.phase_at old k ≡ Rattle.scan_drive.specs.declared.phase.Phase.TheVariants.Held why)
+        ⊎ ((f : ScanFile O S) → Rattle.scan_drive.specs.Openers.IsRefused state polls refuses (get_or files k f).opener (get_or mid k f).opener why)
+        → (Rattle.scan_drive.specs.Phases.phase_at old k ≡ Rattle.scan_drive.specs.declared.phase.Phase.TheVariants.Held why)
+        ⊎ ((f : ScanFile O S) → Rattle.scan_drive.specs.Openers.IsRefused state polls refuses (get_or files k f).opener (get_or now k f).opener why)
     go (inl was) = inl was
     go (inr r) = inr (λ f. subst (λ (o : O). Rattle.scan_drive.specs.Openers.IsRefused state polls refuses (get_or files k f).opener o why) (sym (m.opener k f)) (r f))

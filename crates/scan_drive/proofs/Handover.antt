@@ -1,23 +1,19 @@
 -- A split wants ids, one after the other: what the cache has is handed to it, and for the others its place waits.
-use Rattle.std.proofs.Common.{◌≡◌, ◌≢◌, ℕ, List, [], ◌∷◌, Bool, true, false, not, ◌||◌, ◌&&◌, cond, eqb, Some, inl, inr, refl, sym, ap, ◌∙◌, subst, arith}
-use Rattle.std.specs.Prelude.{◌⊎◌}
-use Rattle.std.proofs.lemmas.Bool.{cases_eq}
+use Rattle.std.proofs.Common.{◌≡◌, ◌≢◌, ℕ, List, [], ◌∷◌, Bool, true, false, not, ◌||◌, ◌&&◌, cond, eqb, inl, inr, refl, sym, ap, ◌∙◌, subst, arith}
 use Rattle.std.proofs.lemmas.Bool.Decides.{nat_tests}
 use Rattle.scan_values.specs.Selections.{is_among}
-use Rattle.scan_segments.specs.Source.{SourceState, Store}
+use Rattle.scan_segments.specs.Source.{Store}
 use Rattle.scan_segments.specs.declared.segment.SegmentKey.{SegmentKey}
 use Rattle.scan_splits.specs.Arrivals.{Arrivals}
 use Rattle.scan_splits.specs.Wanted.{no_repeats}
 use Rattle.scan_splits.specs.declared.inbox.Arrival.{Arrival}
 use Rattle.scan_splits.specs.declared.inbox.Arrival.TheVariants as arrival
 use Rattle.scan_drive.specs.Asks.{WantsOne, WaitsThere}
-use Rattle.scan_drive.specs.Desks.{Waiters, waiters_at, waits, added, Moves}
+use Rattle.scan_drive.specs.Desks.{Waiters, waits}
 use Rattle.scan_drive.specs.Files.{Part}
 use Rattle.scan_drive.specs.Measures.{Advances}
-use Rattle.scan_drive.specs.Runs.{RunData, run_waits, with_arrival}
-use Rattle.scan_drive.specs.Slots.{stage_waits, stage_handed, handed, MayTake, SlotKeeps}
+use Rattle.scan_drive.specs.Slots.{stage_waits, stage_handed, handed, SlotKeeps}
 use Rattle.scan_drive.specs.Splits.{SplitState, Event, lacks}
-use Rattle.scan_drive.specs.Traffic.{key_of}
 use Rattle.scan_drive.specs.Trades.{Trusts}
 use Rattle.scan_drive.specs.Wants.{Cache}
 use Rattle.scan_drive.specs.declared.slot.Slot.{Slot}
@@ -28,7 +24,6 @@ use Rattle.scan_drive.proofs.Handing.{and_both, not_true}
 use Rattle.scan_drive.proofs.Keeping.{keeps_refl, keeps_handed}
 use Rattle.scan_drive.proofs.Nearing.{advances_refl, advances_handed}
 use Rattle.scan_drive.proofs.Running.{lacks_after}
-use Rattle.scan_drive.proofs.Seating.{or_none}
 use Rattle.scan_drive.proofs.Trading.{trusted}
 
 module _ {W R : Type 0} where

@@ -1,5 +1,5 @@
 -- How much is left, as openers are polled and requests answered.
-use Rattle.std.proofs.Common.{◌≡◌, ◌≢◌, ℕ, suc, zero, ◌+◌, ◌-◌, ◌<◌, ◌≤◌, List, [], ◌∷◌, ◌++◌, length, get_or, Bool, true, false, ◌&&◌, Option, Result, Ok, Err, OnOk, inl, inr, refl, sym, ap, ◌∙◌, subst, arith}
+use Rattle.std.proofs.Common.{◌≡◌, ℕ, suc, zero, ◌+◌, ◌-◌, ◌<◌, ◌≤◌, List, [], ◌∷◌, ◌++◌, length, get_or, Bool, true, false, Result, Ok, Err, OnOk, inl, inr, refl, sym, ap, ◌∙◌, subst, arith}
 use Rattle.std.specs.Prelude.{◌⊎◌, filter}
 use Rattle.scan_values.specs.Selections.{is_among}
 use Rattle.scan_segments.specs.Source.{SourceState, Store}
@@ -8,21 +8,19 @@ use Rattle.scan_drive.specs.Actives.{AllOk, groups_left}
 use Rattle.scan_drive.specs.Chunks.{given}
 use Rattle.scan_drive.specs.Desks.{Waiters, waits}
 use Rattle.scan_drive.specs.Drives.{desk_at, EachLinked, SourcesMove, BringsFileNearer}
-use Rattle.scan_drive.specs.Files.{Told, AllTell, answer}
+use Rattle.scan_drive.specs.Files.{Told}
 use Rattle.scan_drive.specs.Measures.{is_there, slots_steps, phases_steps, IsNearer, Advances, EachAdvances}
-use Rattle.scan_drive.specs.Moves.{EachMoves, AllWait, HoldsWhy, KeepsRest, tells}
+use Rattle.scan_drive.specs.Moves.{EachMoves, AllWait, HoldsWhy, KeepsRest}
 use Rattle.scan_drive.specs.Openers.{OpenerState}
 use Rattle.scan_drive.specs.Phases.{phase_at, IsShut, SpentBelow, PhasesOk, rest}
-use Rattle.scan_drive.specs.Rounds.{IsReady, Stands, IsEnd, Sound, IsFrontFile, ServesFront, files_turns, steps_left}
-use Rattle.scan_drive.specs.Runs.{RunData, run_waits, is_ready, is_nil}
+use Rattle.scan_drive.specs.Rounds.{Stands, IsEnd, Sound, ServesFront, files_turns, steps_left}
+use Rattle.scan_drive.specs.Runs.{is_nil}
 use Rattle.scan_drive.specs.Slots.{slot_at, is_fresh, is_reading, stage_waits, HasNews}
 use Rattle.scan_drive.specs.Splits.{SplitState, Event, lacks}
 use Rattle.scan_drive.specs.Turns.{IsSeated, SameTurns, SeatsOn, seats_steps, IsStuck, IsTally}
-use Rattle.scan_drive.specs.declared.active.Active.{Active}
 use Rattle.scan_drive.specs.declared.files.ScanFile.{ScanFile}
 use Rattle.scan_drive.specs.declared.phase.Phase.{Phase}
 use Rattle.scan_drive.specs.declared.phase.Phase.TheVariants as phase
-use Rattle.scan_drive.specs.declared.phase.Tally.{Tally}
 use Rattle.scan_drive.specs.declared.round.Drive.{Drive}
 use Rattle.scan_drive.specs.declared.slot.Slot.{Slot}
 use Rattle.scan_drive.specs.declared.slot.Stage.{Stage}
@@ -43,13 +41,15 @@ module _ {O S I : Type 0} (state : O → OpenerState I) (source : S → SourceSt
   turns_one : ScanFile O S → ℕ
   turns_one f = (state f.opener).turns + (source f.source).turns
 
-  pub turns_le : (a b : List (ScanFile O S)) → length b ≡ length a → ((k : ℕ) (f : ScanFile O S) → (state (get_or b k f).opener).turns ≤ (state (get_or a k f).opener).turns) → ((k : ℕ) (f : ScanFile O S) → (source (get_or b k f).source).turns ≤ (source (get_or a k f).source).turns) → files_turns state source b ≤ files_turns state source a
+  pub turns_le : (a b : List (ScanFile O S)) → length b ≡ length a → ((k : ℕ) (f : ScanFile O S) → (state (get_or b k f).opener).turns ≤ (state (get_or a k f).opener).turns)
+      → ((k : ℕ) (f : ScanFile O S) → (source (get_or b k f).source).turns ≤ (source (get_or a k f).source).turns) → files_turns state source b ≤ files_turns state source a
   turns_le [] [] n o s = omega arith
   turns_le [] (y ∷ b) n o s = absurd (omega arith)
   turns_le (x ∷ a) [] n o s = absurd (omega arith)
   turns_le (x ∷ a) (y ∷ b) n o s = let r = turns_le a b (omega (arith, n)) (λ k f. o (suc k) f) (λ k f. s (suc k) f) in let p = o 0 x in let q = s 0 x in omega (arith, r, p, q)
 
-  pub turns_lt : (k : ℕ) (a b : List (ScanFile O S)) → k < length a → length b ≡ length a → ((k : ℕ) (f : ScanFile O S) → (state (get_or b k f).opener).turns ≤ (state (get_or a k f).opener).turns) → ((k : ℕ) (f : ScanFile O S) → (source (get_or b k f).source).turns ≤ (source (get_or a k f).source).turns) →
+  pub turns_lt : (k : ℕ) (a b : List (ScanFile O S)) → k < length a → length b ≡ length a → ((k : ℕ) (f : ScanFile O S) → (state (get_or b k f).opener).turns ≤ (state (get_or a k f).opener).turns)
+      → ((k : ℕ) (f : ScanFile O S) → (source (get_or b k f).source).turns ≤ (source (get_or a k f).source).turns) →
       ((f : ScanFile O S) → (state (get_or b k f).opener).turns + (source (get_or b k f).source).turns < (state (get_or a k f).opener).turns + (source (get_or a k f).source).turns) → files_turns state source b < files_turns state source a
   turns_lt k [] b lt n o s h = absurd (omega (arith, lt))
   turns_lt k (x ∷ a) [] lt n o s h = absurd (omega arith)
@@ -89,7 +89,8 @@ module _ {W R : Type 0} where
 
 module _ {O S W I R : Type 0} (source : S → SourceState) (split : W → SplitState I) where
   -- the split whose turn it is, after wants and polls
-  pub served : (May : ℕ → ℕ → Type 0) (place k : ℕ) (a b c : List (ScanFile O S)) (desks : List Waiters) (s0 s1 s2 : List (Slot W R)) → SourcesMove source May a b → EachAdvances split s0 s1 → EachAdvances split s1 s2 → EachLinked desks s1 → k < length desks → (slot_at s1 place).file ≡ k → is_reading (slot_at s0 place).stage ≡ true → is_fresh (slot_at s0 place).stage ≡ false →
+  pub served : (May : ℕ → ℕ → Type 0) (place k : ℕ) (a b c : List (ScanFile O S)) (desks : List Waiters) (s0 s1 s2 : List (Slot W R)) → SourcesMove source May a b → EachAdvances split s0 s1
+      → EachAdvances split s1 s2 → EachLinked desks s1 → k < length desks → (slot_at s1 place).file ≡ k → is_reading (slot_at s0 place).stage ≡ true → is_fresh (slot_at s0 place).stage ≡ false →
       BringsFileNearer source split k b c desks s1 s2 → ServesFront source split place a c s0 s2
   served May place k a b c desks s0 s1 s2 m p q l lt file reads off near = go (p.at place).nears
     where
@@ -119,7 +120,8 @@ module _ {O S W I R : Type 0} (source : S → SourceState) (split : W → SplitS
 
 module _ {O S W I R F : Type 0} (state : O → OpenerState I) (polls : O → O → Type 0) (source : S → SourceState) (split : W → SplitState I) where
   -- openers were polled, and splits became active
-  pub brought : (workers room last : ℕ) (a b : List (ScanFile O S)) (d e : Drive W R F) (mid : List (Phase W F)) → 0 < room → EachMoves state polls source (Unit {0}) a b → mid ≡ d.phases.items → length d.phases.items ≡ length a → AllWait state d.first last a b mid → (d.active.turns.items ≡ [] → d.first < length a → d.first < last) →
+  pub brought : (workers room last : ℕ) (a b : List (ScanFile O S)) (d e : Drive W R F) (mid : List (Phase W F)) → 0 < room → EachMoves state polls source (Unit {0}) a b → mid ≡ d.phases.items
+      → length d.phases.items ≡ length a → AllWait state d.first last a b mid → (d.active.turns.items ≡ [] → d.first < length a → d.first < last) →
       SeatsOn split d.first e.first d.active e.active mid e.phases.items → IsStuck room e.first e.tally e.phases.items e.active.turns.items →
       (steps_left state source split b e < steps_left state source split a d) ⊎ ((steps_left state source split b e ≤ steps_left state source split a d) × (e.active.turns.items ≡ [] → IsEnd e.first e.tally e.phases.items))
   brought workers room last a b d e mid pos m same lens waits window seats stuck = go seats.nears
@@ -175,7 +177,9 @@ module _ {O S W I R F : Type 0} (state : O → OpenerState I) (polls : O → O �
               stuck_by (inr (inr (inr h))) = end (inr (inr h))
 
 module _ {W I R F : Type 0} (split : W → SplitState I) where
-  pub stands_new : (n : ℕ) (d e : Drive W R F) (mid : List (Phase W F)) → Stands n d → length mid ≡ length d.phases.items → length e.phases.items ≡ length mid → (e.first ≤ length e.phases.items) × SpentBelow e.phases.items e.first → Rattle.scan_drive.specs.Actives.Seated e.active → (HasNews d.active.slots.items d.active.news.items → HasNews e.active.slots.items e.active.news.items) →
+  pub stands_new : (n : ℕ) (d e : Drive W R F) (mid : List (Phase W F)) → Stands n d → length mid ≡ length d.phases.items → length e.phases.items ≡ length mid
+      → (e.first ≤ length e.phases.items) × SpentBelow e.phases.items e.first → Rattle.scan_drive.specs.Actives.Seated e.active
+      → (HasNews d.active.slots.items d.active.news.items → HasNews e.active.slots.items e.active.news.items) →
       SeatsOn split d.first e.first d.active e.active mid e.phases.items → e.left ≡ d.left → Stands n e
   stands_new n d e mid s a b below seated news seats left =
       let m : length mid ≡ n = a ∙ s.lens in
@@ -208,5 +212,6 @@ module _ {W I R F : Type 0} (split : W → SplitState I) (comes : W → Arrivals
         ∙ s.sums all;
   }
 
-pub why_after : {O S W F I : Type 0} (state : O → OpenerState I) (polls : O → O → Type 0) (refuses : O → O → F → Type 0) (files now : List (ScanFile O S)) (old mid new : List (Phase W F)) → HoldsWhy state polls refuses files now old mid → ((k : ℕ) (why : F) → phase_at new k ≡ phase.Held why → phase_at mid k ≡ phase.Held why) → HoldsWhy state polls refuses files now old new
+pub why_after : {O S W F I : Type 0} (state : O → OpenerState I) (polls : O → O → Type 0) (refuses : O → O → F → Type 0) (files now : List (ScanFile O S)) (old mid new : List (Phase W F))
+    → HoldsWhy state polls refuses files now old mid → ((k : ℕ) (why : F) → phase_at new k ≡ phase.Held why → phase_at mid k ≡ phase.Held why) → HoldsWhy state polls refuses files now old new
 why_after state polls refuses files now old mid new h b k why e = h k why (b k why e)

@@ -1,5 +1,5 @@
 -- Which slots wait for what is live, as something comes and as splits are polled.
-use Rattle.std.proofs.Common.{◌≡◌, ◌≢◌, ℕ, ◌<◌, List, [], ◌∷◌, length, set, Bool, true, false, not, ◌||◌, ◌&&◌, cond, eqb, Option, Some, None, Result, Ok, Err, OnOk, inl, inr, refl, sym, ap, ◌∙◌, subst, arith, length-set}
+use Rattle.std.proofs.Common.{◌≡◌, ◌≢◌, ℕ, ◌<◌, List, [], ◌∷◌, length, set, Bool, true, false, not, ◌&&◌, cond, eqb, Option, Some, None, Result, Ok, Err, OnOk, inl, inr, refl, sym, ap, ◌∙◌, subst, arith, length-set}
 use Rattle.std.specs.Prelude.{◌⊎◌, filter, IfSome}
 use Rattle.std.proofs.lemmas.Bool.{cases_eq}
 use Rattle.std.proofs.lemmas.Bool.Decides.{nat_tests}
@@ -24,7 +24,6 @@ use Rattle.scan_drive.proofs.Desking.{moved}
 use Rattle.scan_drive.proofs.Handing.{and_both, not_true, among_later, among_head, take_within, at_set_same, at_set_other}
 use Rattle.scan_drive.proofs.Keeping.{each_refl, each_then, each_handed, each_lost}
 use Rattle.scan_drive.proofs.Running.{lacks_after}
-use Rattle.scan_drive.proofs.Seating.{or_cases}
 
 ne_of : (a b : ℕ) → eqb a b ≡ false → a ≢ b
 ne_of a b e f = let here : eqb a b ≡ true = grind (arith, nat_tests) in let bad = sym e ∙ here in absurd cc

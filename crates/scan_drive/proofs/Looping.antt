@@ -1,16 +1,18 @@
 -- Rounds, one after the other.
-use Rattle.std.proofs.Common.{◌≡◌, ℕ, ◌+◌, ◌≤◌, List, length, get_or, inl, inr, refl, sym, ap, ◌∙◌, subst, arith}
+use Rattle.std.proofs.Common.{◌≡◌, ℕ, List, length, get_or, inl, inr, refl, sym, ap, ◌∙◌, subst, arith}
 use Rattle.std.specs.Prelude.{◌⊎◌}
 use Rattle.scan_segments.specs.Source.{SourceState, Store}
 use Rattle.scan_splits.specs.Arrivals.{Arrivals}
+use Rattle.scan_drive.specs.Before.{SoundInOrder, StopsBefore}
 use Rattle.scan_drive.specs.Chunks.{given}
 use Rattle.scan_drive.specs.Desks.{Waiters}
 use Rattle.scan_drive.specs.Drives.{EachLinked}
 use Rattle.scan_drive.specs.Ends.{Stops, limit_in}
 use Rattle.scan_drive.specs.Files.{Told, AllTell, answer, limited}
 use Rattle.scan_drive.specs.Moves.{EachMoves, HoldsWhy, tells}
-use Rattle.scan_drive.specs.Openers.{OpenerState, Opens, IsRefused}
+use Rattle.scan_drive.specs.Openers.{OpenerState, IsRefused}
 use Rattle.scan_drive.specs.Phases.{phase_at}
+use Rattle.scan_drive.specs.Polls.{PollsOn}
 use Rattle.scan_drive.specs.Rounds.{Stands, Sound}
 use Rattle.scan_drive.specs.Runnings.{GoesOn, StopsIn, StopsRun}
 use Rattle.scan_drive.specs.Splits.{SplitState, Event}
@@ -22,6 +24,7 @@ use Rattle.scan_drive.specs.declared.phase.Phase.TheVariants as phase
 use Rattle.scan_drive.specs.declared.round.Drive.{Drive}
 use Rattle.scan_drive.specs.declared.settling.RoundFault.{RoundFault}
 use Rattle.scan_drive.proofs.Moving.{opens_then, each_then, each_under, tells_stay}
+use Rattle.scan_drive.proofs.Tracking.{stand_fit}
 
 module _ {O S W I R F : Type 0} (state : O → OpenerState I) (polls : O → O → Type 0) (refuses : O → O → F → Type 0) (source : S → SourceState) (split : W → SplitState I) (comes : W → Arrivals → Store → Event → Type 0) (items : R → List I) where
   -- why files are not read, by what was said before and then
@@ -46,13 +49,17 @@ module _ {O S W I R F : Type 0} (state : O → OpenerState I) (polls : O → O �
   Agrees files c d = CacheAgrees source files c × Sound split comes items (tells state source files) d
 
   pub goes_self : (files : List (ScanFile O S)) (desks : List Waiters) (c : Cache) (d : Drive W R F) → Stands (length files) d → EachLinked desks d.active.slots.items → GoesOn state polls refuses source split comes items 0 files files desks c d d
-  goes_self files desks c d s l = record { stands = s; links = l; limit = refl; opened = omega arith; why = λ k w is. inl is; sound = λ h x. x }
+  goes_self files desks c d s l = record { stands = s; links = l; limit = refl; opened = omega arith; why = λ k w is. inl is; sound = λ h x. x; order = λ h. h; polled = λ start h. h }
 
   -- what was sound at first is so later, in the words of the files as they are then
-  sound_now : (P : Type 0) (a b : List (ScanFile O S)) (desks : List Waiters) (c : Cache) (n : ℕ) (d e : Drive W R F) → EachMoves state polls source P a b → GoesOn state polls refuses source split comes items n a b desks c d e → CacheAgrees source a c → Sound split comes items (tells state source a) d → Sound split comes items (tells state source b) e
+  sound_now : (P : Type 0) (a b : List (ScanFile O S)) (desks : List Waiters) (c : Cache) (n : ℕ) (d e : Drive W R F) → EachMoves state polls source P a b
+      → GoesOn state polls refuses source split comes items n a b desks c d e → CacheAgrees source a c → Sound split comes items (tells state source a) d
+      → Sound split comes items (tells state source b) e
   sound_now P a b desks c n d e m g h s = subst (λ (ts : List (Told I)). Sound split comes items ts e) (sym (tells_stay state polls source P a b m)) (g.sound h s)
 
-  pub goes_then : (P Q : Type 0) (n : ℕ) (a b e : List (ScanFile O S)) (desks desks' : List Waiters) (c c' : Cache) (d0 d1 d2 : Drive W R F) → EachMoves state polls source P a b → EachMoves state polls source Q b e → FilesTrade source a b c c' → GoesOn state polls refuses source split comes items 0 a b desks c d0 d1 → GoesOn state polls refuses source split comes items n b e desks' c' d1 d2 → GoesOn state polls refuses source split comes items n a e desks' c d0 d2
+  pub goes_then : (P Q : Type 0) (n : ℕ) (a b e : List (ScanFile O S)) (desks desks' : List Waiters) (c c' : Cache) (d0 d1 d2 : Drive W R F) → EachMoves state polls source P a b
+      → EachMoves state polls source Q b e → FilesTrade source a b c c' → GoesOn state polls refuses source split comes items 0 a b desks c d0 d1
+      → GoesOn state polls refuses source split comes items n b e desks' c' d1 d2 → GoesOn state polls refuses source split comes items n a e desks' c d0 d2
   goes_then P Q n a b e desks desks' c c' d0 d1 d2 m k t p q = record {
     stands = subst (λ j. Stands j d2) m.len q.stands;
     links = q.links;
@@ -60,12 +67,18 @@ module _ {O S W I R F : Type 0} (state : O → OpenerState I) (polls : O → O �
     opened = (let x = p.opened in let y = q.opened in omega (arith, x, y));
     why = why_then P Q a b e d0.phases.items d1.phases.items d2.phases.items m k p.why q.why;
     sound = λ h s. subst (λ (ts : List (Told I)). Sound split comes items ts d2) (tells_stay state polls source P a b m) (q.sound (t.agrees h) (sound_now P a b desks c 0 d0 d1 m p h s));
+    order = λ h. q.order (p.order h);
+    polled = λ start h. q.polled start (p.polled start h);
   }
 
-  pub moves_round : (a b e : List (ScanFile O S)) (desks : List Waiters) (c : Cache) (d0 d1 : Drive W R F) → EachMoves state polls source (Agrees a c d0) a b → GoesOn state polls refuses source split comes items 0 a b desks c d0 d1 → EachMoves state polls source (Sound split comes items (tells state source b) d1) b e → EachMoves state polls source (Agrees a c d0) a e
+  pub moves_round : (a b e : List (ScanFile O S)) (desks : List Waiters) (c : Cache) (d0 d1 : Drive W R F) → EachMoves state polls source (Agrees a c d0) a b
+      → GoesOn state polls refuses source split comes items 0 a b desks c d0 d1 → EachMoves state polls source (Sound split comes items (tells state source b) d1) b e
+      → EachMoves state polls source (Agrees a c d0) a e
   moves_round a b e desks c d0 d1 m g k = each_then state polls source (Agrees a c d0) a b e m (each_under state polls source (Sound split comes items (tells state source b) d1) (Agrees a c d0) (λ h. sound_now (Agrees a c d0) a b desks c 0 d0 d1 m g h.0 h.1) b e k)
 
-  pub done_round : (P : Type 0) (a b : List (ScanFile O S)) (desks : List Waiters) (c : Cache) (d0 d1 d2 : Drive W R F) → EachMoves state polls source P a b → GoesOn state polls refuses source split comes items 0 a b desks c d0 d1 → (AllTell (tells state source b) → Sound split comes items (tells state source b) d1 → given items d2.chunks.items ≡ limited (limit_in split comes items d1) (answer (tells state source b))) →
+  pub done_round : (P : Type 0) (a b : List (ScanFile O S)) (desks : List Waiters) (c : Cache) (d0 d1 d2 : Drive W R F) → EachMoves state polls source P a b
+      → GoesOn state polls refuses source split comes items 0 a b desks c d0 d1
+      → (AllTell (tells state source b) → Sound split comes items (tells state source b) d1 → given items d2.chunks.items ≡ limited (limit_in split comes items d1) (answer (tells state source b))) →
       CacheAgrees source a c → AllTell (tells state source a) → Sound split comes items (tells state source a) d0 → given items d2.chunks.items ≡ limited (limit_in split comes items d0) (answer (tells state source a))
   done_round P a b desks c d0 d1 d2 m g done h all s =
       let t = tells_stay state polls source P a b m in
@@ -73,30 +86,65 @@ module _ {O S W I R F : Type 0} (state : O → OpenerState I) (polls : O → O �
       ∙ ap (λ l. limited l (answer (tells state source b))) g.limit
       ∙ ap (λ ts. limited (limit_in split comes items d0) (answer ts)) t
 
-  pub stops_round : (P Q : Type 0) (a b e : List (ScanFile O S)) (desks : List Waiters) (c : Cache) (d0 d1 d2 : Drive W R F) (x : RoundFault F) → EachMoves state polls source P a b → EachMoves state polls source Q b e → GoesOn state polls refuses source split comes items 0 a b desks c d0 d1 → StopsIn state polls refuses source split comes items b e d1 d2 x → StopsRun state polls refuses source split comes items a e c d0 d2 x
+  pub stops_round : (P Q : Type 0) (a b e : List (ScanFile O S)) (desks : List Waiters) (c : Cache) (d0 d1 d2 : Drive W R F) (x : RoundFault F) → EachMoves state polls source P a b
+      → EachMoves state polls source Q b e → GoesOn state polls refuses source split comes items 0 a b desks c d0 d1 → StopsIn state polls refuses source split comes items b e d1 d2 x
+      → StopsRun state polls refuses source split comes items a e c d0 d2 x
   stops_round P Q a b e desks c d0 d1 d2 x m k g s =
       let t = tells_stay state polls source P a b m in
       record {
         mid = s.mid;
         limit = s.limit ∙ g.limit;
         why = why_then P Q a b e d0.phases.items d1.phases.items s.mid.phases.items m k g.why s.why;
+        held = s.held;
         sound = λ h w. subst (λ (ts : List (Told I)). Sound split comes items ts s.mid) t (s.sound (sound_now P a b desks c 0 d0 d1 m g h w));
         stops = λ h w. subst (λ (ts : List (Told I)). Stops split comes items ts s.mid d2 x) t (s.stops (sound_now P a b desks c 0 d0 d1 m g h w));
       }
 
   pub goes_less : (n : ℕ) (a b : List (ScanFile O S)) (desks : List Waiters) (c : Cache) (d e : Drive W R F) → GoesOn state polls refuses source split comes items n a b desks c d e → GoesOn state polls refuses source split comes items 0 a b desks c d e
-  goes_less n a b desks c d e g = record { stands = g.stands; links = g.links; limit = g.limit; opened = (let x = g.opened in omega (arith, x)); why = g.why; sound = g.sound }
+  goes_less n a b desks c d e g = record { stands = g.stands; links = g.links; limit = g.limit; opened = (let x = g.opened in omega (arith, x)); why = g.why; sound = g.sound; order = g.order; polled = g.polled }
 
-  pub moves_wait : (a b e : List (ScanFile O S)) (desks : List Waiters) (c c' : Cache) (d0 d1 : Drive W R F) → EachMoves state polls source (Agrees a c d0) a b → FilesTrade source a b c c' → GoesOn state polls refuses source split comes items 0 a b desks c d0 d1 → EachMoves state polls source (Agrees b c' d1) b e → EachMoves state polls source (Agrees a c d0) a e
+  pub moves_wait : (a b e : List (ScanFile O S)) (desks : List Waiters) (c c' : Cache) (d0 d1 : Drive W R F) → EachMoves state polls source (Agrees a c d0) a b → FilesTrade source a b c c'
+      → GoesOn state polls refuses source split comes items 0 a b desks c d0 d1 → EachMoves state polls source (Agrees b c' d1) b e → EachMoves state polls source (Agrees a c d0) a e
   moves_wait a b e desks c c' d0 d1 m t g k = each_then state polls source (Agrees a c d0) a b e m (each_under state polls source (Agrees b c' d1) (Agrees a c d0) (λ h. (t.agrees h.0, sound_now (Agrees a c d0) a b desks c 0 d0 d1 m g h.0 h.1)) b e k)
 
-  pub stops_wait : (P Q : Type 0) (a b e : List (ScanFile O S)) (desks : List Waiters) (c c' : Cache) (d0 d1 d2 : Drive W R F) (x : RoundFault F) → EachMoves state polls source P a b → EachMoves state polls source Q b e → FilesTrade source a b c c' → GoesOn state polls refuses source split comes items 0 a b desks c d0 d1 → StopsRun state polls refuses source split comes items b e c' d1 d2 x → StopsRun state polls refuses source split comes items a e c d0 d2 x
+  pub stops_wait : (P Q : Type 0) (a b e : List (ScanFile O S)) (desks : List Waiters) (c c' : Cache) (d0 d1 d2 : Drive W R F) (x : RoundFault F) → EachMoves state polls source P a b
+      → EachMoves state polls source Q b e → FilesTrade source a b c c' → GoesOn state polls refuses source split comes items 0 a b desks c d0 d1
+      → StopsRun state polls refuses source split comes items b e c' d1 d2 x → StopsRun state polls refuses source split comes items a e c d0 d2 x
   stops_wait P Q a b e desks c c' d0 d1 d2 x m k u g s =
       let t = tells_stay state polls source P a b m in
       record {
         mid = s.mid;
         limit = s.limit ∙ g.limit;
         why = why_then P Q a b e d0.phases.items d1.phases.items s.mid.phases.items m k g.why s.why;
+        held = s.held;
         sound = λ h w. subst (λ (ts : List (Told I)). Sound split comes items ts s.mid) t (s.sound (u.agrees h) (sound_now P a b desks c 0 d0 d1 m g h w));
         stops = λ h w. subst (λ (ts : List (Told I)). Stops split comes items ts s.mid d2 x) t (s.stops (u.agrees h) (sound_now P a b desks c 0 d0 d1 m g h w));
       }
+
+  -- the same of a drive whose splits are in order
+  pub order_now : (P : Type 0) (a b : List (ScanFile O S)) (desks : List Waiters) (c : Cache) (n : ℕ) (d e : Drive W R F) → EachMoves state polls source P a b → GoesOn state polls refuses source split comes items n a b desks c d e → CacheAgrees source a c →
+      SoundInOrder split comes items (tells state source a) d → SoundInOrder split comes items (tells state source b) e
+  order_now P a b desks c n d e m g h s = (subst AllTell (sym (tells_stay state polls source P a b m)) s.0, sound_now P a b desks c n d e m g h s.1, g.order s.2)
+
+  -- polls of openers, in rounds that follow others
+  pub polls_none : (workers : ℕ) (P : Type 0) (a : List (ScanFile O S)) (d : Drive W R F) → PollsOn state items workers (limit_in split comes items d) (tells state source a) P d.phases.items a a
+  polls_none workers P a d = record { fit = λ start h. stand_fit state start a d.phases.items h; late = λ p start h. h }
+
+  pub polls_then : (workers : ℕ) (P Q N : Type 0) (a b e : List (ScanFile O S)) (desks : List Waiters) (c : Cache) (d0 d1 : Drive W R F) → EachMoves state polls source N a b → GoesOn state polls refuses source split comes items 0 a b desks c d0 d1 → (P → Q) →
+      PollsOn state items workers (limit_in split comes items d0) (tells state source a) P d0.phases.items a b → PollsOn state items workers (limit_in split comes items d1) (tells state source b) Q d1.phases.items b e → PollsOn state items workers (limit_in split comes items d0)
+      (tells state source a) P d0.phases.items a e
+  polls_then workers P Q N a b e desks c d0 d1 m g w p q = record {
+    fit = λ start h. q.fit start (g.polled start h);
+    late = λ h start l. r.late (w h) start (p.late h start l);
+  }
+    where
+      r : PollsOn state items workers (limit_in split comes items d0) (tells state source a) Q d1.phases.items b e
+      r =
+          subst (λ (ts : List (Told I)). PollsOn state items workers (limit_in split comes items d0) ts Q d1.phases.items b e) (tells_stay state polls source N a b m)
+          (subst (λ o. PollsOn state items workers o (tells state source b) Q d1.phases.items b e) g.limit q)
+
+  -- what stands before a fault, in the words of the first state
+  pub before_then : (N : Type 0) (a b : List (ScanFile O S)) (desks : List Waiters) (c : Cache) (d0 d1 : Drive W R F) (x : RoundFault F) → EachMoves state polls source N a b → GoesOn state polls refuses source split comes items 0 a b desks c d0 d1 →
+      StopsBefore items (limit_in split comes items d1) (tells state source b) x → StopsBefore items (limit_in split comes items d0) (tells state source a) x
+  before_then N a b desks c d0 d1 x m g h =
+      subst (λ (ts : List (Told I)). StopsBefore items (limit_in split comes items d0) ts x) (tells_stay state polls source N a b m) (subst (λ o. StopsBefore items o (tells state source b) x) g.limit h)

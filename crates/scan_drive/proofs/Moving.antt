@@ -109,7 +109,8 @@ each_under state polls source P Q w a b m = record {
 }
 
 -- calls of sources alone
-pub each_sources : {O S I : Type 0} (state : O → OpenerState I) (polls : O → O → Type 0) (source : S → SourceState) (P : Type 0) (May : ℕ → ℕ → Type 0) (a b : List (ScanFile O S)) → SourcesMove source May a b → ((k id : ℕ) (f : ScanFile O S) → May k id → P → IsNamed (tell state source (get_or a k f)) id) → EachMoves state polls source P a b
+pub each_sources : {O S I : Type 0} (state : O → OpenerState I) (polls : O → O → Type 0) (source : S → SourceState) (P : Type 0) (May : ℕ → ℕ → Type 0) (a b : List (ScanFile O S))
+    → SourcesMove source May a b → ((k id : ℕ) (f : ScanFile O S) → May k id → P → IsNamed (tell state source (get_or a k f)) id) → EachMoves state polls source P a b
 each_sources {O} state polls source P May a b m named = record {
   len = m.len;
   at = λ k f. record {

@@ -1,5 +1,5 @@
 -- Each step brings a split nearer to its end, or leaves it as it was.
-use Rattle.std.proofs.Common.{◌≡◌, ℕ, suc, zero, ◌+◌, ◌*◌, ◌<◌, ◌≤◌, List, [], ◌∷◌, ◌++◌, length, set, Bool, true, false, ◌&&◌, cond, eqb, inl, inr, refl, sym, ap, ◌∙◌, subst, arith, length-set}
+use Rattle.std.proofs.Common.{◌≡◌, ℕ, ◌+◌, ◌*◌, ◌<◌, ◌≤◌, List, [], ◌∷◌, ◌++◌, Bool, true, false, cond, eqb, inl, inr, refl, sym, ap, ◌∙◌, subst, arith}
 use Rattle.std.specs.Prelude.{◌⊎◌, if◌then◌else◌}
 use Rattle.std.proofs.lemmas.Bool.Decides.{nat_tests}
 use Rattle.scan_values.specs.Selections.{is_among}
@@ -8,6 +8,7 @@ use Rattle.scan_splits.specs.Arrivals.{Arrivals}
 use Rattle.scan_splits.specs.Wanted.{no_repeats}
 use Rattle.scan_splits.specs.declared.inbox.Arrival.{Arrival}
 use Rattle.scan_drive.specs.Looks.{FoundWaits, IsPolled, EachPolled, is_ended}
+use Rattle.scan_drive.specs.Lost.{EndsBy}
 use Rattle.scan_drive.specs.Measures.{is_there, open_ids, run_steps, stage_steps, IsNearer, Advances, EachAdvances}
 use Rattle.scan_drive.specs.Runs.{RunData, run_waits, is_ready, with_arrival}
 use Rattle.scan_drive.specs.Slots.{slot_at, stage_waits, stage_handed, stage_given_up, handed, given_up, at_each, is_fresh, is_halted, MayTake, AllTake}
@@ -18,7 +19,7 @@ use Rattle.scan_drive.specs.declared.slot.Stage.{Stage}
 use Rattle.scan_drive.specs.declared.slot.Stage.TheVariants as stage
 use Rattle.scan_drive.proofs.Counting.{fewer, no_more}
 use Rattle.scan_drive.proofs.Handing.{and_both, among_later}
-use Rattle.scan_drive.proofs.Linking.{each_at, each_length, waits_not_ready, waits_settled}
+use Rattle.scan_drive.proofs.Linking.{each_at, each_length, waits_settled}
 use Rattle.scan_drive.proofs.Running.{lacks_after}
 use Rattle.scan_drive.proofs.Seating.{or_cases, among_append}
 
@@ -169,7 +170,12 @@ module _ {W I R : Type 0} (split : W → SplitState I) (comes : W → Arrivals �
   pub nearer_waits : (s t : Slot W R) → FoundWaits split comes items s.stage t.stage → IsNearer split s t
   nearer_waits s t f =
       let off : is_ready f.next ≡ false = sym (ap is_fresh f.now) ∙ waits_settled split comes items s.stage t.stage f in
-      let fewer_open : open_ids split f.next ≤ open_ids split f.run = no_more (lacks f.next.inbox) (lacks f.run.inbox) ((split f.next.work).may ++ f.next.wanted) ((split f.run.work).may ++ f.run.wanted) (λ id m l. (there id (or_cases (is_among (split f.next.work).may id) (is_among f.next.wanted id) (sym (among_append (split f.next.work).may f.next.wanted id) ∙ m)), sym (ap (λ (i : Arrivals). lacks i id) f.inbox) ∙ l)) in
+      let fewer_open : open_ids split f.next ≤ open_ids split f.run =
+      no_more (lacks f.next.inbox) (lacks f.run.inbox) ((split f.next.work).may ++ f.next.wanted) ((split f.run.work).may ++ f.run.wanted)
+      (λ id m l. (
+        there id (or_cases (is_among (split f.next.work).may id) (is_among f.next.wanted id) (sym (among_append (split f.next.work).may f.next.wanted id) ∙ m)),
+        sym (ap (λ (i : Arrivals). lacks i id) f.inbox) ∙ l,
+      )) in
       let less : run_steps split f.next < run_steps split f.run = subst (λ n. run_steps split f.next < n) (sym (steps_ready split f.run f.ready)) (subst (λ n. n < 3 * open_ids split f.run + 2) (sym (steps_off split f.next off)) (omega (arith, fewer_open))) in
       subst (λ (x : Stage W R). stage_steps split t.stage < stage_steps split x) (sym f.was) (subst (λ (x : Stage W R). stage_steps split x < run_steps split f.run) (sym f.now) less)
     where
@@ -209,11 +215,11 @@ module _ {W I R : Type 0} (split : W → SplitState I) (comes : W → Arrivals �
   polled_advances true s t p = let f = p.waits refl in record { file_is = p.file_is; there = ap is_there f.now ∙ sym (ap is_there f.was); nears = inr (nearer_waits s t f) }
   polled_advances false s t p = record { file_is = p.file_is; there = there (p.other refl); nears = go (p.other refl) }
     where
-      there : (t ≡ s) ⊎ ((is_fresh s.stage ≡ true) × (is_ended t.stage ≡ true)) → is_there t.stage ≡ is_there s.stage
+      there : (t ≡ s) ⊎ ((is_fresh s.stage ≡ true) × (is_ended t.stage ≡ true) × EndsBy s.stage t.stage) → is_there t.stage ≡ is_there s.stage
       there (inl e) = ap (λ (x : Slot W R). is_there x.stage) e
       there (inr e) = ended_there t.stage e.1 ∙ sym (fresh_there s.stage e.0)
 
-      go : (t ≡ s) ⊎ ((is_fresh s.stage ≡ true) × (is_ended t.stage ≡ true)) → (t ≡ s) ⊎ IsNearer split s t
+      go : (t ≡ s) ⊎ ((is_fresh s.stage ≡ true) × (is_ended t.stage ≡ true) × EndsBy s.stage t.stage) → (t ≡ s) ⊎ IsNearer split s t
       go (inl e) = inl e
       go (inr e) = inr (nearer_ended s t e.0 e.1)
 

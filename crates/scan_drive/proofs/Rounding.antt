@@ -9,14 +9,13 @@ use Rattle.scan_segments.specs.Source.{SourceState, Store, none_live}
 use Rattle.scan_splits.specs.Arrivals.{Arrivals}
 use Rattle.scan_drive.specs.Desks.{Waiters, Agree}
 use Rattle.scan_drive.specs.Drives.{desk_at, EachLinked, DesksAgree, IsIdle, SourcesMove, NoneOf, SlotsKeep}
-use Rattle.scan_drive.specs.Files.{Part}
 use Rattle.scan_drive.specs.Links.{Linked, OfFile, KeepsTold}
-use Rattle.scan_drive.specs.Slots.{slot_at, is_fresh, HasNews, SlotKeeps, EachKeeps}
+use Rattle.scan_drive.specs.Slots.{slot_at, is_fresh, HasNews, SlotKeeps}
 use Rattle.scan_drive.specs.Sources.{SourceMoves}
 use Rattle.scan_drive.specs.Splits.{SplitState, Event}
 use Rattle.scan_drive.specs.declared.files.ScanFile.{ScanFile}
 use Rattle.scan_drive.specs.declared.slot.Slot.{Slot}
-use Rattle.scan_drive.proofs.Asking.{moves_self, moves_then, moves_weaker}
+use Rattle.scan_drive.proofs.Asking.{moves_self, moves_then}
 use Rattle.scan_drive.proofs.Keeping.{keeps_refl, keeps_then}
 use Rattle.scan_drive.proofs.Linking.{linked_other}
 

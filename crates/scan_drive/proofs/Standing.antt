@@ -1,26 +1,24 @@
 -- What polls, deliveries and seats keep of the active splits.
-use Rattle.std.proofs.Common.{◌≡◌, ◌≢◌, ℕ, ◌+◌, ◌<◌, ◌≤◌, List, [], ◌∷◌, ◌++◌, length, get_or, Bool, true, false, ◌&&◌, ◌||◌, eqb, Option, Some, None, IfSome, inl, inr, refl, sym, ap, ◌∙◌, subst, arith}
+use Rattle.std.proofs.Common.{◌≡◌, ℕ, ◌<◌, ◌≤◌, List, [], ◌∷◌, ◌++◌, get_or, Bool, true, false, ◌&&◌, Option, Some, None, IfSome, inl, inr, refl, sym, ap, ◌∙◌, subst, arith}
 use Rattle.std.specs.Prelude.{◌⊎◌, IsSome}
-use Rattle.std.specs.List.{flat_map}
 use Rattle.scan_values.specs.Selections.{is_among}
 use Rattle.scan_segments.specs.Source.{SourceState, Store}
 use Rattle.scan_splits.specs.Arrivals.{Arrivals}
-use Rattle.scan_drive.specs.Actives.{AreSeats, EachOk, SlotOk, AllOk, groups_in, groups_left, Keeps}
-use Rattle.scan_drive.specs.Asks.{LinkedBut, EachLinkedBut, IsWantedBy}
-use Rattle.scan_drive.specs.Chunks.{given, IsMore, IsCut, IsHeld, IsDeliverFault}
+use Rattle.scan_drive.specs.Actives.{AreSeats, EachOk, SlotOk, AllOk, groups_in, Keeps}
+use Rattle.scan_drive.specs.Asks.{LinkedBut, EachLinkedBut}
+use Rattle.scan_drive.specs.Chunks.{given, IsMore, IsCut, IsDeliverFault}
 use Rattle.scan_drive.specs.Desks.{Waiters, waits}
 use Rattle.scan_drive.specs.Drives.{desk_at, EachLinked, FilesWithin, SourcesMove, SlotsKeep}
 use Rattle.scan_drive.specs.Files.{Part, Group, grouped, over, Told, told_at, untold, IfTold, AllTell}
 use Rattle.scan_drive.specs.Links.{Linked}
-use Rattle.scan_drive.specs.Looks.{FoundWaits, IsPolled, EachPolled, WaitsForAll, is_ended}
+use Rattle.scan_drive.specs.Looks.{FoundWaits, EachPolled, WaitsForAll, is_ended}
+use Rattle.scan_drive.specs.Lost.{EndsBy}
 use Rattle.scan_drive.specs.Measures.{is_there, slots_steps, EachAdvances}
-use Rattle.scan_drive.specs.Moves.{IsNamed, tell, tells}
-use Rattle.scan_drive.specs.Openers.{OpenerState}
+use Rattle.scan_drive.specs.Moves.{IsNamed}
 use Rattle.scan_drive.specs.Rounds.{IsReady, AreAsking, AskNamed}
-use Rattle.scan_drive.specs.Runs.{RunData, run_waits, new_run}
 use Rattle.scan_drive.specs.Slots.{slot_at, is_fresh, is_read, is_reading, is_halted, stage_waits, stage_rows, StageOk, SlotKeeps, EachKeeps, HasNews, MayTake, wanted_in, slot_groups}
 use Rattle.scan_drive.specs.Splits.{SplitState, Event, lacks}
-use Rattle.scan_drive.specs.Turns.{Filled, IsGone, IsSeated, GivesOn, SameTurns}
+use Rattle.scan_drive.specs.Turns.{IsGone, IsSeated, GivesOn, SameTurns}
 use Rattle.scan_drive.specs.declared.active.Active.{Active}
 use Rattle.scan_drive.specs.declared.delivery.Chunk.{Chunk}
 use Rattle.scan_drive.specs.declared.delivery.DriveFault.{DriveFault}
@@ -32,8 +30,9 @@ use Rattle.scan_drive.specs.declared.slot.Stage.TheVariants as stage
 use Rattle.scan_drive.proofs.Asking.{moves_then, moves_weaker}
 use Rattle.scan_drive.proofs.Handing.{and_both}
 use Rattle.scan_drive.proofs.Keeping.{keeps_then}
-use Rattle.scan_drive.proofs.Linking.{done_settled, may_ask, new_place, waits_settled}
+use Rattle.scan_drive.proofs.Linking.{may_ask, new_place}
 use Rattle.scan_drive.proofs.Nearing.{all_polled}
+use Rattle.scan_drive.proofs.Ordering.{order_then, order_files}
 use Rattle.scan_drive.proofs.Turning.{sum_advanced}
 
 module _ {W R : Type 0} where
@@ -196,22 +195,27 @@ module _ {W I R : Type 0} (split : W → SplitState I) (comes : W → Arrivals �
       takes id q w t true m = let f = (p.at q).waits m in let none = new_place k q (desk_at desks k) old b (ap is_fresh f.was ∙ f.ready) id in let bad = sym w ∙ none in absurd cc
       takes id q w t false m = go ((p.at q).other m)
         where
-          go : (slot_at new q ≡ slot_at old q) ⊎ ((is_fresh (slot_at old q).stage ≡ true) × (is_ended (slot_at new q).stage ≡ true)) → MayTake id (slot_at new q)
+          go : (slot_at new q ≡ slot_at old q) ⊎ ((is_fresh (slot_at old q).stage ≡ true) × (is_ended (slot_at new q).stage ≡ true) × EndsBy (slot_at old q).stage (slot_at new q).stage) → MayTake id (slot_at new q)
           go (inl e) = subst (MayTake id) (sym e) t
           go (inr e) = let none = new_place k q (desk_at desks k) old b e.0 id in let bad = sym w ∙ none in absurd cc
 
-      live : (id q : ℕ) → (slot_at old q).file ≡ k → stage_waits (slot_at new q).stage id ≡ true → (slot_at new q ≡ slot_at old q) ⊎ ((is_fresh (slot_at old q).stage ≡ true) × (is_ended (slot_at new q).stage ≡ true)) → waits (desk_at desks k) id q ≡ true
+      live : (id q : ℕ) → (slot_at old q).file ≡ k → stage_waits (slot_at new q).stage id ≡ true
+          → (slot_at new q ≡ slot_at old q) ⊎ ((is_fresh (slot_at old q).stage ≡ true) × (is_ended (slot_at new q).stage ≡ true) × EndsBy (slot_at old q).stage (slot_at new q).stage)
+          → waits (desk_at desks k) id q ≡ true
       live id q f v (inl e) = b.live id q f (sym (ap (λ (s : Slot W R). stage_waits s.stage id) e) ∙ v)
       live id q f v (inr e) = let bad = sym (ended_waits (slot_at new q).stage id e.1) ∙ v in absurd cc
 
   -- slots that each step keeps keep their groups
-  pub keeps_from : (tale : List (Told I)) (turns : List ℕ) (old new : List (Slot W R)) → ((q : ℕ) → (slot_at new q).file ≡ (slot_at old q).file) → ((q : ℕ) (p : Part I) (store : Store) → is_among turns q ≡ true → (told_at tale (slot_at old q).file).store ≡ Some store → SlotKeeps split comes items p store (slot_at old q) (slot_at new q)) → Keeps split comes items tale turns old new
+  pub keeps_from : (tale : List (Told I)) (turns : List ℕ) (old new : List (Slot W R)) → ((q : ℕ) → (slot_at new q).file ≡ (slot_at old q).file)
+      → ((q : ℕ) (p : Part I) (store : Store) → is_among turns q ≡ true → (told_at tale (slot_at old q).file).store ≡ Some store → SlotKeeps split comes items p store (slot_at old q) (slot_at new q))
+      → Keeps split comes items tale turns old new
   keeps_from tale turns old new file h = record {
     left = λ all ok. left all turns (λ q m. m) (λ q m. ok q m);
     ok = λ ok q m. one q m (ok q m);
   }
     where
-      stands : (q : ℕ) → is_among turns q ≡ true → (o : Option (Part I)) (s : Option Store) → (told_at tale (slot_at old q).file).store ≡ s → IfSome o (λ p. IfSome s (λ store. StageOk split comes items p store (slot_at old q).stage)) → IfSome o (λ p. IfSome s (λ store. StageOk split comes items p store (slot_at new q).stage))
+      stands : (q : ℕ) → is_among turns q ≡ true → (o : Option (Part I)) (s : Option Store) → (told_at tale (slot_at old q).file).store ≡ s
+          → IfSome o (λ p. IfSome s (λ store. StageOk split comes items p store (slot_at old q).stage)) → IfSome o (λ p. IfSome s (λ store. StageOk split comes items p store (slot_at new q).stage))
       stands q m None s e t = tt
       stands q m (Some p) None e t = tt
       stands q m (Some p) (Some store) e t = (h q p store m e).ok t
@@ -222,7 +226,10 @@ module _ {W I R : Type 0} (split : W → SplitState I) (comes : W → Arrivals �
         stands = subst (λ k. IfTold (told_at tale k) (λ p store. StageOk split comes items p store (slot_at new q).stage)) (sym (file q)) (stands q m (told_at tale (slot_at old q).file).part (told_at tale (slot_at old q).file).store refl s.stands);
       }
 
-      group : (q : ℕ) → is_among turns q ≡ true → (o : Option (Part I)) (s : Option Store) → (told_at tale (slot_at old q).file).store ≡ s → IsSome o → IfSome o (λ p. IfSome s (λ store. StageOk split comes items p store (slot_at old q).stage)) → over s (λ store. grouped (slot_at old q).file (stage_rows split comes items store (slot_at new q).stage)) ≡ over s (λ store. grouped (slot_at old q).file (stage_rows split comes items store (slot_at old q).stage))
+      group : (q : ℕ) → is_among turns q ≡ true → (o : Option (Part I)) (s : Option Store) → (told_at tale (slot_at old q).file).store ≡ s → IsSome o
+          → IfSome o (λ p. IfSome s (λ store. StageOk split comes items p store (slot_at old q).stage))
+          → over s (λ store. grouped (slot_at old q).file (stage_rows split comes items store (slot_at new q).stage)) ≡ over s
+          (λ store. grouped (slot_at old q).file (stage_rows split comes items store (slot_at old q).stage))
       group q m None s e a t = absurd cc
       group q m (Some p) None e a t = refl
       group q m (Some p) (Some store) e a t = ap (grouped (slot_at old q).file) ((h q p store m e).rows t)
@@ -251,7 +258,9 @@ module _ {W I R : Type 0} (split : W → SplitState I) (comes : W → Arrivals �
       let wanted : is_among (wanted_in (slot_at mid w.place).stage) id ≡ true = sym (ap (λ (z : Slot W R). is_among (wanted_in z.stage) id) same) ∙ w.wanted in
       subst (λ j. IsNamed (told_at tale j) id) file (named f wanted (told_at tale (slot_at old w.place).file).part (told_at tale (slot_at old w.place).file).store (ok w.place here).stands)
     where
-      named : FoundWaits split comes items (slot_at old w.place).stage (slot_at mid w.place).stage → is_among (wanted_in (slot_at mid w.place).stage) id ≡ true → (o : Option (Part I)) (t : Option Store) → IfSome o (λ q. IfSome t (λ store. StageOk split comes items q store (slot_at old w.place).stage)) → IfSome o (λ q. IfSome t (λ store. q.named store id ≡ true))
+      named : FoundWaits split comes items (slot_at old w.place).stage (slot_at mid w.place).stage → is_among (wanted_in (slot_at mid w.place).stage) id ≡ true
+          → (o : Option (Part I)) (t : Option Store) → IfSome o (λ q. IfSome t (λ store. StageOk split comes items q store (slot_at old w.place).stage))
+          → IfSome o (λ q. IfSome t (λ store. q.named store id ≡ true))
       named f m None t h = tt
       named f m (Some q) None h = tt
       named f m (Some q) (Some store) h = may_ask split comes items q store (slot_at old w.place).stage (slot_at mid w.place).stage f h id m
@@ -280,15 +289,18 @@ module _ {W I R : Type 0} (split : W → SplitState I) (comes : W → Arrivals �
   pub links_new : (asking : List ℕ) (desks : List Waiters) (old mid new : List (Slot W R)) → EachPolled split comes items asking old mid → ((q : ℕ) → IsGone (slot_at mid q) (slot_at new q)) → EachLinked desks old → EachLinkedBut asking desks new
   links_new asking desks old mid new p g l = but_gone asking desks mid new g (but_polled asking desks old mid p l)
 
-  pub more_mid : (old mid new : Active W R) (chunks chunks' : List (Chunk R)) (left left' : Option ℕ) → ((tale : List (Told I)) → Keeps split comes items tale old.turns.items old.slots.items mid.slots.items) → mid.turns ≡ old.turns → IsMore split comes items mid new chunks chunks' left left' → IsMore split comes items old new chunks chunks' left left'
-  more_mid old mid new chunks chunks' left left' k t m = record {
+  pub more_mid : (old mid new : Active W R) (chunks chunks' : List (Chunk R)) (left left' : Option ℕ) → ((tale : List (Told I)) → Keeps split comes items tale old.turns.items old.slots.items mid.slots.items) → mid.turns ≡ old.turns → ((q : ℕ) →
+      (slot_at mid.slots.items q).file ≡ (slot_at old.slots.items q).file) → IsMore split comes items mid new chunks chunks' left left' → IsMore split comes items old new chunks chunks' left left'
+  more_mid old mid new chunks chunks' left left' k t f m = record {
     groups = λ tale all ok.
         m.groups tale all (subst (λ ts. EachOk split comes items tale ts.items mid.slots.items) (sym t) ((k tale).ok ok))
         ∙ ap (λ gs. given items chunks ++ gs) (ap (λ ts. groups_in split comes items tale ts.items mid.slots.items) t ∙ (k tale).left all ok);
     counts = m.counts;
+    order = order_then old mid new (order_files old mid (λ i. (t i).items) f) m.order;
   }
 
-  pub cut_mid : (old mid : Active W R) (chunks chunks' : List (Chunk R)) (left : Option ℕ) → ((tale : List (Told I)) → Keeps split comes items tale old.turns.items old.slots.items mid.slots.items) → mid.turns ≡ old.turns → IsCut split comes items mid chunks chunks' left → IsCut split comes items old chunks chunks' left
+  pub cut_mid : (old mid : Active W R) (chunks chunks' : List (Chunk R)) (left : Option ℕ) → ((tale : List (Told I)) → Keeps split comes items tale old.turns.items old.slots.items mid.slots.items)
+      → mid.turns ≡ old.turns → IsCut split comes items mid chunks chunks' left → IsCut split comes items old chunks chunks' left
   cut_mid old mid chunks chunks' left k t c = record {
     most = c.most;
     was = c.was;
@@ -297,16 +309,18 @@ module _ {W I R : Type 0} (split : W → SplitState I) (comes : W → Arrivals �
         ∙ ap (λ gs. Rattle.scan_drive.specs.Files.cut c.most (given items chunks ++ (gs ++ later))) (ap (λ ts. groups_in split comes items tale ts.items mid.slots.items) t ∙ (k tale).left all ok);
   }
 
-  pub fault_mid : (old mid new : Active W R) (chunks chunks' : List (Chunk R)) (left left' : Option ℕ) → ((tale : List (Told I)) → Keeps split comes items tale old.turns.items old.slots.items mid.slots.items) → mid.turns ≡ old.turns → (e : DriveFault) → IsDeliverFault split comes items mid new chunks chunks' left left' e → IsDeliverFault split comes items old new chunks chunks' left left' e
-  fault_mid old mid new chunks chunks' left left' k t fault.NoMemory h = tt
-  fault_mid old mid new chunks chunks' left left' k t (fault.Source file id) h = record { turn = h.turn; more = more_mid old mid new chunks chunks' left left' k t h.more }
-  fault_mid old mid new chunks chunks' left left' k t (fault.Corrupt file id) h = record { turn = h.turn; more = more_mid old mid new chunks chunks' left left' k t h.more }
-  fault_mid old mid new chunks chunks' left left' k t (fault.Overflow file) h = record { turn = h.turn; more = more_mid old mid new chunks chunks' left left' k t h.more }
+  pub fault_mid : (old mid new : Active W R) (chunks chunks' : List (Chunk R)) (left left' : Option ℕ) → ((tale : List (Told I)) → Keeps split comes items tale old.turns.items old.slots.items mid.slots.items) → mid.turns ≡ old.turns → ((q : ℕ) →
+      (slot_at mid.slots.items q).file ≡ (slot_at old.slots.items q).file) → (e : DriveFault) → IsDeliverFault split comes items mid new chunks chunks' left left' e → IsDeliverFault split comes items old new chunks chunks' left left' e
+  fault_mid old mid new chunks chunks' left left' k t f fault.NoMemory h = tt
+  fault_mid old mid new chunks chunks' left left' k t f (fault.Source file id) h = record { turn = h.turn; more = more_mid old mid new chunks chunks' left left' k t f h.more }
+  fault_mid old mid new chunks chunks' left left' k t f (fault.Corrupt file id) h = record { turn = h.turn; more = more_mid old mid new chunks chunks' left left' k t f h.more }
+  fault_mid old mid new chunks chunks' left left' k t f (fault.Overflow file) h = record { turn = h.turn; more = more_mid old mid new chunks chunks' left left' k t f h.more }
 
   pub ok_mid : (tale : List (Told I)) (old mid : Active W R) → Keeps split comes items tale old.turns.items old.slots.items mid.slots.items → mid.turns ≡ old.turns → AllOk split comes items tale old → AllOk split comes items tale mid
   ok_mid tale old mid k t ok = subst (λ ts. EachOk split comes items tale ts.items mid.slots.items) (sym t) (k.ok ok)
 
-  pub steps_mid : (asking : List ℕ) (old mid new : Active W R) → EachPolled split comes items asking old.slots.items mid.slots.items → mid.turns ≡ old.turns → GivesOn split mid new → (slots_steps split new.slots.items < slots_steps split old.slots.items) ⊎ ((slots_steps split new.slots.items ≤ slots_steps split old.slots.items) × (new.turns.items ≡ old.turns.items))
+  pub steps_mid : (asking : List ℕ) (old mid new : Active W R) → EachPolled split comes items asking old.slots.items mid.slots.items → mid.turns ≡ old.turns → GivesOn split mid new
+      → (slots_steps split new.slots.items < slots_steps split old.slots.items) ⊎ ((slots_steps split new.slots.items ≤ slots_steps split old.slots.items) × (new.turns.items ≡ old.turns.items))
   steps_mid asking old mid new p t g = go g.nears
     where
       le : slots_steps split mid.slots.items ≤ slots_steps split old.slots.items
@@ -325,7 +339,8 @@ module _ {O S W I R : Type 0} (source : S → SourceState) (split : W → SplitS
     moves = λ k f. moves_then (May k) (source (get_or a k f).source) (source (get_or b k f).source) (source (get_or c k f).source) (p.moves k f) (moves_weaker (λ id. ⊥) (May k) (source (get_or b k f).source) (source (get_or c k f).source) (λ id n. absurd n) (q.moves k f));
   }
 
-  pub slots_then : (May : ℕ → ℕ → Type 0) (a b : List (ScanFile O S)) (old mid new : List (Slot W R)) → SourcesMove source May a b → ((q : ℕ) → (slot_at mid q).file ≡ (slot_at old q).file) → SlotsKeep source split comes items a old mid → SlotsKeep source split comes items b mid new → SlotsKeep source split comes items a old new
+  pub slots_then : (May : ℕ → ℕ → Type 0) (a b : List (ScanFile O S)) (old mid new : List (Slot W R)) → SourcesMove source May a b → ((q : ℕ) → (slot_at mid q).file ≡ (slot_at old q).file)
+      → SlotsKeep source split comes items a old mid → SlotsKeep source split comes items b mid new → SlotsKeep source split comes items a old new
   slots_then May a b old mid new m file p q f part store place told =
       keeps_then split comes items part store (slot_at old place) (slot_at mid place) (slot_at new place) (p f part store place told)
       (q f part store place (ap (λ k. (source (get_or b k f).source).holds) (file place) ∙ (m.moves (slot_at old place).file f).holds ∙ told))

@@ -4,17 +4,15 @@ use Rattle.std.specs.Prelude.{◌⊎◌, IsSome}
 use Rattle.std.proofs.lemmas.Bool.{cases_eq}
 use Rattle.std.proofs.lemmas.List.{get_or_default}
 use Rattle.scan_segments.specs.Cache.{Entries, Loses, Stores, Both}
-use Rattle.scan_segments.specs.Cached.{IsGot, Offers}
+use Rattle.scan_segments.specs.Cached.{Offers}
 use Rattle.scan_segments.specs.Source.{SourceState, Store, TellsBytes}
-use Rattle.scan_segments.specs.declared.cache.CacheGet.TheVariants as get
 use Rattle.scan_segments.specs.declared.segment.SegmentKey.{SegmentKey}
-use Rattle.scan_splits.specs.declared.inbox.Arrival.{Arrival}
 use Rattle.scan_splits.specs.declared.inbox.Arrival.TheVariants as arrival
 use Rattle.scan_drive.specs.Desks.{Waiters, Replies}
 use Rattle.scan_drive.specs.Ledger.{KeepsLedger}
 use Rattle.scan_drive.specs.Traffic.{key_of}
 use Rattle.scan_drive.specs.Trades.{Trusts, Trades, CacheAgrees, FilesTrade}
-use Rattle.scan_drive.specs.Wants.{Cache, LooksUp, PutsWhatCame}
+use Rattle.scan_drive.specs.Wants.{Cache, PutsWhatCame}
 use Rattle.scan_drive.specs.declared.desk.Reply.{Reply}
 use Rattle.scan_drive.specs.declared.desk.Reply.TheVariants as reply
 use Rattle.scan_drive.specs.declared.files.ScanFile.{ScanFile}
@@ -25,7 +23,8 @@ use Rattle.scan_drive.proofs.Filing.{files_ledger, files_ledger_self, files_ledg
 abbrev pub Under : List ℕ → Store → Entries SegmentKey → Type 0
 Under n store m = (id : ℕ) (b : List ℕ) → m (key_of n id) ≡ Some b → store id ≡ Some b
 
-both_under : (n : List ℕ) (store : Store) (change : Entries SegmentKey → Entries SegmentKey → Type 0) → ((x y : Entries SegmentKey) → change x y → Under n store x → Under n store y) → (o p : Option (Entries SegmentKey)) → Both o p change → IsSome o → IfSome o (Under n store) → IsSome p × IfSome p (Under n store)
+both_under : (n : List ℕ) (store : Store) (change : Entries SegmentKey → Entries SegmentKey → Type 0) → ((x y : Entries SegmentKey) → change x y → Under n store x → Under n store y)
+    → (o p : Option (Entries SegmentKey)) → Both o p change → IsSome o → IfSome o (Under n store) → IsSome p × IfSome p (Under n store)
 both_under n store change h None p b t u = absurd cc
 both_under n store change h (Some x) None b t u = absurd b
 both_under n store change h (Some x) (Some y) b t u = (refl, h x y b u)
@@ -95,18 +94,21 @@ module _ {O S : Type 0} (source : S → SourceState) where
   holds_at files k x y lt e n i f = go (cases_eq i k)
     where
       go : (i ≡ k) ⊎ (i ≢ k) → (source (get_or (set files k y) i f).source).holds ≡ (source (get_or files i f).source).holds
-      go (inl is) = ap (λ j. (source (get_or (set files k y) j f).source).holds) is ∙ ap (λ (z : ScanFile O S). (source z.source).holds) (get_or-set_same files k y f lt) ∙ n ∙ ap (λ (z : ScanFile O S). (source z.source).holds) (e ∙ get_or_default files k x f lt) ∙ sym (ap (λ j. (source (get_or files j f).source).holds) is)
+      go (inl is) = ap (λ j. (source (get_or (set files k y) j f).source).holds) is ∙ ap (λ (z : ScanFile O S). (source z.source).holds) (get_or-set_same files k y f lt) ∙ n
+          ∙ ap (λ (z : ScanFile O S). (source z.source).holds) (e ∙ get_or_default files k x f lt) ∙ sym (ap (λ j. (source (get_or files j f).source).holds) is)
       go (inr other) = ap (λ (z : ScanFile O S). (source z.source).holds) (get_or-set_other files k i y f other)
 
   -- files that hold the same under the same names
-  pub agrees_same : (a b : List (ScanFile O S)) (c : Cache) → length b ≡ length a → ((i : ℕ) (f : ScanFile O S) → (get_or b i f).source_id ≡ (get_or a i f).source_id) → ((i : ℕ) (f : ScanFile O S) → (source (get_or b i f).source).holds ≡ (source (get_or a i f).source).holds) → CacheAgrees source a c → CacheAgrees source b c
+  pub agrees_same : (a b : List (ScanFile O S)) (c : Cache) → length b ≡ length a → ((i : ℕ) (f : ScanFile O S) → (get_or b i f).source_id ≡ (get_or a i f).source_id)
+      → ((i : ℕ) (f : ScanFile O S) → (source (get_or b i f).source).holds ≡ (source (get_or a i f).source).holds) → CacheAgrees source a c → CacheAgrees source b c
   agrees_same a b c n name holds h = record {
     same = λ i j f il jl e. holds i f ∙ h.same i j f (omega arith) (omega arith) (sym (name i f) ∙ e ∙ name j f) ∙ sym (holds j f);
     trusts = λ k f store lt e. subst (λ m. Trusts m store c) (sym (name k f)) (h.trusts k f store (omega arith) (sym (holds k f) ∙ e));
   }
 
   -- calls of one file's source
-  pub files_set : (files : List (ScanFile O S)) (k : ℕ) (x y : ScanFile O S) (c d : Cache) → k < length files → x ≡ get_or files k x → y.source_id ≡ x.source_id → (source y.source).holds ≡ (source x.source).holds → Trades x.source_id (source x.source) (source y.source) c d → FilesTrade source files (set files k y) c d
+  pub files_set : (files : List (ScanFile O S)) (k : ℕ) (x y : ScanFile O S) (c d : Cache) → k < length files → x ≡ get_or files k x → y.source_id ≡ x.source_id
+      → (source y.source).holds ≡ (source x.source).holds → Trades x.source_id (source x.source) (source y.source) c d → FilesTrade source files (set files k y) c d
   files_set files k x y c d lt e n m t = record { len = length-set files k y; ledger = files_ledger source files k x y c d lt e n t.ledger; agrees = λ h. agrees_same files (set files k y) d (length-set files k y) (name_at files k x y lt e n) (holds_at files k x y lt e m) (moved h) }
     where
       moved : CacheAgrees source files c → CacheAgrees source files d

@@ -1,5 +1,5 @@
 -- What becomes of the slots, and of what is left, as splits become active and are given.
-use Rattle.std.proofs.Common.{◌≡◌, ◌≢◌, ℕ, suc, zero, ◌+◌, ◌-◌, ◌^◌, ◌<◌, ◌≤◌, List, [], ◌∷◌, ◌++◌, length, set, get_or, get_or-set_same, get_or-set_other, Bool, true, false, ◌||◌, eqb, Option, Some, None, IfSome, inl, inr, refl, sym, ap, ◌∙◌, subst, arith, length-set}
+use Rattle.std.proofs.Common.{◌≡◌, ◌≢◌, ℕ, suc, zero, ◌+◌, ◌-◌, ◌<◌, ◌≤◌, List, [], ◌∷◌, length, set, get_or, get_or-set_same, get_or-set_other, Bool, true, false, ◌||◌, eqb, Option, Some, None, IfSome, inl, inr, refl, sym, ap, ◌∙◌, subst, arith, length-set}
 use Rattle.std.specs.Prelude.{◌⊎◌, IsSome, take}
 use Rattle.std.proofs.lemmas.Bool.{cases_eq}
 use Rattle.std.proofs.lemmas.Bool.Decides.{nat_tests}
@@ -7,22 +7,22 @@ use Rattle.std.proofs.lemmas.List.{get_or_default}
 use Rattle.scan_values.specs.Selections.{is_among}
 use Rattle.scan_segments.specs.Source.{Store}
 use Rattle.scan_splits.specs.Arrivals.{Arrivals}
-use Rattle.scan_drive.specs.Actives.{Seated, Seats, GivesRows, Stays, Becomes}
-use Rattle.scan_drive.specs.Files.{Part, Told, told_at, untold, AllTell}
+use Rattle.scan_drive.specs.Actives.{Seated, Seats, GivesRows, Stays}
+use Rattle.scan_drive.specs.Files.{Part, Told, told_at, untold}
 use Rattle.scan_drive.specs.Measures.{is_there, stage_steps, slots_steps, phase_steps, phases_steps, work_steps, run_steps, IsNearer, EachAdvances}
-use Rattle.scan_drive.specs.Phases.{phase_at, PhaseOk, IsQueued, TakesSplit}
+use Rattle.scan_drive.specs.Phases.{phase_at, is_unopened, PhaseOk, IsQueued, TakesSplit, RowsOk}
 use Rattle.scan_drive.specs.Runs.{new_run}
 use Rattle.scan_drive.specs.Slots.{slot_at, nothing, is_read, is_halted}
 use Rattle.scan_drive.specs.Splits.{SplitState, Event}
-use Rattle.scan_drive.specs.Turns.{Filled, IsGone, TakesSeat, IsSeated, SameTurns, FrontWaits, GivesOn, SeatsOn, seats_steps, IsCounted, Counts, rows_in, rows_of, IsTally}
+use Rattle.scan_drive.specs.Turns.{Filled, IsGone, IsSeated, SameTurns, FrontWaits, GivesOn, SeatsOn, seats_steps, IsCounted, Counts, rows_in, rows_of, IsTally}
 use Rattle.scan_drive.specs.declared.active.Active.{Active}
 use Rattle.scan_drive.specs.declared.phase.Phase.{Phase}
 use Rattle.scan_drive.specs.declared.phase.Phase.TheVariants as phase
 use Rattle.scan_drive.specs.declared.phase.Tally.{Tally}
 use Rattle.scan_drive.specs.declared.slot.Slot.{Slot}
-use Rattle.scan_drive.specs.declared.slot.Stage.{Stage}
 use Rattle.scan_drive.specs.declared.slot.Stage.TheVariants as stage
 use Rattle.scan_drive.proofs.Desking.{among_snoc}
+use Rattle.scan_drive.proofs.Ordering.{rises_to, order_seat}
 use Rattle.scan_drive.proofs.Seating.{apart_front, or_cases}
 
 nothing_at : {W R : Type 0} (q : ℕ) → slot_at {W = W} {R = R} [] q ≡ nothing
@@ -160,10 +160,11 @@ module _ {W I F : Type 0} (split : W → SplitState I) where
 
 module _ {W I R F : Type 0} (split : W → SplitState I) where
   pub seats_none : (first : ℕ) (a : Active W R) (ps : List (Phase W F)) → SeatsOn split first first a a ps ps
-  seats_none first a ps = record { at = λ q. inl refl; filled = λ f. f; nears = inl (refl, refl, (refl, refl)) }
+  seats_none first a ps = record { at = λ q. inl refl; filled = λ f. f; nears = inl (refl, refl, (refl, refl)); order = λ low h. h; shut = λ k. refl }
 
   -- a step after others
-  less_then : (first i j : ℕ) (old mid new : Active W R) (ps qs rs : List (Phase W F)) → ((i ≡ first) × (qs ≡ ps) × SameTurns old mid) ⊎ (seats_steps split i mid qs < seats_steps split first old ps) → seats_steps split j new rs < seats_steps split i mid qs → seats_steps split j new rs < seats_steps split first old ps
+  less_then : (first i j : ℕ) (old mid new : Active W R) (ps qs rs : List (Phase W F)) → ((i ≡ first) × (qs ≡ ps) × SameTurns old mid) ⊎ (seats_steps split i mid qs < seats_steps split first old ps)
+      → seats_steps split j new rs < seats_steps split i mid qs → seats_steps split j new rs < seats_steps split first old ps
   less_then first i j old mid new ps qs rs (inl e) l =
       let a : seats_steps split i mid qs ≡ seats_steps split first old ps = same e.0 e.1 e.2.0 in
       omega (arith, l, a)
@@ -173,10 +174,17 @@ module _ {W I R F : Type 0} (split : W → SplitState I) where
   less_then first i j old mid new ps qs rs (inr k) l = omega (arith, l, k)
 
   pub seats_spent : (first i : ℕ) (old mid : Active W R) (ps qs : List (Phase W F)) → i < length qs → SeatsOn split first i old mid ps qs → SeatsOn split first (i + 1) old mid ps qs
-  seats_spent first i old mid ps qs lt s = record { at = s.at; filled = s.filled; nears = inr (less_then first i (i + 1) old mid mid ps qs qs s.nears (omega (arith, lt))) }
+  seats_spent first i old mid ps qs lt s = record { at = s.at; filled = s.filled; nears = inr (less_then first i (i + 1) old mid mid ps qs qs s.nears (omega (arith, lt))); order = λ low h. rises_to low i (i + 1) mid.turns.items mid.slots.items (omega arith) (s.order low h); shut = s.shut }
 
-  pub seats_seat : {comes : W → Arrivals → Store → Event → Type 0} (first i : ℕ) (old mid new : Active W R) (ps qs : List (Phase W F)) (x p : Phase W F) (w : W) → i < length qs → length qs ≡ length ps → x ≡ get_or qs i x → Seated mid → TakesSplit split comes x p w → Seats i w mid new → SeatsOn split first i old mid ps qs → SeatsOn split first i old new ps (set qs i p)
-  seats_seat first i old mid new ps qs x p w lt n e seated taken h s = record { at = λ q. at q (cases_eq q h.place); filled = λ f. filled (s.filled f); nears = inr (less_then first i i old mid new ps qs (set qs i p) s.nears less) }
+  pub seats_seat : {comes : W → Arrivals → Store → Event → Type 0} (first i : ℕ) (old mid new : Active W R) (ps qs : List (Phase W F)) (x p : Phase W F) (w : W) → i < length qs → length qs ≡ length ps
+      → x ≡ get_or qs i x → Seated mid → TakesSplit split comes x p w → Seats i w mid new → SeatsOn split first i old mid ps qs → SeatsOn split first i old new ps (set qs i p)
+  seats_seat first i old mid new ps qs x p w lt n e seated taken h s = record {
+    at = λ q. at q (cases_eq q h.place);
+    filled = λ f. filled (s.filled f);
+    nears = inr (less_then first i i old mid new ps qs (set qs i p) s.nears less);
+    order = λ low r. order_seat low i w mid new h (s.order low r);
+    shut = λ k. shut k (cases_eq k i) ∙ s.shut k;
+  }
     where
       was : (slot_at mid.slots.items h.place).stage ≡ stage.Empty
       was = seated.empty h.place h.unused
@@ -202,6 +210,24 @@ module _ {W I R F : Type 0} (split : W → SplitState I) where
           go (inr o) (inl there) = ap (λ (z : Slot W R). is_there z.stage) (h.becomes.others q o) ∙ f q there
           go (inr o) (inr b) = let same : q ≡ h.place = grind (arith, nat_tests) in absurd (o same)
 
+      open_now : (r : Phase W F) → IsQueued r → is_unopened r ≡ 0
+      open_now phase.Unopened q = absurd q
+      open_now (phase.Queued ws rows) q = refl
+      open_now (phase.Held f) q = refl
+
+      open_before : (r : Phase W F) → 0 < phase_steps split r → is_unopened r ≡ 0
+      open_before phase.Unopened l = absurd (omega (arith, l))
+      open_before (phase.Queued ws rows) l = refl
+      open_before (phase.Held f) l = absurd (omega (arith, l))
+
+      shut : (k : ℕ) → (k ≡ i) ⊎ (k ≢ i) → is_unopened (phase_at (set qs i p) k) ≡ is_unopened (phase_at qs k)
+      shut k (inr o) = ap is_unopened (get_or-set_other qs i k p phase.Unopened o)
+      shut k (inl is) =
+          let z = taken.steps in
+          let was : is_unopened (phase_at qs i) ≡ 0 = ap is_unopened (sym (e ∙ get_or_default qs i x phase.Unopened lt)) ∙ open_before x (omega (arith, z)) in
+          let now : is_unopened (phase_at (set qs i p) i) ≡ 0 = ap is_unopened (get_or-set_same qs i p phase.Unopened lt) ∙ open_now p taken.queued in
+          ap (λ j. is_unopened (phase_at (set qs i p) j)) is ∙ now ∙ sym was ∙ sym (ap (λ j. is_unopened (phase_at qs j)) is)
+
       less : seats_steps split i new (set qs i p) < seats_steps split i mid qs
       less =
           let a = sum_one split h.place mid.slots.items new.slots.items h.becomes.others in
@@ -213,7 +239,7 @@ module _ {W I R F : Type 0} (split : W → SplitState I) where
           omega (arith, a, z, r, b, t, l)
 
 module _ {I : Type 0} where
-  rows_one : (tale : List (Told I)) (n : ℕ) → n < length tale → rows_of (take (suc n) tale) ≡ rows_of (take n tale) + rows_in (told_at tale n).part
+  pub rows_one : (tale : List (Told I)) (n : ℕ) → n < length tale → rows_of (take (suc n) tale) ≡ rows_of (take n tale) + rows_in (told_at tale n).part
   rows_one [] n lt = absurd (omega arith)
   rows_one (t ∷ tale) zero lt = none (rows_in t.part)
     where
@@ -221,16 +247,16 @@ module _ {I : Type 0} where
       none n = omega arith
   rows_one (t ∷ tale) (suc n) lt = let b = rows_one tale n (omega (arith, lt)) in omega (arith, b)
 
-module _ {W I F : Type 0} (split : W → SplitState I) (comes : W → Arrivals → Store → Event → Type 0) where
+module _ {W I F : Type 0} where
   -- the rows of one file more
-  pub tally_next : (tale : List (Told I)) (file : ℕ) (t u : Tally) (p : Phase W F) → file < length tale → PhaseOk split comes (told_at tale file) p → IsCounted file t u p → IsTally tale t → IsTally tale u
+  pub tally_next : (tale : List (Told I)) (file : ℕ) (t u : Tally) (p : Phase W F) → file < length tale → RowsOk (told_at tale file) p → IsCounted file t u p → IsTally tale t → IsTally tale u
   tally_next tale file t u phase.Unopened lt ok c h = subst (IsTally tale) (sym c) h
   tally_next tale file t u (phase.Held f) lt ok c h = subst (IsTally tale) (sym c) h
-  tally_next tale file t u (phase.Queued ws rows) lt ok (inl c) h = subst (IsTally tale) (sym c) h
+  tally_next tale file t u (phase.Queued ws rows) lt ok (inl c) h = subst (IsTally tale) (sym c.0) h
   tally_next tale file t u (phase.Queued ws rows) lt ok (inr c) h = record {
     within = let a = c.1 in omega (arith, a, lt);
     sum = λ all.
-        let r : rows ≡ rows_in (told_at tale file).part = told (told_at tale file).part (all file untold lt).0 ok.1 in
+        let r : rows ≡ rows_in (told_at tale file).part = told (told_at tale file).part (all file untold lt) ok in
         let s : t.rows ≡ rows_of (take file tale) = h.sum all ∙ ap (λ n. rows_of (take n tale)) c.0 in
         let o = rows_one tale file lt in
         let one : file + 1 ≡ suc file = omega arith in
@@ -243,9 +269,18 @@ module _ {W I F : Type 0} (split : W → SplitState I) (comes : W → Arrivals �
       told None a b = absurd cc
       told (Some p) a b = b
 
+pub rows_ok : {W I F : Type 0} (split : W → SplitState I) (comes : W → Arrivals → Store → Event → Type 0) (t : Told I) (p : Phase W F) → PhaseOk split comes t p → RowsOk t p
+rows_ok split comes t phase.Unopened h = tt
+rows_ok split comes t (phase.Queued ws rows) h = h.1
+rows_ok split comes t (phase.Held f) h = tt
+
 pub counts : {W F : Type 0} (file : ℕ) (t u : Tally) (p : Phase W F) (b : Bool) → b ≡ true → Counts file t u p b → IsCounted file t u p
 counts file t u p true e c = c
 counts file t u p false e c = absurd cc
+
+pub not_counted : {W F : Type 0} (file : ℕ) (t u : Tally) (p : Phase W F) (b : Bool) → b ≡ false → Counts file t u p b → u ≡ t
+not_counted file t u p false e c = c.0
+not_counted file t u p true e c = absurd cc
 
 -- a file that is not read was not before a split of another was taken
 pub held_before : {W F : Type 0} (ps : List (Phase W F)) (i : ℕ) (p : Phase W F) (k : ℕ) (why : F) → i < length ps → IsQueued p → phase_at (set ps i p) k ≡ phase.Held why → phase_at ps k ≡ phase.Held why

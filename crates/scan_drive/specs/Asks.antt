@@ -1,5 +1,5 @@
 -- Splits that wait for other segments now, until these are asked for.
-use Rattle.std.specs.Prelude.{◌≡◌, ◌≢◌, ◌<◌, ◌⊎◌, ℕ, Bool, true, false, List, [], length, Some, IfSome}
+use Rattle.std.specs.Prelude.{◌≡◌, ◌≢◌, ◌<◌, ◌⊎◌, ℕ, true, false, List, length, Some, IfSome}
 use Rattle.scan_values.specs.Selections.{is_among}
 use Rattle.scan_segments.specs.declared.segment.SegmentKey.{SegmentKey}
 use Rattle.scan_splits.specs.declared.inbox.Arrival.TheVariants as arrival

@@ -1,10 +1,11 @@
 -- What is given, in turn and up to a limit.
-use Rattle.std.specs.Prelude.{◌≡◌, ◌<◌, ◌≤◌, ◌+◌, ◌++◌, ℕ, List, length, take, Option, None, Some, option_map, true}
+use Rattle.std.specs.Prelude.{◌≡◌, ◌≢◌, ◌<◌, ◌≤◌, ◌+◌, ◌++◌, ℕ, List, [], All, length, take, Option, None, Some, option_map, true}
 use Rattle.std.specs.List.{flat_map}
 use Rattle.scan_segments.specs.Source.{Store}
 use Rattle.scan_splits.specs.Arrivals.{Arrivals}
 use Rattle.scan_drive.specs.Actives.{IsHalted, AllOk, groups_left}
 use Rattle.scan_drive.specs.Files.{Group, grouped, count, cut, Told, told_at, AllTell, IfTold}
+use Rattle.scan_drive.specs.Order.{KeepsOrder}
 use Rattle.scan_drive.specs.Splits.{SplitState, Event}
 use Rattle.scan_drive.specs.declared.active.Active.{Active}
 use Rattle.scan_drive.specs.declared.delivery.Chunk.{Chunk}
@@ -43,6 +44,14 @@ module _ {I R : Type 0} (items : R → List I) where
   -- the groups that chunks give
   abbrev pub given : List (Chunk R) → List (Group I)
   given chunks = flat_map chunk_groups chunks
+
+  -- it has a row
+  abbrev pub HasRow : Chunk R → Type 0
+  HasRow c = items c.rows ≢ []
+
+  -- where each chunk had a row, each has one
+  abbrev pub KeepsRows : List (Chunk R) → List (Chunk R) → Type 0
+  KeepsRows old new = All HasRow old → All HasRow new
 
   -- no more rows are given than the limit allows, and one may be given still
   pub record Counts (chunks chunks' : List (Chunk R)) (left left' : Option ℕ) : Type 0 where
@@ -88,6 +97,7 @@ module _ {W I R : Type 0} (split : W → SplitState I) (comes : W → Arrivals �
   pub record IsMore (old new : Active W R) (chunks chunks' : List (Chunk R)) (left left' : Option ℕ) : Type 0 where
     pub groups : SameGroups old new chunks chunks'
     pub counts : Counts items chunks chunks' left left'
+    pub order : KeepsOrder old new
 
   abbrev pub IsDelivered : Active W R → Active W R → List (Chunk R) → List (Chunk R) → Option ℕ → Option ℕ → Delivered → Type 0
   IsDelivered old new chunks chunks' left left' More = IsMore old new chunks chunks' left left'

@@ -1,5 +1,5 @@
 -- The live requests of a source, with those that wait for each.
-use Rattle.std.specs.Prelude.{◌≡◌, ◌<◌, ℕ, List, [], ◌∷◌, ◌++◌, Bool, true, false, cond, map, Option, Some, None, is_some}
+use Rattle.std.specs.Prelude.{◌≡◌, ◌<◌, ◌⊎◌, ℕ, List, [], ◌∷◌, ◌++◌, Bool, true, false, cond, map, Option, Some, None, is_some}
 use Rattle.std.specs.Ordering.{nat_cmp}
 use Rattle.std.specs.BTreeMap.{is_at}
 use Rattle.std.specs.Map.{lookup}
@@ -27,6 +27,16 @@ is_in (Some places) place = is_among places place
 -- a place waits for an id
 abbrev pub waits : Waiters → ℕ → ℕ → Bool
 waits d id place = is_in (waiters_at d id) place
+
+-- a place waits at a desk
+pub record HasWaiter (d : Waiters) : Type 0 where
+  pub id : ℕ
+  pub place : ℕ
+  pub waits_there : waits d id place ≡ true
+
+-- nothing is live, or a place waits
+abbrev pub IsAwaited : Waiters → Type 0
+IsAwaited d = (d ≡ []) ⊎ HasWaiter d
 
 -- the live requests of a source are those of the desk
 abbrev pub Agree : (ℕ → Bool) → Waiters → Type 0

@@ -1,5 +1,5 @@
 -- How a drive ends.
-use Rattle.std.specs.Prelude.{true, ◌≡◌, ◌≢◌, ◌<◌, ◌≤◌, ◌⊎◌, ℕ, List, [], ◌∷◌, ◌++◌, Option, None, Some, length, take}
+use Rattle.std.specs.Prelude.{true, ◌≡◌, ◌≢◌, ◌<◌, ◌≤◌, ◌⊎◌, ℕ, List, [], Option, length}
 use Rattle.scan_segments.specs.Source.{Store}
 use Rattle.scan_splits.specs.Arrivals.{Arrivals}
 use Rattle.scan_splits.specs.Wanted.{no_repeats}
@@ -10,7 +10,8 @@ use Rattle.scan_drive.specs.Drives.{EachLinked}
 use Rattle.scan_drive.specs.Losses.{HaltsStay}
 use Rattle.scan_drive.specs.Measures.{slots_steps}
 use Rattle.scan_drive.specs.Chunks.{HasRoom, given, limit_of, IsCause, IsDeliverFault}
-use Rattle.scan_drive.specs.Files.{Told, told_at, AllTell, answer, limited, count}
+use Rattle.scan_drive.specs.Files.{Told, count}
+use Rattle.scan_drive.specs.Order.{KeepsOrder}
 use Rattle.scan_drive.specs.Phases.{phase_at}
 use Rattle.scan_drive.specs.Rounds.{Stands, Sound, AreAsking, AskNamed, IsEnd}
 use Rattle.scan_drive.specs.Splits.{SplitState, Event}
@@ -37,6 +38,12 @@ module _ {W F : Type 0} where
   EndIs first tally old new end.TooMany = (new ≡ old) × IsTooMany first tally (phase_at old first)
   EndIs first tally old new (end.Refused f) = (phase_at old first ≡ phase.Held f) × Forgets first old new
   EndIs first tally old new end.Open = (new ≡ old) × (IsEnd first tally old → ⊥)
+
+  -- where a file is not read, this is why
+  abbrev pub IsHeldIn : List (Phase W F) → RoundFault F → Type 0
+  IsHeldIn ps (why.Split e) = Unit {0}
+  IsHeldIn ps (why.TooManyRows file) = Unit {0}
+  IsHeldIn ps (why.Refused file f) = phase_at ps file ≡ phase.Held f
 
 module _ {W I R F : Type 0} (split : W → SplitState I) (comes : W → Arrivals → Store → Event → Type 0) (items : R → List I) where
   -- how many rows may be given in all
@@ -67,6 +74,7 @@ module _ {W I R F : Type 0} (split : W → SplitState I) (comes : W → Arrivals
     pub named : (tale : List (Told I)) → AllOk split comes items tale old.active → AskNamed tale asking new.active.slots.items
     pub sound : (tale : List (Told I)) → Sound split comes items tale old → Sound split comes items tale new
     pub limit : limit_in new ≡ limit_in old
+    pub order : KeepsOrder old.active new.active
     pub waits : TurnsWait new.active
     pub goes : new.active.turns.items ≡ [] → IsEnd new.first new.tally new.phases.items → ⊥
     pub steps : (slots_steps split new.active.slots.items < slots_steps split old.active.slots.items) ⊎ ((slots_steps split new.active.slots.items ≤ slots_steps split old.active.slots.items) × (new.active.turns.items ≡ old.active.turns.items))

@@ -2,12 +2,13 @@
 use Rattle.std.specs.Prelude.{ℕ, ◌+◌, ◌-◌, Bool, List, [], ◌∷◌, ◌++◌, Option, None, Some, IfSome, IsSome, All, map, take, length, slice_index_or}
 use Rattle.std.specs.List.{flat_map}
 use Rattle.scan_segments.specs.Source.{Store}
+use Rattle.scan_values.specs.DataType.{DataType}
 use Rattle.scan_values.specs.Marked.{Marked}
 use Rattle.scan_drive.specs.Splits.{Event, wants, spoils}
 
--- a row of a file, with its number
+-- a row of a file: its number, the dtype of its value, and the value
 abbrev pub Item : Type 0
-Item = ℕ × Marked
+Item = ℕ × (DataType × Marked)
 
 -- a file, as its opener tells it: how many rows it has, those of each of its splits over a store, the ids that may be
 -- asked, those whose segments are no good, and whether an evaluation overflows
@@ -99,6 +100,10 @@ module _ {I : Type 0} where
 
   abbrev pub AllTell : List (Told I) → Type 0
   AllTell tale = All Tells tale
+
+  -- the openers tell
+  abbrev pub AllGive : List (Told I) → Type 0
+  AllGive tale = All (λ (t : Told I). IsSome t.part) tale
 
   -- where both are told, this holds of the part and the store
   abbrev pub IfTold : Told I → (Part I → Store → Type 0) → Type 0

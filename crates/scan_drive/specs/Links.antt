@@ -1,11 +1,11 @@
 -- Which slots wait for what is live at the desk of a file.
-use Rattle.std.specs.Prelude.{◌≡◌, ◌≢◌, ◌||◌, ◌&&◌, ℕ, true, List, length, nat_eq, Option, Some}
+use Rattle.std.specs.Prelude.{◌≡◌, ◌≢◌, ℕ, true, List, length, Option, Some}
 use Rattle.scan_values.specs.Selections.{is_among}
 use Rattle.scan_segments.specs.Source.{Store}
 use Rattle.scan_splits.specs.Arrivals.{Arrivals}
 use Rattle.scan_drive.specs.Desks.{Waiters, waits}
 use Rattle.scan_drive.specs.Files.{Part}
-use Rattle.scan_drive.specs.Slots.{slot_at, stage_waits, MayTake, StageOk, EachKeeps}
+use Rattle.scan_drive.specs.Slots.{slot_at, stage_waits, MayTake, EachKeeps}
 use Rattle.scan_drive.specs.Splits.{SplitState, Event}
 use Rattle.scan_drive.specs.declared.slot.Slot.{Slot}
 use Rattle.scan_drive.specs.declared.slot.Stage.TheVariants as stage

@@ -3,10 +3,10 @@ use Rattle.std.specs.Prelude.{◌≡◌, ◌⊎◌, ℕ, Bool, true, false, List
 use Rattle.scan_values.specs.Selections.{is_among}
 use Rattle.scan_segments.specs.Source.{Store}
 use Rattle.scan_splits.specs.Arrivals.{Arrivals}
-use Rattle.scan_drive.specs.Files.{Part}
+use Rattle.scan_drive.specs.Lost.{EndsBy}
 use Rattle.scan_drive.specs.Splits.{SplitState, Event, SameSplit, Wants}
 use Rattle.scan_drive.specs.Runs.{RunData, is_ready}
-use Rattle.scan_drive.specs.Slots.{slot_at, is_fresh, is_reading, wanted_in, stage_waits, also_if, StageOk}
+use Rattle.scan_drive.specs.Slots.{slot_at, is_fresh, is_reading, wanted_in, stage_waits, also_if}
 use Rattle.scan_drive.specs.declared.looking.Found.{Found}
 use Rattle.scan_drive.specs.declared.looking.Found.TheVariants as found
 use Rattle.scan_drive.specs.declared.slot.Slot.{Slot}
@@ -47,7 +47,7 @@ module _ {W I R : Type 0} (split : W → SplitState I) (comes : W → Arrivals �
   -- what a look at a slot has found: nothing to poll, and all is as before; a split that has ended; one that waits
   abbrev pub Looks : Stage W R → Stage W R → Found → Type 0
   Looks old new found.Nothing = (new ≡ old) × (is_fresh old ≡ false)
-  Looks old new found.Done = (is_fresh old ≡ true) × (is_ended new ≡ true)
+  Looks old new found.Done = (is_fresh old ≡ true) × (is_ended new ≡ true) × EndsBy old new
   Looks old new found.Waits = FoundWaits old new
 
   -- the split at a place was polled, unless it waits, and the place is listed where it waits for other segments now
@@ -61,7 +61,7 @@ module _ {W I R : Type 0} (split : W → SplitState I) (comes : W → Arrivals �
   pub record IsPolled (asked : Bool) (old new : Slot W R) : Type 0 where
     pub file_is : new.file ≡ old.file
     pub waits : asked ≡ true → FoundWaits old.stage new.stage
-    pub other : asked ≡ false → (new ≡ old) ⊎ ((is_fresh old.stage ≡ true) × (is_ended new.stage ≡ true))
+    pub other : asked ≡ false → (new ≡ old) ⊎ ((is_fresh old.stage ≡ true) × (is_ended new.stage ≡ true) × EndsBy old.stage new.stage)
 
   -- each slot after all polls
   pub record EachPolled (asking : List ℕ) (old new : List (Slot W R)) : Type 0 where

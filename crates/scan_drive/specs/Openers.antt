@@ -4,7 +4,7 @@ use Rattle.scan_segments.specs.Faults.{RaisedBy}
 use Rattle.scan_segments.specs.Source.{Store}
 use Rattle.scan_splits.specs.Arrivals.{Arrivals}
 use Rattle.scan_drive.specs.Files.{Part, Told, Tells}
-use Rattle.scan_drive.specs.Phases.{phase_left, PhaseOk}
+use Rattle.scan_drive.specs.Phases.{phase_left, PhaseOk, IsQueued}
 use Rattle.scan_drive.specs.Runs.{new_run}
 use Rattle.scan_drive.specs.Slots.{RunOk}
 use Rattle.scan_drive.specs.Splits.{SplitState, Event}
@@ -31,6 +31,7 @@ pub record OpenerMoves {I : Type 0} (old new : OpenerState I) : Type 0 where
 pub record PolledOnce {I : Type 0} (old new : OpenerState I) : Type 0 where
   pub moves : OpenerMoves old new
   pub polled : RaisedBy 1 old.polled new.polled
+  pub grows : old.polled ≤ new.polled
 
 -- a flag as a number
 abbrev pub as_number : Bool → ℕ
@@ -44,11 +45,12 @@ module _ {W I : Type 0} (split : W → SplitState I) (comes : W → Arrivals →
     pub splits : (store : Store) → map (λ w. (split w).rows store) ws ≡ p.splits store
     pub ok : (store : Store) → All (λ w. RunOk split comes p store (new_run w)) ws
 
-module _ {O W I F : Type 0} (split : W → SplitState I) (comes : W → Arrivals → Store → Event → Type 0) (state : O → OpenerState I) (refuses : O → O → F → Type 0) where
+module _ {O W I F : Type 0} (split : W → SplitState I) (comes : W → Arrivals → Store → Event → Type 0) (state : O → OpenerState I) (refuses : O → O → F → Type 0)
+    (admits : O → O → List W → Type 0) where
   -- the answer of a poll
   abbrev pub PollsOpen : O → O → Opening W F → Type 0
   PollsOpen old new opening.Pending = PolledOnce (state old) (state new) × ((state new).turns < (state old).turns)
-  PollsOpen old new (opening.Opened ws rows) = PolledOnce (state old) (state new) × IfSome (state old).gives (λ p. AreSplits split comes p rows ws.items)
+  PollsOpen old new (opening.Opened ws rows) = PolledOnce (state old) (state new) × IfSome (state old).gives (λ p. AreSplits split comes p rows ws.items) × admits old new ws.items
   PollsOpen old new (opening.Refused f) = PolledOnce (state old) (state new) × refuses old new f
   PollsOpen old new opening.NoMemory = PolledOnce (state old) (state new)
 
@@ -76,6 +78,18 @@ module _ {O W F : Type 0} (refuses : O → O → F → Type 0) where
   IsHeldFor old new p (phase.Queued ws rows) = Unit {0}
   IsHeldFor old new p (phase.Held f) = (p ≡ phase.Held f) ⊎ refuses old new f
 
+module _ {W F : Type 0} (Said : List W → Type 0) where
+  -- the splits of an open file are those that it had, or this is said of them
+  abbrev pub IsOpen : Phase W F → Phase W F → Type 0
+  IsOpen p phase.Unopened = Unit {0}
+  IsOpen p (phase.Queued ws rows) = (p ≡ phase.Queued ws rows) ⊎ Said ws.items
+  IsOpen p (phase.Held f) = Unit {0}
+
+  -- and an open file stays open
+  pub record StaysOpen (old new : Phase W F) : Type 0 where
+    pub said : IsOpen old new
+    pub stays : IsQueued old → IsQueued new
+
 module _ {O F I : Type 0} (state : O → OpenerState I) (polls : O → O → Type 0) (refuses : O → O → F → Type 0) where
   -- one of the polls said that the file is not read
   pub record IsRefused (old new : O) (f : F) : Type 0 where
@@ -83,6 +97,15 @@ module _ {O F I : Type 0} (state : O → OpenerState I) (polls : O → O → Typ
     pub after : O
     pub opens : Opens state polls old before
     pub said : refuses before after f
+    pub later : Opens state polls after new
+
+module _ {O W I : Type 0} (state : O → OpenerState I) (polls : O → O → Type 0) (admits : O → O → List W → Type 0) where
+  -- one of the polls gave these splits of the file
+  pub record IsAdmitted (old new : O) (ws : List W) : Type 0 where
+    pub before : O
+    pub after : O
+    pub opens : Opens state polls old before
+    pub said : admits before after ws
     pub later : Opens state polls after new
 
 module _ {W I F : Type 0} (split : W → SplitState I) (comes : W → Arrivals → Store → Event → Type 0) where

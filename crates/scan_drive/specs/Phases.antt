@@ -1,5 +1,5 @@
 -- How far files are, and the groups of their rows for which no split is active yet.
-use Rattle.std.specs.Prelude.{◌≡◌, ◌<◌, ◌+◌, ◌++◌, ℕ, List, [], ◌∷◌, All, IfSome, slice_index_or}
+use Rattle.std.specs.Prelude.{◌≡◌, ◌<◌, ◌+◌, ◌++◌, ℕ, Bool, true, false, List, [], ◌∷◌, All, IfSome, slice_index_or}
 use Rattle.std.specs.List.{flat_map, sum_by}
 use Rattle.scan_segments.specs.Source.{Store}
 use Rattle.scan_splits.specs.Arrivals.{Arrivals}
@@ -12,6 +12,11 @@ use Rattle.scan_drive.specs.declared.phase.Phase.{Phase}
 use Rattle.scan_drive.specs.declared.phase.Phase.TheVariants as phase
 use Rattle.scan_drive.specs.declared.phase.Taken.{Taken}
 use Rattle.scan_drive.specs.declared.phase.Taken.TheVariants as taken
+
+-- there is one
+abbrev pub is_some_of : {W : Type 0} → List W → Bool
+is_some_of [] = false
+is_some_of (w ∷ ws) = true
 
 module _ {W F : Type 0} where
   -- a file that is not open yet
@@ -42,6 +47,12 @@ module _ {W F : Type 0} where
   IsQueued (phase.Queued ws rows) = Unit {0}
   IsQueued (phase.Held f) = ⊥
 
+  -- its splits are known, and one is left for which none is active
+  abbrev pub has_left : Phase W F → Bool
+  has_left phase.Unopened = false
+  has_left (phase.Queued ws rows) = is_some_of ws.items
+  has_left (phase.Held f) = false
+
   -- the phase of a file
   abbrev pub phase_at : List (Phase W F) → ℕ → Phase W F
   phase_at ps k = slice_index_or ps k phase.Unopened
@@ -58,6 +69,16 @@ module _ {W I : Type 0} (split : W → SplitState I) (comes : W → Arrivals →
   -- nothing has arrived for a split, which comes to nothing that its file does not
   abbrev pub WorkOk : Told I → W → Type 0
   WorkOk t w = IfTold t (λ p store. RunOk split comes p store (new_run w))
+
+module _ {W I F : Type 0} where
+  -- the rows of an open file are those that its opener tells
+  abbrev pub RowsOk : Told I → Phase W F → Type 0
+  RowsOk t phase.Unopened = Unit {0}
+  RowsOk t (phase.Queued ws rows) = IfSome t.part (λ p. rows ≡ p.row_count)
+  RowsOk t (phase.Held f) = Unit {0}
+
+  abbrev pub AllRowsOk : List (Told I) → List (Phase W F) → Type 0
+  AllRowsOk tale ps = (k : ℕ) → RowsOk (told_at tale k) (phase_at ps k)
 
 module _ {W I F : Type 0} (split : W → SplitState I) (comes : W → Arrivals → Store → Event → Type 0) where
   -- the groups of a file for which no split is active
@@ -90,6 +111,7 @@ module _ {W I F : Type 0} (split : W → SplitState I) (comes : W → Arrivals �
     pub work_ok : (t : Told I) → PhaseOk t old → WorkOk split comes t w
     pub phase_ok : (t : Told I) → PhaseOk t old → PhaseOk t new
     pub queued : IsQueued new
+    pub had : has_left old ≡ true
     pub steps : phase_steps split old ≡ work_steps split w + phase_steps split new
 
   -- the first split is taken, or the phase has none, or its splits are not known

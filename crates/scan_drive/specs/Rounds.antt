@@ -1,16 +1,15 @@
 -- How the state of a drive stands for its answer, and what its steps keep.
-use Rattle.std.specs.Prelude.{◌≡◌, ◌<◌, ◌≤◌, ◌+◌, ◌^◌, ◌++◌, ◌⊎◌, ℕ, Bool, true, false, List, [], ◌∷◌, Option, None, Some, length, take, slice_index_or}
+use Rattle.std.specs.Prelude.{◌≡◌, ◌<◌, ◌≤◌, ◌+◌, ◌++◌, ◌⊎◌, ℕ, true, false, List, [], ◌∷◌, length, slice_index_or}
 use Rattle.scan_values.specs.Selections.{is_among}
 use Rattle.scan_segments.specs.Source.{SourceState, Store}
 use Rattle.scan_splits.specs.Arrivals.{Arrivals}
 use Rattle.scan_drive.specs.Actives.{Seated, AllOk, groups_left}
-use Rattle.scan_drive.specs.Asks.{EachLinkedBut, IsWantedBy}
-use Rattle.scan_drive.specs.Chunks.{given, limit_of, HasRoom}
-use Rattle.scan_drive.specs.Desks.{Waiters}
-use Rattle.scan_drive.specs.Drives.{EachLinked, FilesWithin}
-use Rattle.scan_drive.specs.Files.{Told, told_at, AllTell, Group, answer, limited, count}
+use Rattle.scan_drive.specs.Asks.{IsWantedBy}
+use Rattle.scan_drive.specs.Chunks.{given, HasRoom}
+use Rattle.scan_drive.specs.Drives.{FilesWithin}
+use Rattle.scan_drive.specs.Files.{Told, told_at, AllTell, answer}
 use Rattle.scan_drive.specs.Looks.{WaitsForAll}
-use Rattle.scan_drive.specs.Measures.{slots_steps, IsNearer}
+use Rattle.scan_drive.specs.Measures.{IsNearer}
 use Rattle.scan_drive.specs.Moves.{IsNamed, tells}
 use Rattle.scan_drive.specs.Openers.{OpenerState}
 use Rattle.scan_drive.specs.Phases.{phase_at, SpentBelow, PhasesOk, rest}

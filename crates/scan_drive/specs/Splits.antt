@@ -48,9 +48,10 @@ module _ {W I : Type 0} (split : W → SplitState I) (comes : W → Arrivals →
     pub same : (store : Store) → Agrees store here → rows ≡ (split w).rows store
     pub within : (store : Store) → Agrees store here → (split w).overflow store ≡ false
 
-  -- what arrived of this id is no good, under every store that has what has arrived
-  abbrev pub FindsBad : Arrivals → W → ℕ → Type 0
-  FindsBad here w id = (store : Store) → Agrees store here → comes w here store (spoils id)
+  -- something has arrived of this id, which is no good, under every store that has what has arrived
+  pub record FindsBad (here : Arrivals) (w : W) (id : ℕ) : Type 0 where
+    pub arrived : lacks here id ≡ false
+    pub bad : (store : Store) → Agrees store here → comes w here store (spoils id)
 
   -- it overflows, under every store that has what has arrived
   abbrev pub Overflows : Arrivals → W → Type 0

@@ -1,9 +1,10 @@
 -- What becomes of the slots as splits become active and are given.
-use Rattle.std.specs.Prelude.{◌≡◌, ◌<◌, ◌≤◌, ◌+◌, ◌-◌, ◌^◌, ◌⊎◌, ℕ, Bool, true, false, List, [], ◌∷◌, Option, None, Some, length, take}
+use Rattle.std.specs.Prelude.{◌≡◌, ◌≢◌, ◌<◌, ◌≤◌, ◌+◌, ◌-◌, ◌^◌, ◌⊎◌, ℕ, Bool, true, false, List, [], ◌∷◌, Option, None, Some, length, take}
 use Rattle.scan_values.specs.Selections.{is_among}
-use Rattle.scan_drive.specs.Files.{Part, Told, told_at, AllTell}
+use Rattle.scan_drive.specs.Files.{Part, Told, AllGive}
 use Rattle.scan_drive.specs.Measures.{is_there, slots_steps, phases_steps}
-use Rattle.scan_drive.specs.Phases.{phase_at, IsShut}
+use Rattle.scan_drive.specs.Order.{Rises}
+use Rattle.scan_drive.specs.Phases.{phase_at, is_unopened, IsShut}
 use Rattle.scan_drive.specs.Runs.{new_run}
 use Rattle.scan_drive.specs.Slots.{slot_at, is_read, is_halted}
 use Rattle.scan_drive.specs.Splits.{SplitState}
@@ -61,23 +62,25 @@ module _ {W I R F : Type 0} (split : W → SplitState I) where
   abbrev pub seats_steps : ℕ → Active W R → List (Phase W F) → ℕ
   seats_steps first a ps = slots_steps split a.slots.items + phases_steps split ps + (length ps - first)
 
-  -- splits of files from one on became active, up to another
+  -- splits of files from one on became active, up to another, in the order of their files
   pub record SeatsOn (first first' : ℕ) (old new : Active W R) (ps qs : List (Phase W F)) : Type 0 where
     pub at : (place : ℕ) → IsSeated (length ps) (slot_at old.slots.items place) (slot_at new.slots.items place)
     pub filled : Filled old → Filled new
     pub nears : ((first' ≡ first) × (qs ≡ ps) × SameTurns old new) ⊎ (seats_steps first' new qs < seats_steps first old ps)
+    pub order : (low : ℕ) → Rises low first old.turns.items old.slots.items → Rises low first' new.turns.items new.slots.items
+    pub shut : (k : ℕ) → is_unopened (phase_at qs k) ≡ is_unopened (phase_at ps k)
 
 module _ {W F : Type 0} where
   -- with its rows there would be too many
   abbrev pub IsTooMany : ℕ → Tally → Phase W F → Type 0
   IsTooMany file tally phase.Unopened = ⊥
-  IsTooMany file tally (phase.Queued ws rows) = (tally.files ≡ file) × (2 ^ 64 ≤ tally.rows + rows)
+  IsTooMany file tally (phase.Queued ws rows) = (tally.files ≡ file) × (2 ^ 64 ≤ tally.rows + rows) × (0 < rows)
   IsTooMany file tally (phase.Held f) = ⊥
 
   -- the rows of this file are counted
   abbrev pub IsCounted : ℕ → Tally → Tally → Phase W F → Type 0
   IsCounted file old new phase.Unopened = new ≡ old
-  IsCounted file old new (phase.Queued ws rows) = (new ≡ old) ⊎ ((old.files ≡ file) × (new.files ≡ file + 1) × (new.rows ≡ old.rows + rows))
+  IsCounted file old new (phase.Queued ws rows) = ((new ≡ old) × (old.files ≢ file)) ⊎ ((old.files ≡ file) × (new.files ≡ file + 1) × (new.rows ≡ old.rows + rows))
   IsCounted file old new (phase.Held f) = new ≡ old
 
   -- the rows of this file may be counted, or there would be too many
@@ -106,4 +109,4 @@ module _ {I : Type 0} where
   -- these are the rows of the first files
   pub record IsTally (tale : List (Told I)) (t : Tally) : Type 0 where
     pub within : t.files ≤ length tale
-    pub sum : AllTell tale → t.rows ≡ rows_of (take t.files tale)
+    pub sum : AllGive tale → t.rows ≡ rows_of (take t.files tale)

@@ -1,6 +1,6 @@
 -- Wants of segments: each is looked up in a cache, and what is not there waits at the desk of its file.
 use Rattle.std.specs.Prelude.{◌≡◌, ℕ, List, [], ◌++◌, Bool, true, false, None, Some, is_some, option_map}
-use Rattle.scan_segments.specs.Cache.{CacheState, Loses, happened}
+use Rattle.scan_segments.specs.Cache.{CacheState, Loses, Both, happened}
 use Rattle.scan_segments.specs.Cached.{Moves, IsGot, Offers}
 use Rattle.scan_segments.specs.Events.{offered_keys}
 use Rattle.scan_segments.specs.Source.{SourceState, Stays}
@@ -23,6 +23,10 @@ use Rattle.scan_drive.specs.declared.report.ScanReport.{ScanReport}
 -- a cache of the segments of many files, as contracts see it
 abbrev pub Cache : Type 0
 Cache = CacheState SegmentKey
+
+-- entries only went
+abbrev pub OnlyLoses : Cache → Cache → Type 0
+OnlyLoses c d = Both c.entries d.entries Loses
 
 -- how a lookup that was polled to its end went
 abbrev pub IsLookedUp : SegmentKey → Cache → Cache → Looked → Type 0

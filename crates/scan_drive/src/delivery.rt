@@ -2,8 +2,9 @@
 ghost use Rattle.std.specs.Prelude.{◌≡◌, ◌≤◌, ◌-◌, ◌++◌, List, OnOk, IfOk, IfErr, MatchOption, Option, Some, None, length, option_map};
 ghost use Rattle.scan_drive.specs.Files.{Item};
 ghost use Rattle.scan_drive.specs.Actives.{Seated, AllOk};
-ghost use Rattle.scan_drive.specs.Chunks.{HasRoom, Fits, fault_of, given, Gives, IsDelivered, IsDeliverFault, IsCause};
+ghost use Rattle.scan_drive.specs.Chunks.{HasRoom, Fits, KeepsRows, fault_of, given, Gives, IsDelivered, IsDeliverFault, IsCause};
 ghost use Rattle.scan_drive.specs.Files.{Told, grouped};
+ghost use Rattle.scan_drive.specs.Lost.{StopsOver};
 ghost use Rattle.scan_drive.specs.Slots.{HasNews};
 ghost use Rattle.scan_drive.specs.Turns.{GivesOn, TurnsWait};
 ghost use Rattle.scan_drive.specs.declared.delivery.Delivered.TheVariants as delivered;
@@ -84,8 +85,9 @@ fn push_rows<W: SplitWork + Drop>(
     file: usize,
     rows: W::Rows,
 ) -> Result<(), NoMemory>
-    ensures { OnOk result (given W.items chunks.new.items ≡
+    ensures given { OnOk result (given W.items chunks.new.items ≡
         given W.items chunks.old.items ++ grouped file (W.items rows)) }
+    ensures some { OnOk result (KeepsRows W.items chunks.old.items chunks.new.items) }
 {
     if W::count(&rows) == 0 {
         return Ok(());
@@ -102,8 +104,9 @@ fn give<W: SplitWork + Drop>(
     file: usize,
     rows: W::Rows,
 ) -> Result<Delivered, NoMemory>
-    ensures { IfOk result (λ d.
+    ensures gives { IfOk result (λ d.
         Gives W.items file (W.items rows) chunks.old.items chunks.new.items left.old left.new d) }
+    ensures some { OnOk result (KeepsRows W.items chunks.old.items chunks.new.items) }
 {
     let count = W::count(&rows);
     match full_at(*left, count) {
@@ -138,10 +141,12 @@ pub fn deliver<W: SplitWork + Drop>(
     ensures gives { IfOk result (λ d. d ≡ delivered.More → GivesOn W.split active.old active.new × TurnsWait active.new) }
     ensures delivered { IfOk result (λ d. IsDelivered W.split W.comes W.items active.old active.new
         chunks.old.items chunks.new.items left.old left.new d) }
+    ensures some { OnOk result (KeepsRows W.items chunks.old.items chunks.new.items) }
     ensures fault { IfErr result (λ e. IsDeliverFault W.split W.comes W.items active.old active.new
         chunks.old.items chunks.new.items left.old left.new e) }
     ensures cause { IfErr result (λ e. (tale : List (Told Item)) →
         AllOk W.split W.comes W.items tale active.old → IsCause tale e) }
+    ensures stops { IfErr result (λ e. StopsOver active.old.slots.items e) }
 {
     'turns: loop {
         match active.take_front() {

@@ -2,7 +2,7 @@
 ghost use Rattle.std.specs.Prelude.{◌≡◌, [], true, false, None, Some, is_some, IfOk, IfSome, OnOk, OnErr, length, ◌<◌};
 ghost use Rattle.scan_segments.specs.Source.{Begins, Stays, none_live};
 ghost use Rattle.scan_drive.specs.Sources.{SourceMoves, NoId};
-ghost use Rattle.scan_drive.specs.Desks.{Waiters, waiters_at, waits, Agree, live_ids, added, is_in, Stay, Moves, Asks, Replies};
+ghost use Rattle.scan_drive.specs.Desks.{Waiters, waiters_at, waits, Agree, IsAwaited, live_ids, added, is_in, Stay, Moves, Asks, Replies};
 ghost use Rattle.scan_drive.specs.Ledger.{KeepsLedger, KeepsWant, KeepsReply};
 ghost use Rattle.scan_drive.specs.Wants.{IsWanted, IsUnwanted, PutsWhatCame, missed_by};
 
@@ -189,6 +189,7 @@ impl Desk {
     pub fn close<S: SegmentSource>(&mut self, source: &mut S)
         requires { Agree (S.state source.old).live self.old }
         ensures empty { self.new ≡ [] }
+        ensures awaited { IsAwaited self.old }
         ensures idle { (S.state source.new).live ≡ none_live }
         ensures source { SourceMoves NoId (S.state source.old) (S.state source.new) }
     {
@@ -222,12 +223,14 @@ fn first_live(waiters: &BTreeMap<SegmentId, Places>) -> Option<SegmentId>
 fn drop_all<S: SegmentSource>(waiters: &mut BTreeMap<SegmentId, Places>, source: &mut S)
     requires { Agree (S.state source.old).live waiters.old.entries }
     ensures empty { waiters.new.entries ≡ [] }
+    ensures awaited { IsAwaited waiters.old.entries }
     ensures agree { Agree (S.state source.new).live waiters.new.entries }
     ensures source { SourceMoves NoId (S.state source.old) (S.state source.new) }
 {
     'drops: while let Some(id) = first_live(waiters) {
         source.drop_request(id);
-        take_out(waiters, id);
+        let places = take_out(waiters, id);
+        let _waiting = places.as_slice();
     }
 }
 

@@ -1,6 +1,8 @@
 //! The steps of a round over all files.
-ghost use Rattle.std.specs.Prelude.{◌≡◌, ◌≤◌, ◌<◌, All, IfOk, OnOk, length};
-ghost use Rattle.scan_drive.specs.Drives.{DesksAgree, SourcesMove, IsIdle, NoneOf, EachLinked, SlotsKeep, BringsFileNearer};
+ghost use Rattle.std.specs.Prelude.{◌≡◌, ◌≤◌, ◌<◌, All, IfOk, OnOk, length, ℕ};
+ghost use Rattle.scan_drive.specs.Drives.{DesksAgree, SourcesMove, IsIdle, NoneOf, EachLinked, SlotsKeep, BringsFileNearer, desk_at};
+ghost use Rattle.scan_drive.specs.Grounds.{SlotsFollow};
+ghost use Rattle.scan_drive.specs.Desks.{IsAwaited};
 ghost use Rattle.scan_drive.specs.Ledger.{FilesKeepLedger, KeepsAllBalance};
 ghost use Rattle.scan_drive.specs.Losses.{FilesKeepCounts};
 ghost use Rattle.scan_drive.specs.Measures.{EachAdvances};
@@ -40,6 +42,7 @@ pub fn close_all<O: Drop, S: SegmentSource + Drop>(
 )
     requires { DesksAgree S.state files.old.items desks.old.items }
     ensures idle { All (IsIdle S.state) files.new.items }
+    ensures awaited { (k : ℕ) → k < length desks.old.items → IsAwaited (desk_at desks.old.items k) }
     ensures moves { SourcesMove S.state NoneOf files.old.items files.new.items }
     ensures ledger { (c : Cache) → FilesKeepLedger S.state files.old.items files.new.items c c }
     ensures balance { All (IsIdle S.state) files.old.items → KeepsAllBalance S.state files.old.items files.new.items }
@@ -73,6 +76,8 @@ pub fn fetch_files<W: SplitWork + Drop, O: Drop, S: SegmentSource + Drop, C: Key
     ensures keeps { OnOk result (SlotsKeep S.state W.split W.comes W.items files.old.items slots.old.items slots.new.items) }
     ensures links { OnOk result (EachLinked desks.new.items slots.new.items) }
     ensures news { OnOk result (HasNews slots.old.items news.old.items → HasNews slots.new.items news.new.items) }
+    ensures follows { OnOk result (SlotsFollow S.state (C.cache cache.old) files.old.items files.new.items
+        slots.old.items slots.new.items) }
     ensures advances { OnOk result (EachAdvances W.split slots.old.items slots.new.items) }
     ensures nearer { OnOk result (first < last → BringsFileNearer S.state W.split first files.old.items files.new.items
         desks.old.items slots.old.items slots.new.items) }

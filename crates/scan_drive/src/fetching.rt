@@ -3,6 +3,7 @@ ghost use Rattle.std.specs.Prelude.{◌≡◌, true, OnOk, ℕ, is_some};
 ghost use Rattle.scan_values.specs.Selections.{is_among};
 ghost use Rattle.scan_drive.specs.Desks.{Agree, waiters_at};
 ghost use Rattle.scan_drive.specs.Fetches.{BringsNearer, WaitOn};
+ghost use Rattle.scan_drive.specs.Grounds.{SourceFollows};
 ghost use Rattle.scan_drive.specs.Links.{Linked, StaysLinked, KeepsTold};
 ghost use Rattle.scan_drive.specs.Losses.{KeepsCounts};
 ghost use Rattle.scan_drive.specs.Measures.{EachAdvances};
@@ -41,6 +42,7 @@ fn poll_one<W: SplitWork + Drop, S: SegmentSource, C: KeyedSegmentCache>(
         slots.old.items slots.new.items) }
     ensures links { OnOk result (StaysLinked desk.old desk.new slots.old.items slots.new.items) }
     ensures news { OnOk result (HasNews slots.old.items news.old.items → HasNews slots.new.items news.new.items) }
+    ensures follows { OnOk result (SourceFollows (S.state source.old) (S.state source.new) slots.old.items slots.new.items) }
     ensures advances { OnOk result (EachAdvances W.split slots.old.items slots.new.items) }
     ensures waits { OnOk result (WaitOn key.now.segment desk.old desk.new) }
     ensures nearer { OnOk result (BringsNearer W.split key.now.segment (S.state source.old) (S.state source.new)
@@ -80,6 +82,7 @@ fn poll_all<W: SplitWork + Drop, S: SegmentSource, C: KeyedSegmentCache>(
         slots.old.items slots.new.items) }
     ensures links { OnOk result (StaysLinked desk.old desk.new slots.old.items slots.new.items) }
     ensures news { OnOk result (HasNews slots.old.items news.old.items → HasNews slots.new.items news.new.items) }
+    ensures follows { OnOk result (SourceFollows (S.state source.old) (S.state source.new) slots.old.items slots.new.items) }
     ensures advances { OnOk result (EachAdvances W.split slots.old.items slots.new.items) }
     ensures nearer { OnOk result ((id : ℕ) → is_among ids.now id ≡ true →
         BringsNearer W.split id (S.state source.old) (S.state source.new) desk.old slots.old.items slots.new.items) }
@@ -116,6 +119,7 @@ pub fn fetch<W: SplitWork + Drop, S: SegmentSource, C: KeyedSegmentCache>(
         slots.old.items slots.new.items) }
     ensures links { OnOk result (StaysLinked desk.old desk.new slots.old.items slots.new.items) }
     ensures news { OnOk result (HasNews slots.old.items news.old.items → HasNews slots.new.items news.new.items) }
+    ensures follows { OnOk result (SourceFollows (S.state source.old) (S.state source.new) slots.old.items slots.new.items) }
     ensures advances { OnOk result (EachAdvances W.split slots.old.items slots.new.items) }
     ensures nearer { OnOk result ((id : ℕ) →
         BringsNearer W.split id (S.state source.old) (S.state source.new) desk.old slots.old.items slots.new.items) }

@@ -1,8 +1,11 @@
 //! The files of a scan. After the Rust's `scan::multi`.
-ghost use Rattle.std.specs.Prelude.{◌≡◌, ◌≤◌, ◌<◌, ◌+◌, ℕ, false, OnOk, IfOk, length};
+ghost use Rattle.std.specs.Prelude.{◌≡◌, ◌≤◌, ◌<◌, ◌+◌, ℕ, List, false, OnOk, IfOk, length};
+ghost use Rattle.scan_drive.specs.Filling.{OpensBy};
 ghost use Rattle.scan_drive.specs.Moves.{EachMoves, KeepsSources, KeepsRest, KeepsPhases, HoldsWhy, AllWait, tells};
 ghost use Rattle.scan_drive.specs.Openers.{as_number};
-ghost use Rattle.scan_drive.specs.Phases.{phase_at, unopened};
+ghost use Rattle.scan_drive.specs.Phases.{SpentBelow, phase_at, unopened, AllRowsOk};
+ghost use Rattle.scan_drive.specs.Polls.{OpenersRest, PollsStand, PollsFit};
+ghost use Rattle.scan_drive.specs.declared.files.ScanFile.{ScanFile};
 
 use crate::opening::{SplitOpener, open_file};
 use crate::phase::Phase;
@@ -38,6 +41,7 @@ pub fn open_files<X: SplitOpener<O, W, F>, O, W: SplitWork + Drop, F: Drop, S: S
 ) -> Result<bool, NoMemory>
     requires same { length phases.old.items ≡ length files.old.items }
     requires within { last ≤ length files.old.items }
+    requires below { SpentBelow phases.old.items first }
     ensures len { length phases.new.items ≡ length phases.old.items }
     ensures moves { EachMoves (X.state context.now) X.polls S.state (Unit {0}) files.old.items files.new.items }
     ensures sources { KeepsSources files.old.items files.new.items }
@@ -52,6 +56,16 @@ pub fn open_files<X: SplitOpener<O, W, F>, O, W: SplitWork + Drop, F: Drop, S: S
         phases.old.items phases.new.items) }
     ensures why { OnOk result (HoldsWhy (X.state context.now) X.polls (X.refuses context.now)
         files.old.items files.new.items phases.old.items phases.new.items) }
+    ensures rest { OpenersRest first last files.old.items files.new.items }
+    ensures polled { OnOk result ((start : List (ScanFile O S)) →
+        PollsStand (X.state context.now) start files.old.items phases.old.items →
+        PollsStand (X.state context.now) start files.new.items phases.new.items) }
+    ensures fit { (start : List (ScanFile O S)) → PollsStand (X.state context.now) start files.old.items phases.old.items →
+        PollsFit (X.state context.now) start files.new.items }
+    ensures splits { OnOk result (OpensBy (X.state context.now) X.polls (X.admits context.now)
+        files.old.items files.new.items phases.old.items phases.new.items) }
+    ensures rows { OnOk result (AllRowsOk (tells (X.state context.now) S.state files.old.items) phases.old.items →
+        AllRowsOk (tells (X.state context.now) S.state files.old.items) phases.new.items) }
 {
     let mut any = false;
     for i in first..last {

@@ -3,6 +3,7 @@ ghost use Rattle.std.specs.Prelude.{◌≡◌, ◌≤◌, ◌<◌, ◌+◌, ◌^
 ghost use Rattle.scan_drive.specs.Files.{Item};
 ghost use Rattle.scan_drive.specs.Actives.{Seated, groups_left, AllOk};
 ghost use Rattle.scan_drive.specs.Files.{Told, AllTell};
+ghost use Rattle.scan_drive.specs.Filling.{Fills};
 ghost use Rattle.scan_drive.specs.Phases.{SpentBelow, Takes, PhasesOk, rest, unopened, is_unopened, phase_at};
 ghost use Rattle.scan_drive.specs.declared.phase.Phase.TheVariants as held;
 ghost use Rattle.scan_drive.specs.Slots.{HasNews};
@@ -123,6 +124,8 @@ pub fn activate<W: SplitWork + Drop, F: Drop>(
     ensures held { OnOk result ((k : ℕ) (why : F) → phase_at phases.new.items k ≡ held.Held why →
         phase_at phases.old.items k ≡ held.Held why) }
     ensures seats { IfOk result (λ n. SeatsOn W.split first n active.old active.new phases.old.items phases.new.items) }
+    ensures fills { IfOk result (λ n. Fills first n tally.old tally.new phases.old.items phases.new.items
+        active.old.slots.items active.new.slots.items) }
     ensures stuck { IfOk result (λ n. IsStuck room n tally.new phases.new.items active.new.turns.items) }
 {
     let mut first = first;

@@ -2,19 +2,26 @@
 ghost use Rattle.std.specs.Prelude.{◌≡◌, ◌≤◌, ◌<◌, ◌+◌, ◌++◌, ◌⊎◌, ◌∷◌, [], ℕ, List, true, false, OnOk, IfOk, IfErr, IfSome, MatchOption, length};
 ghost use Rattle.scan_drive.specs.Actives.{AreSeats, AllOk};
 ghost use Rattle.scan_drive.specs.Asks.{EachLinkedBut, IsWantedBy};
-ghost use Rattle.scan_drive.specs.Chunks.{HasRoom, IsMore, IsCut, IsDeliverFault, IsCause};
+ghost use Rattle.scan_drive.specs.Chunks.{HasRoom, KeepsRows, IsMore, IsCut, IsDeliverFault, IsCause};
+ghost use Rattle.scan_drive.specs.Before.{IsDone, InOrder, SoundInOrder};
 ghost use Rattle.scan_drive.specs.Desks.{Waiters};
-ghost use Rattle.scan_drive.specs.Drives.{DesksAgree, SourcesMove, EachLinked, FilesWithin, SlotsKeep};
+ghost use Rattle.scan_drive.specs.Drives.{DesksAgree, SourcesMove, EachLinked, FilesWithin, SlotsKeep, NoneOf};
+ghost use Rattle.scan_drive.specs.Ends.{limit_in};
 ghost use Rattle.scan_drive.specs.Files.{Item, Told, told_at};
+ghost use Rattle.scan_drive.specs.Grounds.{KeepsGrounds, PolledStops, SlotsFollow};
 ghost use Rattle.scan_drive.specs.Losses.{FilesBalance, HaltsStay};
+ghost use Rattle.scan_drive.specs.Lost.{EachFollows};
 ghost use Rattle.scan_drive.specs.Measures.{EachAdvances, slots_steps};
 ghost use Rattle.scan_drive.specs.Moves.{EachMoves, KeepsSources, HoldsWhy, tells};
 ghost use Rattle.scan_drive.specs.Openers.{as_number};
 ghost use Rattle.scan_drive.specs.Phases.{unopened};
+ghost use Rattle.scan_drive.specs.Polls.{PollsStand, PollsOn};
 ghost use Rattle.scan_drive.specs.Rounds.{IsReady, AreAsking, IsFrontFile, Stands, IsEnd, Sound, AskNamed, ServesFront, steps_left, files_turns};
 ghost use Rattle.scan_drive.specs.Slots.{HasNews, slot_at, is_reading};
 ghost use Rattle.scan_drive.specs.Trades.{CacheAgrees, FilesTrade};
 ghost use Rattle.scan_drive.specs.Turns.{FrontWaits, TurnsWait};
+ghost use Rattle.scan_drive.specs.declared.files.ScanFile.{ScanFile};
+ghost use Rattle.scan_drive.specs.Wants.{Cache};
 ghost use Rattle.scan_splits.specs.Wanted.{no_repeats};
 
 use crate::active::{Active, first_of};
@@ -66,7 +73,8 @@ fn finished<W: Drop, R: Drop>(
     first: usize,
 ) -> usize
     requires { (free : List ℕ) × AreSeats turns.now.items free slots.now.items }
-    ensures { turns.now.items ≡ [] → result ≡ first }
+    ensures none { turns.now.items ≡ [] → result ≡ first }
+    ensures done { IsDone turns.now.items slots.now.items first result }
 {
     match front_file(turns, slots) {
         Some(file) => file,
@@ -97,6 +105,7 @@ fn room_for(workers: usize) -> usize
 fn window(done: usize, workers: usize, files: usize) -> usize
     ensures within { result ≤ files }
     ensures some { done < files → 0 < workers → done < result }
+    ensures most { result ≤ done + workers }
 {
     done.saturating_add(workers).min(files)
 }
@@ -122,6 +131,8 @@ pub(crate) fn bring_in<X: SplitOpener<O, W, F>, O, W: SplitWork + Drop, F: Drop,
         Sound W.split W.comes W.items (tells (X.state context.now) S.state files.old.items) drive.new) }
     ensures why { OnOk result (HoldsWhy (X.state context.now) X.polls (X.refuses context.now)
         files.old.items files.new.items drive.old.phases.items drive.new.phases.items) }
+    ensures grounds { OnOk result ((c : Cache) → KeepsGrounds (X.state context.now) X.polls (X.admits context.now) S.state
+        files.old.items files.new.items c c drive.old drive.new) }
     ensures opened { IfOk result (λ b. unopened drive.new.phases.items + as_number b ≤ unopened drive.old.phases.items) }
     ensures steps { IfOk result (λ b. b ≡ false →
         (steps_left (X.state context.now) S.state W.split files.new.items drive.new
@@ -129,6 +140,14 @@ pub(crate) fn bring_in<X: SplitOpener<O, W, F>, O, W: SplitWork + Drop, F: Drop,
         ⊎ ((steps_left (X.state context.now) S.state W.split files.new.items drive.new
         ≤ steps_left (X.state context.now) S.state W.split files.old.items drive.old)
         × (drive.new.active.turns.items ≡ [] → IsEnd drive.new.first drive.new.tally drive.new.phases.items))) }
+    ensures order { OnOk result (InOrder drive.old → InOrder drive.new) }
+    ensures polled { OnOk result ((start : List (ScanFile O S)) →
+        PollsStand (X.state context.now) start files.old.items drive.old.phases.items →
+        PollsStand (X.state context.now) start files.new.items drive.new.phases.items) }
+    ensures polls { PollsOn (X.state context.now) W.items workers (limit_in W.split W.comes W.items drive.old)
+        (tells (X.state context.now) S.state files.old.items)
+        (SoundInOrder W.split W.comes W.items (tells (X.state context.now) S.state files.old.items) drive.old)
+        drive.old.phases.items files.old.items files.new.items }
 {
     let first = drive.first;
     let done = finished(&drive.active.turns, &drive.active.slots, first);
@@ -169,10 +188,14 @@ pub(crate) fn give_out<W: SplitWork + Drop>(
     ensures gives { IfOk result (λ o. MatchOption o
         (IsCut W.split W.comes W.items active.old chunks.old.items chunks.new.items left.old)
         (λ asking. IsMore W.split W.comes W.items active.old active.new chunks.old.items chunks.new.items left.old left.new)) }
+    ensures some { OnOk result (KeepsRows W.items chunks.old.items chunks.new.items) }
     ensures fault { IfErr result (λ e. IsDeliverFault W.split W.comes W.items active.old active.new
         chunks.old.items chunks.new.items left.old left.new e) }
     ensures cause { IfErr result (λ e. (tale : List (Told Item)) →
         AllOk W.split W.comes W.items tale active.old → IsCause tale e) }
+    ensures follows { IfOk result (λ o. IfSome o (λ asking.
+        EachFollows NoneOf NoneOf active.old.slots.items active.new.slots.items)) }
+    ensures stops { IfErr result (λ e. PolledStops active.old.slots.items e) }
     ensures steps { IfOk result (λ o. IfSome o (λ asking. TurnsWait active.new ×
         ((slots_steps W.split active.new.slots.items < slots_steps W.split active.old.slots.items)
         ⊎ ((slots_steps W.split active.new.slots.items ≤ slots_steps W.split active.old.slots.items)
@@ -221,6 +244,8 @@ pub(crate) fn serve<W: SplitWork + Drop, O: Drop, S: SegmentSource + Drop, C: Ke
         ServesFront S.state W.split place files.old.items files.new.items slots.old.items slots.new.items) }
     ensures links { OnOk result (EachLinked desks.new.items slots.new.items) }
     ensures news { OnOk result (HasNews slots.old.items news.old.items → HasNews slots.new.items news.new.items) }
+    ensures follows { OnOk result (SlotsFollow S.state (C.cache cache.old) files.old.items files.new.items
+        slots.old.items slots.new.items) }
 {
     want_news(alloc, asking, files, desks, cache, slots, news, report)?;
     let Some(front) = front_file(turns, slots) else {

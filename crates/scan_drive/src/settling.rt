@@ -1,8 +1,13 @@
 //! What is given of a drive, and where it ends.
-ghost use Rattle.std.specs.Prelude.{◌≡◌, [], true, false, None, ℕ, List, OnOk, IfOk, IfErr, IfSome, MatchOption};
-ghost use Rattle.scan_drive.specs.Chunks.{given};
+ghost use Rattle.std.specs.Prelude.{◌≡◌, ◌≤◌, [], true, false, None, ℕ, List, OnOk, IfOk, IfErr, IfSome, MatchOption, length};
+ghost use Rattle.scan_drive.specs.Chunks.{given, KeepsRows};
+ghost use Rattle.scan_drive.specs.Before.{SoundInOrder, StopsBefore};
+ghost use Rattle.scan_drive.specs.Drives.{NoneOf};
+ghost use Rattle.scan_drive.specs.Accounts.{RunsOut};
 ghost use Rattle.scan_drive.specs.Ends.{EndIs, Settles, Stops, limit_in};
 ghost use Rattle.scan_drive.specs.Files.{Item, Told, AllTell, answer, limited};
+ghost use Rattle.scan_drive.specs.Grounds.{SettlesBy};
+ghost use Rattle.scan_drive.specs.Lost.{EachFollows};
 ghost use Rattle.scan_drive.specs.Phases.{phase_at};
 ghost use Rattle.scan_drive.specs.Rounds.{Stands, Sound};
 ghost use Rattle.scan_drive.specs.declared.phase.Phase.TheVariants as phases;
@@ -88,8 +93,18 @@ pub(crate) fn settle<W: SplitWork + Drop, F: Drop>(
     ensures done { IfOk result (λ o. o ≡ None → (tale : List (Told Item)) → AllTell tale →
         Sound W.split W.comes W.items tale drive.old →
         given W.items drive.new.chunks.items ≡ limited (limit_in W.split W.comes W.items drive.old) (answer tale)) }
+    ensures out { IfOk result (λ o. o ≡ None → limit_in W.split W.comes W.items drive.old ≡ None →
+        RunsOut drive.old.active.slots.items) }
+    ensures some { OnOk result (KeepsRows W.items drive.old.chunks.items drive.new.chunks.items) }
     ensures fault { IfErr result (λ e. (tale : List (Told Item)) → Sound W.split W.comes W.items tale drive.old →
         Stops W.split W.comes W.items tale drive.old drive.new e) }
+    ensures before { IfErr result (λ e. (tale : List (Told Item)) → SoundInOrder W.split W.comes W.items tale drive.old →
+        StopsBefore W.items (limit_in W.split W.comes W.items drive.old) tale e) }
+    ensures follows { IfOk result (λ o. IfSome o (λ asking.
+        EachFollows NoneOf NoneOf drive.old.active.slots.items drive.new.active.slots.items)) }
+    ensures spent { IfOk result (λ o. o ≡ None → drive.old.left ≡ None →
+        length drive.old.phases.items ≤ drive.old.first) }
+    ensures settles { IfErr result (λ e. SettlesBy drive.old e) }
 {
     let asking = match give_out(alloc, &mut drive.active, &mut drive.chunks, &mut drive.left) {
         Ok(Some(asking)) => asking,

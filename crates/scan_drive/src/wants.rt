@@ -6,14 +6,18 @@ ghost use Rattle.scan_values.specs.Selections.{is_among};
 ghost use Rattle.scan_drive.specs.Asks.{WantsOne, WaitsThere, EachLinkedBut, IsWantedBy};
 ghost use Rattle.scan_drive.specs.Desks.{Agree, waits};
 ghost use Rattle.scan_drive.specs.Drives.{DesksAgree, SourcesMove, EachLinked, FilesWithin, SlotsKeep};
+ghost use Rattle.scan_drive.specs.Drivings.{IsKeptIn};
 ghost use Rattle.scan_drive.specs.Files.{Item, Part};
+ghost use Rattle.scan_drive.specs.Grounds.{SlotsFollow};
 ghost use Rattle.scan_drive.specs.Ledger.{KeepsReport, FilesKeepReport};
 ghost use Rattle.scan_drive.specs.Links.{Among};
 ghost use Rattle.scan_drive.specs.Looks.{WaitsForAll};
+ghost use Rattle.scan_drive.specs.Lost.{Follows};
 ghost use Rattle.scan_drive.specs.Measures.{Advances, EachAdvances};
 ghost use Rattle.scan_drive.specs.Slots.{SlotKeeps, HasNews, slot_at, is_fresh, stage_waits, wanted_in};
-ghost use Rattle.scan_drive.specs.Sources.{SourceMoves};
+ghost use Rattle.scan_drive.specs.Sources.{SourceMoves, NoId};
 ghost use Rattle.scan_drive.specs.Trades.{Trusts, Trades, FilesTrade, CacheAgrees};
+ghost use Rattle.scan_drive.specs.Wants.{OnlyLoses};
 
 use crate::cached::Wanted;
 use crate::desk::Desk;
@@ -47,6 +51,7 @@ fn want_one<W: Drop, R: Drop, S: SegmentSource, C: KeyedSegmentCache>(
         (C.cache cache.old) (C.cache cache.new) }
     ensures balance { OnOk result (KeepsReport key.now.source_id (S.state source.old) (S.state source.new)
         (C.cache cache.old) (C.cache cache.new) report.old report.new) }
+    ensures loses { OnOk result (OnlyLoses (C.cache cache.old) (C.cache cache.new)) }
     ensures wants { OnOk result (WantsOne key.now place (C.cache cache.old) slot.old slot.new desk.old desk.new) }
 {
     let wanted = desk.want(alloc, key, place, source, cache)?;
@@ -88,6 +93,8 @@ fn want_all<W: SplitWork + Drop, S: SegmentSource, C: KeyedSegmentCache>(
         SlotKeeps W.split W.comes W.items p store slot.old slot.new) }
     ensures advances { OnOk result (Advances W.split slot.old slot.new) }
     ensures there { OnOk result (WaitsThere place slot.new desk.old desk.new) }
+    ensures loses { OnOk result (OnlyLoses (C.cache cache.old) (C.cache cache.new)) }
+    ensures follows { OnOk result (Follows (IsKeptIn (C.cache cache.old) key.old.source_id) NoId slot.old slot.new) }
 {
     for id in ids {
         key.segment = *id;
@@ -133,6 +140,8 @@ fn want_slot<W: SplitWork + Drop, S: SegmentSource, C: KeyedSegmentCache>(
     ensures advances { OnOk result (Advances W.split slot.old slot.new) }
     ensures there { OnOk result (WaitsThere place slot.new desk.old desk.new) }
     ensures fresh { IfOk result (λ b. b ≡ is_fresh slot.new.stage) }
+    ensures loses { OnOk result (OnlyLoses (C.cache cache.old) (C.cache cache.new)) }
+    ensures follows { OnOk result (Follows (IsKeptIn (C.cache cache.old) name.now) NoId slot.old slot.new) }
 {
     let ids = wanted_of(alloc, slot)?;
     let mut key = SegmentKey {
@@ -174,6 +183,9 @@ pub fn want_news<W: SplitWork + Drop, O: Drop, S: SegmentSource + Drop, C: Keyed
     ensures advances { OnOk result (EachAdvances W.split slots.old.items slots.new.items) }
     ensures links { OnOk result (EachLinked desks.new.items slots.new.items) }
     ensures news { OnOk result (HasNews slots.old.items news.old.items → HasNews slots.new.items news.new.items) }
+    ensures loses { OnOk result (OnlyLoses (C.cache cache.old) (C.cache cache.new)) }
+    ensures follows { OnOk result (SlotsFollow S.state (C.cache cache.old) files.old.items files.new.items
+        slots.old.items slots.new.items) }
 {
     'asking: while let Some(place) = asking.pop_front() {
         let k = slots[place].file;

@@ -1,10 +1,12 @@
-use Rattle.std.proofs.Common.{subst, sym, inl, inr, ◌∙◌}
+use Rattle.std.proofs.Common.{subst, sym, refl, inl, inr, ◌∙◌}
 use Rattle.scan_drive.specs.Actives.{IsFront}
+use Rattle.scan_drive.specs.Lost.{StopsOver}
 use Rattle.scan_drive.specs.Chunks.{IsCause, IsDeliverFault, Gives}
 use Rattle.scan_drive.specs.declared.active.Front.{Front}
 use Rattle.scan_drive.specs.declared.delivery.Delivered.{Delivered}
 use Rattle.scan_drive.specs.declared.delivery.DriveFault.{DriveFault}
 use Rattle.scan_drive.proofs.Giving.{more_stays, more_rows, cut_rows, front_ok, stays_ok, stays_halted, stays_seated, halted_cause, held_fault}
+use Rattle.scan_drive.proofs.Polling.{stops_over}
 use Rattle.scan_drive.proofs.Turning.{gives_stays, gives_rows, waits_stays}
 use Rattle.scan_drive.proofs.delivery.deliver.Goals as goal
 
@@ -58,11 +60,12 @@ returns-in-Ok-Halted-clause-cause g c tale ok =
 pub turns-preserved : goal.turns-preserved
 turns-preserved g c =
     let f = subst (λ (x : Front g.row.W-Rows.Denot). IsFront c.turns.active c.take_front.new.self x) c.in-Ok-Rows.field-0-is c.in-Ok-Rows.ensures in
-    let given = subst (λ (d : Delivered). Gives g.W.SplitWork.items c.in-Ok-Rows.file (g.W.SplitWork.items c.in-Ok-Rows.rows) c.turns.chunks.items c.give.new.chunks.items c.turns.left c.give.new.left d) c.in-Ok-More.field-0-is c.in-Ok-More.ensures in
+    let given = subst (λ (d : Delivered). Gives g.W.SplitWork.items c.in-Ok-Rows.file (g.W.SplitWork.items c.in-Ok-Rows.rows) c.turns.chunks.items c.give.new.chunks.items c.turns.left c.give.new.left d) c.in-Ok-More.field-0-is c.in-Ok-More.ensures.gives in
     record {
       seated = f.seated;
       news = λ h. f.news (c.turns.invariant.news h);
       ok = λ tale ok. front_ok g.W.SplitWork.split g.W.SplitWork.comes g.W.SplitWork.items tale c.in-Ok-Rows.file c.in-Ok-Rows.rows c.turns.active c.take_front.new.self c.turns.invariant.seated f (c.turns.invariant.ok tale ok);
+      some = λ h. c.in-Ok-More.ensures.some (c.turns.invariant.some h);
       gives = gives_rows g.W.SplitWork.split c.in-Ok-Rows.file c.in-Ok-Rows.rows c.args.active.now c.turns.active c.take_front.new.self c.turns.invariant.seated f c.turns.invariant.gives;
       more = more_rows g.W.SplitWork.split g.W.SplitWork.comes g.W.SplitWork.items c.in-Ok-Rows.file c.in-Ok-Rows.rows c.args.active.now c.turns.active c.take_front.new.self c.args.chunks.now.items c.turns.chunks.items c.give.new.chunks.items c.args.left.now c.turns.left c.give.new.left
           c.turns.invariant.seated c.turns.invariant.ok c.turns.invariant.more f given;
@@ -76,6 +79,15 @@ returns-in-Ok-Full-clause-ok g c tale ok =
 pub returns-in-Ok-Full-clause-delivered : goal.returns-in-Ok-Full-clause-delivered
 returns-in-Ok-Full-clause-delivered g c =
     let f = subst (λ (x : Front g.row.W-Rows.Denot). IsFront c.turns.active c.take_front.new.self x) c.in-Ok-Rows.field-0-is c.in-Ok-Rows.ensures in
-    let given = subst (λ (d : Delivered). Gives g.W.SplitWork.items c.in-Ok-Rows.file (g.W.SplitWork.items c.in-Ok-Rows.rows) c.turns.chunks.items c.give.new.chunks.items c.turns.left c.give.new.left d) c.in-Ok-Full.field-0-is c.in-Ok-Full.ensures in
+    let given = subst (λ (d : Delivered). Gives g.W.SplitWork.items c.in-Ok-Rows.file (g.W.SplitWork.items c.in-Ok-Rows.rows) c.turns.chunks.items c.give.new.chunks.items c.turns.left c.give.new.left d) c.in-Ok-Full.field-0-is c.in-Ok-Full.ensures.gives in
     cut_rows g.W.SplitWork.split g.W.SplitWork.comes g.W.SplitWork.items c.in-Ok-Rows.file c.in-Ok-Rows.rows c.args.active.now c.turns.active c.take_front.new.self c.args.chunks.now.items c.turns.chunks.items c.give.new.chunks.items c.args.left.now c.turns.left c.turns.invariant.seated
     c.turns.invariant.ok c.turns.invariant.more f given
+
+pub returns-in-Ok-Halted-clause-stops : goal.returns-in-Ok-Halted-clause-stops
+returns-in-Ok-Halted-clause-stops g c =
+    let f = subst (λ (x : Front g.row.W-Rows.Denot). IsFront c.turns.active c.take_front.new.self x) c.in-Ok-Halted.field-0-is c.in-Ok-Halted.ensures in
+    subst (λ (e : DriveFault). StopsOver c.args.active.now.slots.items e) (sym c.held.ensures)
+    (stops_over c.in-Ok-Halted.file c.in-Ok-Halted.halt c.args.active.now.slots.items c.turns.active.slots.items c.turns.active refl c.turns.invariant.gives.at f.0)
+
+pub returns-in-Ok-Full-clause-some : goal.returns-in-Ok-Full-clause-some
+returns-in-Ok-Full-clause-some g c h = c.in-Ok-Full.ensures.some (c.turns.invariant.some h)

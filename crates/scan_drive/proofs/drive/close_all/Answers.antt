@@ -1,6 +1,7 @@
-use Rattle.std.proofs.Common.{◌∙◌, ◌<◌, List, arith, length, length-set, set, get_or, get_or-set_other, ◌≡◌, refl}
+use Rattle.std.proofs.Common.{◌∙◌, ◌<◌, List, [], arith, length, length-set, set, get_or, get_or-set_other, ◌≡◌, refl}
 use Rattle.scan_drive.specs.Drives.{NoneOf}
 use Rattle.scan_drive.specs.declared.files.ScanFile.{ScanFile}
+use Rattle.scan_drive.proofs.Accounting.{awaited_next}
 use Rattle.scan_drive.proofs.Balancing.{closed_ledger, closed_balance}
 use Rattle.scan_drive.proofs.Filing.{files_ledger, files_ledger_then, files_balance, files_balance_then, idle_at}
 use Rattle.scan_drive.proofs.Rounding.{none_agree, agree_set, sources_moved, idle_set}
@@ -19,6 +20,8 @@ loop-i-preserved g c =
     let is : x ≡ get_or c.args.files.now.items i x = c.index_mut-file.ensures.value ∙ inv.rest i x (omega arith) in
     record {
       rest = λ k f le. get_or-set_other now i k y f (λ same. omega (arith, le, same)) ∙ inv.rest k f (omega (arith, le));
+      desks = λ k le. get_or-set_other desks i k c.close.new.self [] (λ same. omega (arith, le, same)) ∙ inv.desks k (omega (arith, le));
+      awaited = awaited_next desks c.args.desks.now.items i c.index_mut-desk.result.now (let n = inv.agree.len in omega (arith, lt, n)) c.index_mut-desk.ensures.value inv.desks inv.awaited c.close.ensures.awaited;
       ledger = λ cache. files_ledger_then source c.args.files.now.items now (set now i y) cache cache cache inv.moves.len (inv.ledger cache)
           (files_ledger source now i x y cache cache lt c.index_mut-file.ensures.value refl (closed_ledger x.source_id (source x.source) (source y.source) cache c.close.ensures.source c.close.ensures.idle));
       balance = λ idle cache report lost. files_balance_then source c.args.files.now.items now (set now i y) cache cache cache report report report lost lost lost inv.moves.len (inv.balance idle cache report lost)

@@ -9,6 +9,7 @@ use Rattle.scan_drive.proofs.Bringing.{first_next}
 use Rattle.scan_drive.proofs.Losing.{files_counts, files_counts_then, halts_advance}
 use Rattle.scan_drive.proofs.Nearing.{all_then}
 use Rattle.scan_drive.proofs.Rounding.{agree_set, linked_at, linked_set, sources_moved, slots_kept}
+use Rattle.scan_drive.proofs.Serving.{loses_self, polled_next}
 use Rattle.scan_drive.proofs.Trading.{files_set, files_then}
 use Rattle.scan_drive.proofs.drive.fetch_files.Goals as goal
 
@@ -35,12 +36,14 @@ loop-k-preserved g c =
     record {
       agree = agree_set source files desks k y c.fetch.new.desk inv.agree klt c.fetch.ensures.agree;
       sources = sources_moved source NoneOf files0 files k x y inv.sources klt c.index_mut-file.ensures.value refl refl (moves_weaker NoId (NoneOf k) (source x.source) (source y.source) (λ id n. n) c.fetch.ensures.source);
-      trades = files_then source files0 files (set files k y) (cache c.args.cache.now) (cache c.loop-k.cache) (cache c.fetch.new.cache) inv.trades (files_set source files k x y (cache c.loop-k.cache) (cache c.fetch.new.cache) klt c.index_mut-file.ensures.value refl c.fetch.ensures.source.holds c.fetch.ensures.trades);
+      trades = files_then source files0 files (set files k y) (cache c.args.cache.now) (cache c.loop-k.cache) (cache c.fetch.new.cache) inv.trades
+          (files_set source files k x y (cache c.loop-k.cache) (cache c.fetch.new.cache) klt c.index_mut-file.ensures.value refl c.fetch.ensures.source.holds c.fetch.ensures.trades);
       counts = files_counts_then source files0 files (set files k y) (cache c.args.cache.now) (cache c.loop-k.cache) (cache c.fetch.new.cache) slots new inv.trades.len (halts_advance g.W.SplitWork.split slots new ok.advances) inv.counts
           (files_counts source files k x y (cache c.loop-k.cache) (cache c.fetch.new.cache) new klt c.index_mut-file.ensures.value refl ok.counts);
       keeps = slots_kept source g.W.SplitWork.split g.W.SplitWork.comes g.W.SplitWork.items files0 files slots0 slots new k x inv.sources inv.keeps klt c.index_mut-file.ensures.value ok.keeps then.1;
       links = linked_set desks k c.fetch.new.desk slots new inv.links dlt then.0 then.1;
       news = λ h. ok.news (inv.news h);
+      follows = polled_next source (cache c.args.cache.now) (cache c.args.cache.now) NoneOf files0 files k x y slots0 slots new (loses_self (cache c.args.cache.now)) inv.sources klt c.index_mut-file.ensures.value refl refl c.fetch.ensures.source then.1 ok.follows inv.follows;
       advances = all_then g.W.SplitWork.split slots0 slots new inv.advances ok.advances;
       nearer = first_next source g.W.SplitWork.split c.args.first k files0 files c.args.desks.now.items desks slots0 slots new x y d c.fetch.new.desk c.loop-k.auto.k klt dlt c.index_mut-file.ensures.value c.index_mut-desk.ensures.value inv.nearer ok.advances ok.nearer;
     }
@@ -75,7 +78,8 @@ returns-in_err-fetch-clause-trades g c =
     let klt : k < length files = omega (arith, inv.sources.len, c.requires.to) in
     let x : ScanFile g.row.O.Denot g.row.S.Denot = c.index_mut-file.result.now in
     let y : ScanFile g.row.O.Denot g.row.S.Denot = record x { source = c.fetch.new.source } in
-    files_then source files0 files (set files k y) (cache c.args.cache.now) (cache c.loop-k.cache) (cache c.fetch.new.cache) inv.trades (files_set source files k x y (cache c.loop-k.cache) (cache c.fetch.new.cache) klt c.index_mut-file.ensures.value refl c.fetch.ensures.source.holds c.fetch.ensures.trades)
+    files_then source files0 files (set files k y) (cache c.args.cache.now) (cache c.loop-k.cache) (cache c.fetch.new.cache) inv.trades
+    (files_set source files k x y (cache c.loop-k.cache) (cache c.fetch.new.cache) klt c.index_mut-file.ensures.value refl c.fetch.ensures.source.holds c.fetch.ensures.trades)
 
 pub fetch-requires-clause-links : goal.fetch-requires-clause-links
 fetch-requires-clause-links g c =

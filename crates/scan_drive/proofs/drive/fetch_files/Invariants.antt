@@ -1,4 +1,5 @@
 use Rattle.scan_drive.specs.Drives.{DesksAgree, SourcesMove, EachLinked, NoneOf, SlotsKeep}
+use Rattle.scan_drive.specs.Grounds.{SlotsFollow}
 use Rattle.scan_drive.specs.Losses.{FilesKeepCounts}
 use Rattle.scan_drive.specs.Measures.{EachAdvances}
 use Rattle.scan_drive.specs.Slots.{HasNews}
@@ -15,6 +16,7 @@ invariant-loop-k g l = record {
   keeps : SlotsKeep g.S.SegmentSource.state g.W.SplitWork.split g.W.SplitWork.comes g.W.SplitWork.items l.fn.files.items l.fn.slots.items l.slots.items;
   links : EachLinked l.desks.items l.slots.items;
   news : HasNews l.fn.slots.items l.fn.news.items → HasNews l.slots.items l.news.items;
+  follows : SlotsFollow g.S.SegmentSource.state (g.C.KeyedSegmentCache.cache l.fn.cache) l.fn.files.items l.files.items l.fn.slots.items l.slots.items;
   advances : EachAdvances g.W.SplitWork.split l.fn.slots.items l.slots.items;
   nearer : FirstNearer g.S.SegmentSource.state g.W.SplitWork.split l.first l.k l.fn.files.items l.files.items l.fn.desks.items l.desks.items l.fn.slots.items l.slots.items;
 }

@@ -10,7 +10,11 @@ use Rattle.scan_drive.proofs.fetching.fetch.Goals as goal
 
 pub returns-clause-nearer : goal.returns-clause-nearer
 returns-clause-nearer g c =
-    on_ok c.poll_all.result (fetched_nearer g.W.SplitWork.split c.in_ok-ids.ids.items (g.S.SegmentSource.state c.args.source.now) (g.S.SegmentSource.state c.poll_all.new.source) c.args.desk.now c.args.slots.now.items c.poll_all.new.slots.items c.in_ok-ids.ensures) (subst (λ (ids : List ℕ). OnOk c.poll_all.result ((id : ℕ) → is_among ids id ≡ true → BringsNearer g.W.SplitWork.split id (g.S.SegmentSource.state c.args.source.now) (g.S.SegmentSource.state c.poll_all.new.source) c.args.desk.now c.args.slots.now.items c.poll_all.new.slots.items)) c.deref.ensures.value c.poll_all.ensures.nearer)
+    on_ok c.poll_all.result (fetched_nearer g.W.SplitWork.split c.in_ok-ids.ids.items (g.S.SegmentSource.state c.args.source.now)
+    (g.S.SegmentSource.state c.poll_all.new.source) c.args.desk.now c.args.slots.now.items c.poll_all.new.slots.items c.in_ok-ids.ensures)
+    (subst (λ (ids : List ℕ). OnOk c.poll_all.result ((id : ℕ) → is_among ids id ≡ true
+    → BringsNearer g.W.SplitWork.split id (g.S.SegmentSource.state c.args.source.now)
+    (g.S.SegmentSource.state c.poll_all.new.source) c.args.desk.now c.args.slots.now.items c.poll_all.new.slots.items)) c.deref.ensures.value c.poll_all.ensures.nearer)
 
 pub returns-in_err-ids-clause-trades : goal.returns-in_err-ids-clause-trades
 returns-in_err-ids-clause-trades g c = trades_self c.args.name.now (g.S.SegmentSource.state c.args.source.now) (g.C.KeyedSegmentCache.cache c.args.cache.now)

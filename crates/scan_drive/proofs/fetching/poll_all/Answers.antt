@@ -1,9 +1,10 @@
-use Rattle.std.proofs.Common.{◌≡◌, ◌+◌, ◌<◌, ◌∷◌, ◌∙◌, List, ℕ, drop, length, arith, subst, sym, ap, refl}
+use Rattle.std.proofs.Common.{◌+◌, ◌<◌, ◌∷◌, ◌∙◌, List, ℕ, drop, length, arith, subst, sym, ap, refl}
 use Rattle.scan_drive.specs.Losses.{KeepsCounts}
 use Rattle.scan_drive.specs.Sources.{NoId}
 use Rattle.scan_drive.specs.Trades.{Trades}
 use Rattle.scan_drive.proofs.Asking.{moves_self, moves_then}
 use Rattle.scan_drive.proofs.Bringing.{Fetching, fetching_all, fetching_next, fetching_skip}
+use Rattle.scan_drive.proofs.Failing.{source_self, source_then}
 use Rattle.scan_drive.proofs.Handing.{drop_next}
 use Rattle.scan_drive.proofs.Linking.{told_self, told_then, linked_self, linked_then}
 use Rattle.scan_drive.proofs.Losing.{counts_self, counts_then, halts_advance}
@@ -42,6 +43,7 @@ loop-id-preserved g c =
       keeps = told_then split g.W.SplitWork.comes g.W.SplitWork.items s.holds t.holds old now next inv.moves.holds inv.keeps ok.keeps;
       links = linked_then c.args.desk.now c.loop-id.desk c.poll_one.new.desk old now next inv.links ok.links;
       news = λ h. ok.news (inv.news h);
+      follows = source_then NoId NoId s t u old now next inv.moves c.poll_one.ensures.source inv.follows ok.follows;
       advances = all_then split old now next inv.advances ok.advances;
       nearer = fetching_next split id ids (drop (i + 1) ids) s t u c.args.desk.now c.loop-id.desk c.poll_one.new.desk old now next f c.poll_one.ensures.source.turns ok.waits ok.advances ok.nearer;
     }
@@ -72,6 +74,7 @@ loop-id-preserved-then-not-is_live g c =
       keeps = inv.keeps;
       links = inv.links;
       news = inv.news;
+      follows = inv.follows;
       advances = inv.advances;
       nearer = fetching_skip split id ids (drop (i + 1) ids) s t c.args.desk.now c.loop-id.desk old now f (sym c.is_live.ensures ∙ c.if-not-is_live.true);
     }
@@ -106,6 +109,7 @@ loop-id-init g c =
       keeps = told_self split g.W.SplitWork.comes g.W.SplitWork.items s.holds slots;
       links = linked_self c.args.desk.now slots;
       news = λ h. h;
+      follows = source_self s s slots;
       advances = all_refl split slots;
       nearer = fetching_all split c.args.ids.now s c.args.desk.now slots;
     }

@@ -1,5 +1,6 @@
 use Rattle.std.proofs.Common.{◌≡◌, ◌∙◌, List, ℕ, subst, sym, ap}
 use Rattle.scan_drive.specs.Fetches.{BringsNearer}
+use Rattle.scan_drive.specs.Grounds.{SourceFollows}
 use Rattle.scan_drive.specs.Links.{StaysLinked, KeepsTold}
 use Rattle.scan_drive.specs.Losses.{HasHalted}
 use Rattle.scan_drive.specs.Measures.{EachAdvances}
@@ -8,6 +9,7 @@ use Rattle.scan_drive.specs.Slots.{at_each, handed, given_up, HasNews}
 use Rattle.scan_drive.specs.declared.slot.Halt.TheVariants as halt
 use Rattle.scan_drive.specs.declared.slot.Slot.{Slot}
 use Rattle.scan_drive.proofs.Bringing.{on_stay, on_ended, came_advances, lost_advances, came_nearer, lost_nearer, pending_nearer}
+use Rattle.scan_drive.proofs.Failing.{source_self, source_came, source_lost}
 use Rattle.scan_drive.proofs.Linking.{on_ok, told_handed, told_lost, linked_handed, linked_lost, news_lost, take_all}
 use Rattle.scan_drive.proofs.Losing.{counts_reply, has_lost}
 use Rattle.scan_drive.proofs.Nearing.{all_refl}
@@ -30,7 +32,8 @@ returns-in-Came-clause-keeps g c =
     let links = c.requires.links.1 in
     let once = c.as_slice.ensures.distinct in
     let now : List ℕ → List (Slot g.row.W.Denot g.row.W-Rows.Denot) = λ xs. at_each (handed id c.in-Came.arrival) xs slots in
-    on_ok c.hand.result (λ (e : c.hand.new.slots.items ≡ now c.as_slice.result.now). subst (λ (ss : List (Slot g.row.W.Denot g.row.W-Rows.Denot)). KeepsTold split comes items s.holds slots ss) (sym (e ∙ ap now c.as_slice.ensures.places)) (told_handed split comes items file s id c.in-Came.arrival ps d slots links r.0 once r.2)) c.hand.ensures.slots
+    on_ok c.hand.result (λ (e : c.hand.new.slots.items ≡ now c.as_slice.result.now). subst (λ (ss : List (Slot g.row.W.Denot g.row.W-Rows.Denot)). KeepsTold split comes items s.holds slots ss)
+    (sym (e ∙ ap now c.as_slice.ensures.places)) (told_handed split comes items file s id c.in-Came.arrival ps d slots links r.0 once r.2)) c.hand.ensures.slots
 
 pub returns-in-Came-clause-links : goal.returns-in-Came-clause-links
 returns-in-Came-clause-links g c =
@@ -48,7 +51,8 @@ returns-in-Came-clause-links g c =
     let links = c.requires.links.1 in
     let once = c.as_slice.ensures.distinct in
     let now : List ℕ → List (Slot g.row.W.Denot g.row.W-Rows.Denot) = λ xs. at_each (handed id c.in-Came.arrival) xs slots in
-    on_ok c.hand.result (λ (e : c.hand.new.slots.items ≡ now c.as_slice.result.now). subst (λ (ss : List (Slot g.row.W.Denot g.row.W-Rows.Denot)). StaysLinked d c.collect.new.self slots ss) (sym (e ∙ ap now c.as_slice.ensures.places)) (linked_handed id c.in-Came.arrival ps d c.collect.new.self slots r.0 r.1 once)) c.hand.ensures.slots
+    on_ok c.hand.result (λ (e : c.hand.new.slots.items ≡ now c.as_slice.result.now). subst (λ (ss : List (Slot g.row.W.Denot g.row.W-Rows.Denot)). StaysLinked d c.collect.new.self slots ss)
+    (sym (e ∙ ap now c.as_slice.ensures.places)) (linked_handed id c.in-Came.arrival ps d c.collect.new.self slots r.0 r.1 once)) c.hand.ensures.slots
 
 pub returns-in-Came-clause-advances : goal.returns-in-Came-clause-advances
 returns-in-Came-clause-advances g c =
@@ -66,7 +70,8 @@ returns-in-Came-clause-advances g c =
     let links = c.requires.links.1 in
     let once = c.as_slice.ensures.distinct in
     let now : List ℕ → List (Slot g.row.W.Denot g.row.W-Rows.Denot) = λ xs. at_each (handed id c.in-Came.arrival) xs slots in
-    on_ok c.hand.result (λ (e : c.hand.new.slots.items ≡ now c.as_slice.result.now). subst (λ (ss : List (Slot g.row.W.Denot g.row.W-Rows.Denot)). EachAdvances split slots ss) (sym (e ∙ ap now c.as_slice.ensures.places)) (came_advances split file id c.in-Came.arrival ps d slots links r.0 once)) c.hand.ensures.slots
+    on_ok c.hand.result (λ (e : c.hand.new.slots.items ≡ now c.as_slice.result.now). subst (λ (ss : List (Slot g.row.W.Denot g.row.W-Rows.Denot)). EachAdvances split slots ss)
+    (sym (e ∙ ap now c.as_slice.ensures.places)) (came_advances split file id c.in-Came.arrival ps d slots links r.0 once)) c.hand.ensures.slots
 
 pub returns-in-Came-clause-nearer : goal.returns-in-Came-clause-nearer
 returns-in-Came-clause-nearer g c =
@@ -84,7 +89,8 @@ returns-in-Came-clause-nearer g c =
     let links = c.requires.links.1 in
     let once = c.as_slice.ensures.distinct in
     let now : List ℕ → List (Slot g.row.W.Denot g.row.W-Rows.Denot) = λ xs. at_each (handed id c.in-Came.arrival) xs slots in
-    on_ok c.hand.result (λ (e : c.hand.new.slots.items ≡ now c.as_slice.result.now). subst (λ (ss : List (Slot g.row.W.Denot g.row.W-Rows.Denot)). BringsNearer split id s t d slots ss) (sym (e ∙ ap now c.as_slice.ensures.places)) (came_nearer split file id c.in-Came.arrival ps s t d slots links r.0 once)) c.hand.ensures.slots
+    on_ok c.hand.result (λ (e : c.hand.new.slots.items ≡ now c.as_slice.result.now). subst (λ (ss : List (Slot g.row.W.Denot g.row.W-Rows.Denot)). BringsNearer split id s t d slots ss)
+    (sym (e ∙ ap now c.as_slice.ensures.places)) (came_nearer split file id c.in-Came.arrival ps s t d slots links r.0 once)) c.hand.ensures.slots
 
 pub returns-in-Came-clause-waits : goal.returns-in-Came-clause-waits
 returns-in-Came-clause-waits g c =
@@ -253,19 +259,23 @@ returns-in-Pending-clause-waits g c =
 
 pub returns-in-Came-clause-trades : goal.returns-in-Came-clause-trades
 returns-in-Came-clause-trades g c =
-    trades_came c.args.key.now (g.S.SegmentSource.state c.args.source.now) (g.S.SegmentSource.state c.collect.new.source) c.args.desk.now c.collect.new.self (g.C.KeyedSegmentCache.cache c.args.cache.now) (g.C.KeyedSegmentCache.cache c.collect.new.cache) c.collect.result c.collect.ensures.replies c.collect.ensures.puts c.collect.ensures.ledger
+    trades_came c.args.key.now (g.S.SegmentSource.state c.args.source.now) (g.S.SegmentSource.state c.collect.new.source) c.args.desk.now c.collect.new.self
+    (g.C.KeyedSegmentCache.cache c.args.cache.now) (g.C.KeyedSegmentCache.cache c.collect.new.cache) c.collect.result c.collect.ensures.replies c.collect.ensures.puts c.collect.ensures.ledger
 
 pub returns-in-Failed-clause-trades : goal.returns-in-Failed-clause-trades
 returns-in-Failed-clause-trades g c =
-    trades_came c.args.key.now (g.S.SegmentSource.state c.args.source.now) (g.S.SegmentSource.state c.collect.new.source) c.args.desk.now c.collect.new.self (g.C.KeyedSegmentCache.cache c.args.cache.now) (g.C.KeyedSegmentCache.cache c.collect.new.cache) c.collect.result c.collect.ensures.replies c.collect.ensures.puts c.collect.ensures.ledger
+    trades_came c.args.key.now (g.S.SegmentSource.state c.args.source.now) (g.S.SegmentSource.state c.collect.new.source) c.args.desk.now c.collect.new.self
+    (g.C.KeyedSegmentCache.cache c.args.cache.now) (g.C.KeyedSegmentCache.cache c.collect.new.cache) c.collect.result c.collect.ensures.replies c.collect.ensures.puts c.collect.ensures.ledger
 
 pub returns-in-Pending-clause-trades : goal.returns-in-Pending-clause-trades
 returns-in-Pending-clause-trades g c =
-    trades_came c.args.key.now (g.S.SegmentSource.state c.args.source.now) (g.S.SegmentSource.state c.collect.new.source) c.args.desk.now c.collect.new.self (g.C.KeyedSegmentCache.cache c.args.cache.now) (g.C.KeyedSegmentCache.cache c.collect.new.cache) c.collect.result c.collect.ensures.replies c.collect.ensures.puts c.collect.ensures.ledger
+    trades_came c.args.key.now (g.S.SegmentSource.state c.args.source.now) (g.S.SegmentSource.state c.collect.new.source) c.args.desk.now c.collect.new.self
+    (g.C.KeyedSegmentCache.cache c.args.cache.now) (g.C.KeyedSegmentCache.cache c.collect.new.cache) c.collect.result c.collect.ensures.replies c.collect.ensures.puts c.collect.ensures.ledger
 
 pub returns-in-NoMemory-clause-trades : goal.returns-in-NoMemory-clause-trades
 returns-in-NoMemory-clause-trades g c =
-    trades_came c.args.key.now (g.S.SegmentSource.state c.args.source.now) (g.S.SegmentSource.state c.collect.new.source) c.args.desk.now c.collect.new.self (g.C.KeyedSegmentCache.cache c.args.cache.now) (g.C.KeyedSegmentCache.cache c.collect.new.cache) c.collect.result c.collect.ensures.replies c.collect.ensures.puts c.collect.ensures.ledger
+    trades_came c.args.key.now (g.S.SegmentSource.state c.args.source.now) (g.S.SegmentSource.state c.collect.new.source) c.args.desk.now c.collect.new.self
+    (g.C.KeyedSegmentCache.cache c.args.cache.now) (g.C.KeyedSegmentCache.cache c.collect.new.cache) c.collect.result c.collect.ensures.replies c.collect.ensures.puts c.collect.ensures.ledger
 
 pub returns-in-Came-clause-counts : goal.returns-in-Came-clause-counts
 returns-in-Came-clause-counts g c =
@@ -302,3 +312,38 @@ returns-in-Failed-clause-counts g c =
     let e : c.lose.new.slots.items ≡ now ps = c.lose.ensures ∙ ap now shown.places in
     counts_reply c.args.key.now.source_id s t was cache c.lose.new.slots.items (reply.Failed ps) c.in-Failed.ensures.balance
     (λ f. subst (λ (ss : List (Slot g.row.W.Denot g.row.W-Rows.Denot)). HasHalted ss) (sym e) (has_lost id (halt.Source id) ps slots (take_all file id ps d slots links r.0) shown.distinct shown.any))
+
+pub returns-in-Came-clause-follows : goal.returns-in-Came-clause-follows
+returns-in-Came-clause-follows g c =
+    let id = c.args.key.now.segment in
+    let d = c.args.desk.now in
+    let s = g.S.SegmentSource.state c.args.source.now in
+    let t = g.S.SegmentSource.state c.collect.new.source in
+    let slots = c.args.slots.now.items in
+    let ps = c.in-Came.places in
+    let r = c.in-Came.ensures.replies in
+    let file = c.requires.links.0 in
+    let links = c.requires.links.1 in
+    let once = c.as_slice.ensures.distinct in
+    let now : List ℕ → List (Slot g.row.W.Denot g.row.W-Rows.Denot) = λ xs. at_each (handed id c.in-Came.arrival) xs slots in
+    on_ok c.hand.result (λ (e : c.hand.new.slots.items ≡ now c.as_slice.result.now). subst (λ (ss : List (Slot g.row.W.Denot g.row.W-Rows.Denot)). SourceFollows s t slots ss)
+    (sym (e ∙ ap now c.as_slice.ensures.places)) (source_came file id c.in-Came.arrival ps s t d slots links c.requires.agree r.0 once)) c.hand.ensures.slots
+
+pub returns-in-Failed-clause-follows : goal.returns-in-Failed-clause-follows
+returns-in-Failed-clause-follows g c =
+    let id = c.args.key.now.segment in
+    let d = c.args.desk.now in
+    let s = g.S.SegmentSource.state c.args.source.now in
+    let t = g.S.SegmentSource.state c.collect.new.source in
+    let slots = c.args.slots.now.items in
+    let ps = c.in-Failed.places in
+    let r = c.in-Failed.ensures.replies in
+    let file = c.requires.links.0 in
+    let links = c.requires.links.1 in
+    let once = c.as_slice-in-Failed.ensures.distinct in
+    let now : List ℕ → List (Slot g.row.W.Denot g.row.W-Rows.Denot) = λ xs. at_each (given_up (halt.Source id)) xs slots in
+    let e : c.lose.new.slots.items ≡ now ps = c.lose.ensures ∙ ap now c.as_slice-in-Failed.ensures.places in
+    subst (λ (ss : List (Slot g.row.W.Denot g.row.W-Rows.Denot)). SourceFollows s t slots ss) (sym e) (source_lost file id ps s t d slots links c.requires.agree r.0 (r.2, r.3) once)
+
+pub returns-in-Pending-clause-follows : goal.returns-in-Pending-clause-follows
+returns-in-Pending-clause-follows g c = source_self (g.S.SegmentSource.state c.args.source.now) (g.S.SegmentSource.state c.collect.new.source) c.args.slots.now.items

@@ -1,13 +1,15 @@
-use Rattle.std.proofs.Common.{inl, ◌∙◌, ◌<◌, ◌≡◌, ◌≢◌, arith, length, length-set, refl, get_or-set_other, List}
+use Rattle.std.proofs.Common.{inl, ◌∙◌, ◌<◌, ◌+◌, set, ◌≡◌, ◌≢◌, arith, length, length-set, refl, get_or-set_other, List}
 use Rattle.std.proofs.lemmas.List.{get_or_default}
 use Rattle.scan_drive.specs.Moves.{IsNamed, tell, tells, FileMoves}
 use Rattle.scan_drive.specs.Openers.{as_number}
 use Rattle.scan_drive.specs.declared.files.ScanFile.{ScanFile}
 use Rattle.scan_drive.specs.declared.phase.Phase.{Phase}
 use Rattle.scan_drive.specs.declared.phase.Phase.TheVariants as phases
+use Rattle.scan_drive.proofs.Admitting.{opens_none, opens_set, rows_set}
 use Rattle.scan_drive.proofs.Asking.{moves_self}
 use Rattle.scan_drive.proofs.Moving.{moves_none, moves_set, sources_set, told_now, unopened_set_by, rest_set, phases_set_one, why_set, wait_set}
 use Rattle.scan_drive.proofs.Resting.{set_again}
+use Rattle.scan_drive.proofs.Tracking.{stand_fit, polled_below, fit_set, polled_set, stand_set, rest_set as still_set, rest_done}
 use Rattle.scan_drive.proofs.files.open_files.Goals as goal
 
 pub loop-i-init : goal.loop-i-init
@@ -19,9 +21,14 @@ loop-i-init g c = record {
   same = λ e. refl;
   waits = λ e k from to is f. absurd (omega arith);
   why = λ k f is. inl is;
+  splits = opens_none (g.X.SplitOpener.state c.args.context.now) g.X.SplitOpener.polls (g.X.SplitOpener.admits c.args.context.now) c.args.files.now.items c.args.phases.now.items;
+  rows = λ h. h;
   below = λ k lt. refl;
   left = λ all k. refl;
   ok = λ h. h;
+  within = λ k from past. from;
+  rest = λ k f h. refl;
+  polled = λ start h. (h, polled_below (g.X.SplitOpener.state c.args.context.now) start c.args.files.now.items c.args.phases.now.items c.args.first h c.requires.below);
 }
 
 pub loop-i-preserved : goal.loop-i-preserved
@@ -60,9 +67,17 @@ loop-i-preserved g c =
       waits = λ is. (let both = c.either-any.ensures.none is in
           wait_set state polls refuses source c.args.first i old now ps x y p q inv.moves lt v plt w (let u = c.in_ok-opened.ensures.opened in omega arith) (λ u. c.in_ok-opened.ensures.waits both.1 u) (inv.waits both.0));
       why = why_set state polls refuses source old now c.args.phases.now.items ps i x y p q inv.moves lt v plt w c.open_file.ensures.opens c.in_ok-opened.ensures.held inv.why;
+      splits = opens_set state polls (g.X.SplitOpener.admits c.args.context.now) source old now c.args.phases.now.items ps i x y p q inv.moves lt v plt w c.open_file.ensures.opens c.in_ok-opened.ensures.splits inv.splits;
+      rows = rows_set g.W.SplitWork.split g.W.SplitWork.comes (tells state source old) c.args.phases.now.items ps i p q (tell state source x) inv.rows plt w told c.in_ok-opened.ensures.keeps;
       below = λ k h. (let ne : k ≢ i = omega (arith, h, c.loop-i.auto.i) in get_or-set_other ps i k q phases.Unopened ne ∙ inv.below k h);
       left = rest_set g.W.SplitWork.split g.W.SplitWork.comes (tells state source old) c.args.phases.now.items ps i p q (tell state source x) inv.left (omega (arith, tale, inv.len, c.requires.same)) plt w told c.in_ok-opened.ensures.keeps;
       ok = phases_set_one g.W.SplitWork.split g.W.SplitWork.comes (tells state source old) c.args.phases.now.items ps i p q (tell state source x) inv.ok plt w told c.in_ok-opened.ensures.keeps;
+      within = λ k from past. omega (arith, past);
+      rest = still_set c.args.first i old now y c.loop-i.auto.i inv.rest;
+      polled = λ start h. (let s = inv.polled start h in (
+        stand_set state start now ps i x y p q lt v plt w c.open_file.ensures.once s.0 c.in_ok-opened.opened s.1 c.in_ok-opened.ensures.opened c.in_ok-opened.ensures.waits,
+        polled_set state start now ps i x y p q lt v plt w c.open_file.ensures.once s.0 s.1,
+      ));
     }
 
 pub returns-in_err-opened-clause-moves : goal.returns-in_err-opened-clause-moves
@@ -79,3 +94,39 @@ returns-in_err-opened-clause-moves g c =
     let n : length now ≡ length old = inv.moves.len in
     let lt : i < length now = omega (arith, n, c.requires.within) in
     moves_set state polls source (Unit {0}) old now i x y inv.moves lt c.index_mut-file.ensures.value (record { opens = c.open_file.ensures.opens; source_moves = moves_self (λ id. Unit {0} → IsNamed (tell state source x) id) (source x.source); name = refl })
+
+pub returns-in_err-opened-clause-rest : goal.returns-in_err-opened-clause-rest
+returns-in_err-opened-clause-rest g c =
+    let i = c.loop-i.i in
+    let old : List (ScanFile g.row.O.Denot g.row.S.Denot) = c.args.files.now.items in
+    let now : List (ScanFile g.row.O.Denot g.row.S.Denot) = c.loop-i.files.items in
+    let x : ScanFile g.row.O.Denot g.row.S.Denot = c.index_mut-file.result.now in
+    let y : ScanFile g.row.O.Denot g.row.S.Denot = record x { opener = c.open_file.new.opener } in
+    rest_done c.args.first (i + 1) c.args.last old (set now i y) (λ k from past. omega (arith, past)) (still_set c.args.first i old now y c.loop-i.auto.i c.loop-i.invariant.rest)
+
+pub returns-in_err-opened-clause-fit : goal.returns-in_err-opened-clause-fit
+returns-in_err-opened-clause-fit g c start h =
+    let state = g.X.SplitOpener.state c.args.context.now in
+    let inv = c.loop-i.invariant in
+    let i = c.loop-i.i in
+    let old : List (ScanFile g.row.O.Denot g.row.S.Denot) = c.args.files.now.items in
+    let now : List (ScanFile g.row.O.Denot g.row.S.Denot) = c.loop-i.files.items in
+    let ps : List (Phase g.row.W.Denot g.row.F.Denot) = c.loop-i.phases.items in
+    let x : ScanFile g.row.O.Denot g.row.S.Denot = c.index_mut-file.result.now in
+    let y : ScanFile g.row.O.Denot g.row.S.Denot = record x { opener = c.open_file.new.opener } in
+    let p : Phase g.row.W.Denot g.row.F.Denot = c.index_mut-phase.result.now in
+    let q : Phase g.row.W.Denot g.row.F.Denot = c.open_file.new.phase in
+    let n : length now ≡ length old = inv.moves.len in
+    let lt : i < length now = omega (arith, n, c.requires.within) in
+    let plt : i < length ps = omega (arith, n, inv.len, c.requires.within, c.requires.same) in
+    let s = inv.polled start h in
+    fit_set state start now ps i x y p q lt c.index_mut-file.ensures.value plt c.index_mut-phase.ensures.value c.open_file.ensures.once s.0 s.1
+
+pub returns-clause-fit : goal.returns-clause-fit
+returns-clause-fit g c start h = stand_fit (g.X.SplitOpener.state c.args.context.now) start c.loop-i.files.items c.loop-i.phases.items (c.loop-i.invariant.polled start h).0
+
+pub returns-clause-rest : goal.returns-clause-rest
+returns-clause-rest g c = rest_done c.args.first c.loop-i.i c.args.last c.args.files.now.items c.loop-i.files.items c.loop-i.invariant.within c.loop-i.invariant.rest
+
+pub returns-clause-polled : goal.returns-clause-polled
+returns-clause-polled g c start h = (c.loop-i.invariant.polled start h).0

@@ -1,6 +1,6 @@
 use Rattle.std.proofs.Common.{◌≡◌, ◌∙◌, ◌<◌, ap, sym, subst, arith, List, length}
 use Rattle.std.proofs.lemmas.List.{get_or_default}
-use Rattle.scan_drive.specs.Looks.{Looks, LooksAt}
+use Rattle.scan_drive.specs.Looks.{LooksAt}
 use Rattle.scan_drive.specs.Slots.{slot_at, nothing, SlotKeeps}
 use Rattle.scan_drive.specs.declared.slot.Slot.{Slot}
 use Rattle.scan_drive.proofs.Handing.{at_set_same}
@@ -15,7 +15,9 @@ returns-clause-keeps g c p store =
     let lt : place < length slots = omega (arith, c.if-place-len.false, c.len.ensures, c.args.slots.now.ok) in
     let x : Slot g.row.W.Denot g.row.W-Rows.Denot = c.index_mut.result.now in
     let at : x ≡ slot_at slots place = c.index_mut.ensures.value ∙ get_or_default slots place x nothing lt in
-    each_set g.W.SplitWork.split g.W.SplitWork.comes g.W.SplitWork.items p store slots place c.poll_slot-found.new.slot lt (subst (λ (s : Slot g.row.W.Denot g.row.W-Rows.Denot). SlotKeeps g.W.SplitWork.split g.W.SplitWork.comes g.W.SplitWork.items p store s c.poll_slot-found.new.slot) at (c.poll_slot-found.ensures.keeps p store))
+    each_set g.W.SplitWork.split g.W.SplitWork.comes g.W.SplitWork.items p store slots place c.poll_slot-found.new.slot lt
+    (subst (λ (s : Slot g.row.W.Denot g.row.W-Rows.Denot). SlotKeeps g.W.SplitWork.split g.W.SplitWork.comes g.W.SplitWork.items p store s c.poll_slot-found.new.slot) at
+    (c.poll_slot-found.ensures.keeps p store))
 
 pub returns-clause-looks : goal.returns-clause-looks
 returns-clause-looks g c =

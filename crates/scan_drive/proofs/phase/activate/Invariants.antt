@@ -2,6 +2,7 @@ use Rattle.std.proofs.Common.{◌≡◌, ◌≤◌, ◌+◌, ◌-◌, ◌++◌, 
 use Rattle.scan_drive.specs.Files.{Item}
 use Rattle.scan_drive.specs.Actives.{Seated, groups_left, AllOk}
 use Rattle.scan_drive.specs.Files.{Told}
+use Rattle.scan_drive.specs.Filling.{Fills}
 use Rattle.scan_drive.specs.Phases.{SpentBelow, PhasesOk, rest, unopened, phase_at}
 use Rattle.scan_drive.specs.declared.phase.Phase.TheVariants as phases
 use Rattle.scan_drive.specs.Slots.{HasNews}
@@ -22,6 +23,7 @@ invariant-loop-first g l = record {
       PhasesOk g.W.SplitWork.split g.W.SplitWork.comes tale l.phases.items × AllOk g.W.SplitWork.split g.W.SplitWork.comes g.W.SplitWork.items tale l.active;
   counted : (tale : List (Told Item)) → length tale ≡ length l.fn.phases.items → PhasesOk g.W.SplitWork.split g.W.SplitWork.comes tale l.fn.phases.items → AllOk g.W.SplitWork.split g.W.SplitWork.comes g.W.SplitWork.items tale l.fn.active → IsTally tale l.fn.tally → IsTally tale l.tally;
   held : (k : ℕ) (why : g.row.F.Denot) → phase_at l.phases.items k ≡ phases.Held why → phase_at l.fn.phases.items k ≡ phases.Held why;
+  fills : Fills l.fn.first l.first l.fn.tally l.tally l.fn.phases.items l.phases.items l.fn.active.slots.items l.active.slots.items;
   seats : SeatsOn g.W.SplitWork.split l.fn.first l.first l.fn.active l.active l.fn.phases.items l.phases.items;
 }
 

@@ -1,5 +1,4 @@
-use Rattle.std.proofs.Common.{◌<◌, ◌≡◌, ◌∙◌, arith, ap, sym, drop, length}
-use Rattle.scan_drive.specs.Slots.{slot_at}
+use Rattle.std.proofs.Common.{arith, ap, drop}
 use Rattle.scan_drive.specs.declared.slot.Slot.{Slot}
 use Rattle.scan_drive.proofs.Seating.{first_within, found}
 use Rattle.scan_drive.proofs.round.front_file.Goals as goal

@@ -1,10 +1,14 @@
-use Rattle.std.proofs.Common.{◌≡◌, ◌∙◌, ℕ, List, refl, subst, sym}
+use Rattle.std.proofs.Common.{◌≡◌, ℕ, List, refl}
 use Rattle.scan_drive.specs.Actives.{Keeps}
+use Rattle.scan_drive.specs.Drives.{NoneOf}
 use Rattle.scan_drive.specs.Files.{Item, Told}
 use Rattle.scan_drive.specs.Slots.{slot_at}
 use Rattle.scan_drive.specs.declared.active.Active.{Active}
+use Rattle.scan_drive.specs.declared.slot.Slot.{Slot}
+use Rattle.scan_drive.proofs.Following.{each_then}
 use Rattle.scan_drive.proofs.Halting.{halts_polled, halts_gives}
 use Rattle.scan_drive.proofs.Losing.{halts_then}
+use Rattle.scan_drive.proofs.Polling.{polled_follows, all_gone_follow}
 use Rattle.scan_drive.proofs.Standing.{keeps_each, ready_mid, ready_new, asking_new, links_new, asks_named, more_mid, cut_mid, fault_mid, ok_mid, steps_mid}
 use Rattle.scan_drive.proofs.round.give_out.Goals as goal
 
@@ -15,11 +19,7 @@ deliver-requires-clause-seated g c =
     let items = g.W.SplitWork.items in
     let old = c.args.active.now in
     let mid : Active g.row.W.Denot g.row.W-Rows.Denot = record old { slots = c.poll_news.new.slots; news = c.poll_news.new.news } in
-    let chunks = c.args.chunks.now.items in
-    let left = c.args.left.now in
     let polled = c.in-Ok.ensures.polled in
-    let file : (q : ℕ) → (slot_at mid.slots.items q).file ≡ (slot_at old.slots.items q).file = λ q. (polled.at q).file_is in
-    let keeps : (tale : List (Told Item)) → Keeps split comes items tale old.turns.items old.slots.items mid.slots.items = λ tale. keeps_each split comes items tale old.turns.items old.slots.items mid.slots.items file c.in-Ok.ensures.keeps in
     (ready_mid split comes items c.requires.ready.0 c.in-Ok.asking.items old mid refl refl polled c.in-Ok.ensures.settled c.requires.ready.1).seated
 
 pub returns-in-Ok-More-clause-ready : goal.returns-in-Ok-More-clause-ready
@@ -30,11 +30,7 @@ returns-in-Ok-More-clause-ready g c n r =
     let old = c.args.active.now in
     let mid : Active g.row.W.Denot g.row.W-Rows.Denot = record old { slots = c.poll_news.new.slots; news = c.poll_news.new.news } in
     let new = c.deliver.new.active in
-    let chunks = c.args.chunks.now.items in
-    let left = c.args.left.now in
     let polled = c.in-Ok.ensures.polled in
-    let file : (q : ℕ) → (slot_at mid.slots.items q).file ≡ (slot_at old.slots.items q).file = λ q. (polled.at q).file_is in
-    let keeps : (tale : List (Told Item)) → Keeps split comes items tale old.turns.items old.slots.items mid.slots.items = λ tale. keeps_each split comes items tale old.turns.items old.slots.items mid.slots.items file c.in-Ok.ensures.keeps in
     let asking = c.in-Ok.asking.items in
     let d = c.in-Ok-More.ensures in
     let gives = d.gives c.in-Ok-More.field-0-is in
@@ -48,11 +44,7 @@ returns-in-Ok-More-clause-asks g c =
     let old = c.args.active.now in
     let mid : Active g.row.W.Denot g.row.W-Rows.Denot = record old { slots = c.poll_news.new.slots; news = c.poll_news.new.news } in
     let new = c.deliver.new.active in
-    let chunks = c.args.chunks.now.items in
-    let left = c.args.left.now in
     let polled = c.in-Ok.ensures.polled in
-    let file : (q : ℕ) → (slot_at mid.slots.items q).file ≡ (slot_at old.slots.items q).file = λ q. (polled.at q).file_is in
-    let keeps : (tale : List (Told Item)) → Keeps split comes items tale old.turns.items old.slots.items mid.slots.items = λ tale. keeps_each split comes items tale old.turns.items old.slots.items mid.slots.items file c.in-Ok.ensures.keeps in
     let asking = c.in-Ok.asking.items in
     let d = c.in-Ok-More.ensures in
     let gives = d.gives c.in-Ok-More.field-0-is in
@@ -66,11 +58,7 @@ returns-in-Ok-More-clause-links g c desks l =
     let old = c.args.active.now in
     let mid : Active g.row.W.Denot g.row.W-Rows.Denot = record old { slots = c.poll_news.new.slots; news = c.poll_news.new.news } in
     let new = c.deliver.new.active in
-    let chunks = c.args.chunks.now.items in
-    let left = c.args.left.now in
     let polled = c.in-Ok.ensures.polled in
-    let file : (q : ℕ) → (slot_at mid.slots.items q).file ≡ (slot_at old.slots.items q).file = λ q. (polled.at q).file_is in
-    let keeps : (tale : List (Told Item)) → Keeps split comes items tale old.turns.items old.slots.items mid.slots.items = λ tale. keeps_each split comes items tale old.turns.items old.slots.items mid.slots.items file c.in-Ok.ensures.keeps in
     let asking = c.in-Ok.asking.items in
     let d = c.in-Ok-More.ensures in
     let gives = d.gives c.in-Ok-More.field-0-is in
@@ -84,11 +72,7 @@ returns-in-Ok-More-clause-named g c tale ok =
     let old = c.args.active.now in
     let mid : Active g.row.W.Denot g.row.W-Rows.Denot = record old { slots = c.poll_news.new.slots; news = c.poll_news.new.news } in
     let new = c.deliver.new.active in
-    let chunks = c.args.chunks.now.items in
-    let left = c.args.left.now in
     let polled = c.in-Ok.ensures.polled in
-    let file : (q : ℕ) → (slot_at mid.slots.items q).file ≡ (slot_at old.slots.items q).file = λ q. (polled.at q).file_is in
-    let keeps : (tale : List (Told Item)) → Keeps split comes items tale old.turns.items old.slots.items mid.slots.items = λ tale. keeps_each split comes items tale old.turns.items old.slots.items mid.slots.items file c.in-Ok.ensures.keeps in
     let asking = c.in-Ok.asking.items in
     let d = c.in-Ok-More.ensures in
     let gives = d.gives c.in-Ok-More.field-0-is in
@@ -101,15 +85,10 @@ returns-in-Ok-More-clause-ok g c tale ok =
     let items = g.W.SplitWork.items in
     let old = c.args.active.now in
     let mid : Active g.row.W.Denot g.row.W-Rows.Denot = record old { slots = c.poll_news.new.slots; news = c.poll_news.new.news } in
-    let new = c.deliver.new.active in
-    let chunks = c.args.chunks.now.items in
-    let left = c.args.left.now in
     let polled = c.in-Ok.ensures.polled in
     let file : (q : ℕ) → (slot_at mid.slots.items q).file ≡ (slot_at old.slots.items q).file = λ q. (polled.at q).file_is in
     let keeps : (tale : List (Told Item)) → Keeps split comes items tale old.turns.items old.slots.items mid.slots.items = λ tale. keeps_each split comes items tale old.turns.items old.slots.items mid.slots.items file c.in-Ok.ensures.keeps in
-    let asking = c.in-Ok.asking.items in
     let d = c.in-Ok-More.ensures in
-    let gives = d.gives c.in-Ok-More.field-0-is in
     d.ok tale (ok_mid split comes items tale old mid (keeps tale) refl ok)
 
 pub returns-in-Ok-More-clause-gives : goal.returns-in-Ok-More-clause-gives
@@ -125,10 +104,8 @@ returns-in-Ok-More-clause-gives g c =
     let polled = c.in-Ok.ensures.polled in
     let file : (q : ℕ) → (slot_at mid.slots.items q).file ≡ (slot_at old.slots.items q).file = λ q. (polled.at q).file_is in
     let keeps : (tale : List (Told Item)) → Keeps split comes items tale old.turns.items old.slots.items mid.slots.items = λ tale. keeps_each split comes items tale old.turns.items old.slots.items mid.slots.items file c.in-Ok.ensures.keeps in
-    let asking = c.in-Ok.asking.items in
     let d = c.in-Ok-More.ensures in
-    let gives = d.gives c.in-Ok-More.field-0-is in
-    more_mid split comes items old mid new chunks c.deliver.new.chunks.items left c.deliver.new.left keeps refl (rw c.in-Ok-More.field-0-is at d.delivered)
+    more_mid split comes items old mid new chunks c.deliver.new.chunks.items left c.deliver.new.left keeps refl file (rw c.in-Ok-More.field-0-is at d.delivered)
 
 pub returns-in-Ok-More-clause-steps : goal.returns-in-Ok-More-clause-steps
 returns-in-Ok-More-clause-steps g c =
@@ -138,11 +115,7 @@ returns-in-Ok-More-clause-steps g c =
     let old = c.args.active.now in
     let mid : Active g.row.W.Denot g.row.W-Rows.Denot = record old { slots = c.poll_news.new.slots; news = c.poll_news.new.news } in
     let new = c.deliver.new.active in
-    let chunks = c.args.chunks.now.items in
-    let left = c.args.left.now in
     let polled = c.in-Ok.ensures.polled in
-    let file : (q : ℕ) → (slot_at mid.slots.items q).file ≡ (slot_at old.slots.items q).file = λ q. (polled.at q).file_is in
-    let keeps : (tale : List (Told Item)) → Keeps split comes items tale old.turns.items old.slots.items mid.slots.items = λ tale. keeps_each split comes items tale old.turns.items old.slots.items mid.slots.items file c.in-Ok.ensures.keeps in
     let asking = c.in-Ok.asking.items in
     let d = c.in-Ok-More.ensures in
     let gives = d.gives c.in-Ok-More.field-0-is in
@@ -155,9 +128,6 @@ returns-in-Ok-Full-clause-ok g c tale ok =
     let items = g.W.SplitWork.items in
     let old = c.args.active.now in
     let mid : Active g.row.W.Denot g.row.W-Rows.Denot = record old { slots = c.poll_news.new.slots; news = c.poll_news.new.news } in
-    let new = c.deliver.new.active in
-    let chunks = c.args.chunks.now.items in
-    let left = c.args.left.now in
     let polled = c.in-Ok.ensures.polled in
     let file : (q : ℕ) → (slot_at mid.slots.items q).file ≡ (slot_at old.slots.items q).file = λ q. (polled.at q).file_is in
     let keeps : (tale : List (Told Item)) → Keeps split comes items tale old.turns.items old.slots.items mid.slots.items = λ tale. keeps_each split comes items tale old.turns.items old.slots.items mid.slots.items file c.in-Ok.ensures.keeps in
@@ -171,7 +141,6 @@ returns-in-Ok-Full-clause-gives g c =
     let items = g.W.SplitWork.items in
     let old = c.args.active.now in
     let mid : Active g.row.W.Denot g.row.W-Rows.Denot = record old { slots = c.poll_news.new.slots; news = c.poll_news.new.news } in
-    let new = c.deliver.new.active in
     let chunks = c.args.chunks.now.items in
     let left = c.args.left.now in
     let polled = c.in-Ok.ensures.polled in
@@ -194,7 +163,7 @@ returns-in-Err-deliver-clause-fault g c =
     let file : (q : ℕ) → (slot_at mid.slots.items q).file ≡ (slot_at old.slots.items q).file = λ q. (polled.at q).file_is in
     let keeps : (tale : List (Told Item)) → Keeps split comes items tale old.turns.items old.slots.items mid.slots.items = λ tale. keeps_each split comes items tale old.turns.items old.slots.items mid.slots.items file c.in-Ok.ensures.keeps in
     let d = c.in-Err-deliver.ensures in
-    fault_mid split comes items old mid new chunks c.deliver.new.chunks.items left c.deliver.new.left keeps refl c.in-Err-deliver.fault d.fault
+    fault_mid split comes items old mid new chunks c.deliver.new.chunks.items left c.deliver.new.left keeps refl file c.in-Err-deliver.fault d.fault
 
 pub returns-in-Err-deliver-clause-cause : goal.returns-in-Err-deliver-clause-cause
 returns-in-Err-deliver-clause-cause g c tale ok =
@@ -203,9 +172,6 @@ returns-in-Err-deliver-clause-cause g c tale ok =
     let items = g.W.SplitWork.items in
     let old = c.args.active.now in
     let mid : Active g.row.W.Denot g.row.W-Rows.Denot = record old { slots = c.poll_news.new.slots; news = c.poll_news.new.news } in
-    let new = c.deliver.new.active in
-    let chunks = c.args.chunks.now.items in
-    let left = c.args.left.now in
     let polled = c.in-Ok.ensures.polled in
     let file : (q : ℕ) → (slot_at mid.slots.items q).file ≡ (slot_at old.slots.items q).file = λ q. (polled.at q).file_is in
     let keeps : (tale : List (Told Item)) → Keeps split comes items tale old.turns.items old.slots.items mid.slots.items = λ tale. keeps_each split comes items tale old.turns.items old.slots.items mid.slots.items file c.in-Ok.ensures.keeps in
@@ -223,3 +189,17 @@ returns-in-Ok-More-clause-halts g c =
     let polled = c.in-Ok.ensures.polled in
     let gives = c.in-Ok-More.ensures.gives c.in-Ok-More.field-0-is in
     halts_then old.slots.items mid.slots.items new.slots.items (halts_polled split comes items c.in-Ok.asking.items old.slots.items mid.slots.items polled) (halts_gives split mid new gives.0)
+
+pub returns-in-Ok-More-clause-follows : goal.returns-in-Ok-More-clause-follows
+returns-in-Ok-More-clause-follows g c =
+    let old : List (Slot g.row.W.Denot g.row.W-Rows.Denot) = c.args.active.now.slots.items in
+    let mid : List (Slot g.row.W.Denot g.row.W-Rows.Denot) = c.poll_news.new.slots.items in
+    let new : List (Slot g.row.W.Denot g.row.W-Rows.Denot) = c.deliver.new.active.slots.items in
+    let gives = c.in-Ok-More.ensures.gives c.in-Ok-More.field-0-is in
+    each_then NoneOf NoneOf old mid new (polled_follows g.W.SplitWork.split g.W.SplitWork.comes g.W.SplitWork.items c.in-Ok.asking.items old mid c.in-Ok.ensures.polled) (all_gone_follow mid new gives.0.at)
+
+pub returns-in-Err-deliver-clause-stops : goal.returns-in-Err-deliver-clause-stops
+returns-in-Err-deliver-clause-stops g c =
+    let old : List (Slot g.row.W.Denot g.row.W-Rows.Denot) = c.args.active.now.slots.items in
+    let mid : List (Slot g.row.W.Denot g.row.W-Rows.Denot) = c.poll_news.new.slots.items in
+    record { mid = mid; follows = polled_follows g.W.SplitWork.split g.W.SplitWork.comes g.W.SplitWork.items c.in-Ok.asking.items old mid c.in-Ok.ensures.polled; stops = c.in-Err-deliver.ensures.stops }

@@ -1,8 +1,10 @@
-use Rattle.std.proofs.Common.{◌≡◌, ◌∙◌, ◌<◌, List, ℕ, length, ap, sym, subst, arith}
+use Rattle.std.proofs.Common.{◌≡◌, ◌∙◌, ◌<◌, length, ap, sym, arith}
 use Rattle.scan_drive.specs.Asks.{IsWantedBy}
+use Rattle.scan_drive.specs.Drives.{NoneOf}
 use Rattle.scan_drive.proofs.Halting.{round_report, round_counts, round_then}
 use Rattle.scan_drive.proofs.Losing.{halts_advance}
 use Rattle.scan_drive.proofs.Nearing.{all_then}
+use Rattle.scan_drive.proofs.Serving.{served_then}
 use Rattle.scan_drive.proofs.Standing.{seated_advances, sources_then, slots_then}
 use Rattle.scan_drive.proofs.Trading.{files_then}
 use Rattle.scan_drive.specs.Slots.{slot_at}
@@ -59,7 +61,8 @@ returns-clause-keeps g c =
     let slots = c.args.slots.now.items in
     let may = IsWantedBy c.args.asking.now.items slots in
     let w = c.in_ok-want_news.ensures in
-    on_ok c.fetch_files.result (λ k h. slots_then source g.W.SplitWork.split g.W.SplitWork.comes g.W.SplitWork.items may files c.want_news.new.files.items slots c.want_news.new.slots.items c.fetch_files.new.slots.items w.sources (λ q. (w.advances.at q).file_is) (w.keeps h) k) c.fetch_files.ensures.keeps
+    on_ok c.fetch_files.result (λ k h. slots_then source g.W.SplitWork.split g.W.SplitWork.comes g.W.SplitWork.items may files c.want_news.new.files.items slots c.want_news.new.slots.items
+    c.fetch_files.new.slots.items w.sources (λ q. (w.advances.at q).file_is) (w.keeps h) k) c.fetch_files.ensures.keeps
 
 pub returns-clause-nearer : goal.returns-clause-nearer
 returns-clause-nearer g c =
@@ -106,3 +109,13 @@ pub returns-in_default-clause-balance : goal.returns-in_default-clause-balance
 returns-in_default-clause-balance g c =
     let cache = g.C.KeyedSegmentCache.cache in
     round_report g.S.SegmentSource.state c.args.files.now.items c.want_news.new.files.items (cache c.args.cache.now) (cache c.want_news.new.cache) c.args.report.now c.want_news.new.report c.want_news.new.slots.items c.in_ok-want_news.ensures.balance
+
+pub returns-clause-follows : goal.returns-clause-follows
+returns-clause-follows g c =
+    let source = g.S.SegmentSource.state in
+    let cache = g.C.KeyedSegmentCache.cache in
+    let slots = c.args.slots.now.items in
+    let w = c.in_ok-want_news.ensures in
+    on_ok c.fetch_files.result (served_then source (cache c.args.cache.now) (cache c.want_news.new.cache)
+    (IsWantedBy c.args.asking.now.items slots) NoneOf c.args.files.now.items c.want_news.new.files.items c.fetch_files.new.files.items slots c.want_news.new.slots.items
+    c.fetch_files.new.slots.items w.loses w.sources c.fetch_files.ensures.sources w.follows) c.fetch_files.ensures.follows

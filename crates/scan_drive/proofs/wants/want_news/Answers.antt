@@ -3,11 +3,13 @@ use Rattle.std.proofs.lemmas.List.{get_or_default}
 use Rattle.scan_values.specs.Selections.{is_among}
 use Rattle.scan_drive.specs.Asks.{IsWantedBy}
 use Rattle.scan_drive.specs.Desks.{Waiters}
+use Rattle.scan_drive.specs.Drivings.{IsKeptIn}
 use Rattle.scan_drive.specs.Links.{Among}
 use Rattle.scan_drive.specs.Looks.{WaitsForAll}
+use Rattle.scan_drive.specs.Lost.{Follows}
 use Rattle.scan_drive.specs.Measures.{Advances}
 use Rattle.scan_drive.specs.Slots.{slot_at, nothing, wanted_in, SlotKeeps}
-use Rattle.scan_drive.specs.Trades.{Trusts}
+use Rattle.scan_drive.specs.Sources.{NoId}
 use Rattle.scan_drive.specs.declared.files.ScanFile.{ScanFile}
 use Rattle.scan_drive.specs.declared.slot.Slot.{Slot}
 use Rattle.scan_drive.proofs.Asked.{Remains, remains_next, reading_within, reading_there, but_new, but_set, all_set, kept_set}
@@ -15,6 +17,7 @@ use Rattle.scan_drive.proofs.Asking.{moves_weaker}
 use Rattle.scan_drive.proofs.Filing.{files_report, files_report_then}
 use Rattle.scan_drive.proofs.Handing.{among_head, has_next}
 use Rattle.scan_drive.proofs.Rounding.{agree_at, agree_set, sources_moved}
+use Rattle.scan_drive.proofs.Serving.{loses_then, wanted_next}
 use Rattle.scan_drive.proofs.Trading.{files_set, files_then}
 use Rattle.scan_drive.proofs.wants.want_news.Goals as goal
 
@@ -196,7 +199,13 @@ returns-in_err-ready-clause-sources g c =
     let t : Slot g.row.W.Denot g.row.W-Rows.Denot = c.want_slot.new.slot in
     let s_at : s ≡ slot_at slots place = c.index_mut-slot.ensures.value ∙ get_or_default slots place s nothing lt in
     sources_moved source (IsWantedBy c.args.asking.now.items slots0) files0 files k x y inv.sources klt c.index_mut-file.ensures.value refl refl
-    (moves_weaker (Among (wanted_in s.stage)) (IsWantedBy c.args.asking.now.items slots0 k) (source x.source) (source y.source) (λ id w. record { place = place; listed = remains.among place m; file_is = sym is0; wanted = subst (λ (z : Slot g.row.W.Denot g.row.W-Rows.Denot). is_among (wanted_in z.stage) id ≡ true) (s_at ∙ same) w }) c.want_slot.ensures.source)
+    (moves_weaker (Among (wanted_in s.stage)) (IsWantedBy c.args.asking.now.items slots0 k) (source x.source) (source y.source)
+    (λ id w. record {
+      place = place;
+      listed = remains.among place m;
+      file_is = sym is0;
+      wanted = subst (λ (z : Slot g.row.W.Denot g.row.W-Rows.Denot). is_among (wanted_in z.stage) id ≡ true) (s_at ∙ same) w;
+    }) c.want_slot.ensures.source)
 
 pub returns-in_err-ready-clause-trades : goal.returns-in_err-ready-clause-trades
 returns-in_err-ready-clause-trades g c =
@@ -263,7 +272,13 @@ returns-in_err-list_if-clause-sources g c =
     let t : Slot g.row.W.Denot g.row.W-Rows.Denot = c.want_slot.new.slot in
     let s_at : s ≡ slot_at slots place = c.index_mut-slot.ensures.value ∙ get_or_default slots place s nothing lt in
     sources_moved source (IsWantedBy c.args.asking.now.items slots0) files0 files k x y inv.sources klt c.index_mut-file.ensures.value refl refl
-    (moves_weaker (Among (wanted_in s.stage)) (IsWantedBy c.args.asking.now.items slots0 k) (source x.source) (source y.source) (λ id w. record { place = place; listed = remains.among place m; file_is = sym is0; wanted = subst (λ (z : Slot g.row.W.Denot g.row.W-Rows.Denot). is_among (wanted_in z.stage) id ≡ true) (s_at ∙ same) w }) c.want_slot.ensures.source)
+    (moves_weaker (Among (wanted_in s.stage)) (IsWantedBy c.args.asking.now.items slots0 k) (source x.source) (source y.source)
+    (λ id w. record {
+      place = place;
+      listed = remains.among place m;
+      file_is = sym is0;
+      wanted = subst (λ (z : Slot g.row.W.Denot g.row.W-Rows.Denot). is_among (wanted_in z.stage) id ≡ true) (s_at ∙ same) w;
+    }) c.want_slot.ensures.source)
 
 pub returns-in_err-list_if-clause-trades : goal.returns-in_err-list_if-clause-trades
 returns-in_err-list_if-clause-trades g c =
@@ -338,7 +353,13 @@ asking-preserved g c =
     record {
       agree = agree_set source files desks k y e inv.agree klt c.want_slot.ensures.agree;
       sources = sources_moved source (IsWantedBy c.args.asking.now.items slots0) files0 files k x y inv.sources klt c.index_mut-file.ensures.value refl refl
-          (moves_weaker (Among (wanted_in s.stage)) (IsWantedBy c.args.asking.now.items slots0 k) (source x.source) (source y.source) (λ id w. record { place = place; listed = remains.among place m; file_is = sym is0; wanted = subst (λ (z : Slot g.row.W.Denot g.row.W-Rows.Denot). is_among (wanted_in z.stage) id ≡ true) (s_at ∙ same) w }) c.want_slot.ensures.source);
+          (moves_weaker (Among (wanted_in s.stage)) (IsWantedBy c.args.asking.now.items slots0 k) (source x.source) (source y.source)
+          (λ id w. record {
+            place = place;
+            listed = remains.among place m;
+            file_is = sym is0;
+            wanted = subst (λ (z : Slot g.row.W.Denot g.row.W-Rows.Denot). is_among (wanted_in z.stage) id ≡ true) (s_at ∙ same) w;
+          }) c.want_slot.ensures.source);
       trades = files_then source files0 files (set files k y) (cache c.args.cache.now) (cache c.asking.cache) (cache c.want_slot.new.cache) inv.trades
           (files_set source files k x y (cache c.asking.cache) (cache c.want_slot.new.cache) klt c.index_mut-file.ensures.value refl c.want_slot.ensures.source.holds c.want_slot.ensures.trades);
       balance = files_report_then source files0 files (set files k y) (cache c.args.cache.now) (cache c.asking.cache) (cache c.want_slot.new.cache) c.args.report.now c.asking.report c.want_slot.new.report inv.trades.len inv.balance
@@ -346,6 +367,9 @@ asking-preserved g c =
       keeps = λ h. kept_set source split comes items files0 files (IsWantedBy c.args.asking.now.items slots0) slots0 slots place t x (cache c.asking.cache) inv.sources (inv.keeps h) inv.advances lt
           (subst (λ j. x ≡ Rattle.std.proofs.Common.get_or files j x) is c.index_mut-file.ensures.value) (subst (λ j. j < length files) is klt) (inv.trades.agrees h)
           (λ p store told trust. subst (λ (z : Slot g.row.W.Denot g.row.W-Rows.Denot). SlotKeeps split comes items p store z t) s_at (ok.keeps p store told trust));
+      loses = loses_then (cache c.args.cache.now) (cache c.asking.cache) (cache c.want_slot.new.cache) inv.loses ok.loses;
+      follows = wanted_next source (cache c.args.cache.now) (cache c.asking.cache) (IsWantedBy c.args.asking.now.items slots0) (λ j. Among (wanted_in s.stage)) files0 files k place x y slots0 slots t inv.loses inv.sources klt c.index_mut-file.ensures.value refl refl c.want_slot.ensures.source lt is
+          (subst (λ (z : Slot g.row.W.Denot g.row.W-Rows.Denot). Follows (IsKeptIn (cache c.asking.cache) x.source_id) NoId z t) s_at ok.follows) inv.follows;
       advances = all_set split slots0 slots place t inv.advances lt adv;
       remains = remains_next place rest c.args.asking.now.items slots0 slots t remains;
       links = but_set place rest desks slots k d e t (subst (λ (xs : List ℕ). Rattle.scan_drive.specs.Asks.EachLinkedBut xs desks slots) c.in-Some.ensures.items inv.links) remains.once dlt c.index_mut-desk.ensures.value lt is adv.file_is ok.there;
