@@ -1,3 +1,10 @@
+pub mod Arriving
+pub mod Choosing
+pub mod Evaluating
 pub mod Lasting
+pub mod Naming
+pub mod Parting
+pub mod Polling
 pub mod RowLists
+pub mod Scanning
 pub mod Splitting

@@ -1,8 +1,13 @@
-//! The files of a scan, as a drive over many files sees them: what the splits of a file give.
+//! The files of a scan, as a drive over many files sees them: how a file is opened, and what its splits give.
 #![tactic(auto)]
 
+mod fault;
+mod opener;
+mod planning;
 mod rows;
 mod split;
 
+pub use fault::FileFault;
+pub use opener::FileOpener;
 pub use rows::FileRows;
 pub use split::FileSplit;

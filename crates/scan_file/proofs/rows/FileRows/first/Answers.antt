@@ -14,4 +14,4 @@ returns-then-len-most c =
 pub returns : goal.returns
 returns c =
     let r : RowsData = record { numbers = c.self.inside.numbers.items; values = c.self.inside.values } in
-    first_rows r c.args.most c.truncate.new.self.items c.in_ok-values.values c.truncate.ensures.items (ap (λ (x : ArrayData). x.items) c.in_ok-values.ensures) ∙ ap (λ (x : RowsData). take c.args.most (row_items x)) c.self.view_is
+    first_rows r c.args.most c.truncate.new.self.items c.in_ok-values.values c.truncate.ensures.items (ap (λ (x : ArrayData). x.dtype) c.in_ok-values.ensures) (ap (λ (x : ArrayData). x.items) c.in_ok-values.ensures) ∙ ap (λ (x : RowsData). take c.args.most (row_items x)) c.self.view_is

@@ -1,5 +1,5 @@
 use Rattle.scan_file.specs.declared.split.FileSplit.{FileSplit}
-use Rattle.scan_file.proofs.Splitting.{same_split, wants_ids}
+use Rattle.scan_file.proofs.Splitting.{finds_bad, gives_rows, same_split, wants_ids}
 use Rattle.scan_file.proofs.split.FileSplitSplitWork.poll.Goals as goal
 
 pub returns-in-Ok-clause-same : goal.returns-in-Ok-clause-same
@@ -22,3 +22,9 @@ returns-in-Overflow-clause-same c = let new : FileSplit = record { future = c.po
 
 pub returns-in-NoMemory-clause-same : goal.returns-in-NoMemory-clause-same
 returns-in-NoMemory-clause-same c = let new : FileSplit = record { future = c.poll.new.self } in same_split c.args.inbox.now new c.args.self.now c.poll.ensures.same
+
+pub returns-in-Ok-clause-answer : goal.returns-in-Ok-clause-answer
+returns-in-Ok-clause-answer c = gives_rows c.args.inbox.now c.args.self.now c.poll.new.self c.in-Ready.values c.in-Ok.rows c.in-Ready.ensures.answer c.in-Ready.ensures.rows c.in-Ok.ensures
+
+pub returns-in-Corrupt-clause-answer : goal.returns-in-Corrupt-clause-answer
+returns-in-Corrupt-clause-answer c = finds_bad c.args.inbox.now c.args.self.now c.in-Corrupt.id c.in-Corrupt.ensures.answer
