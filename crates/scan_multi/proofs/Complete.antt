@@ -1,5 +1,5 @@
 -- A scan of good and sound files fails by want of memory alone.
-use Rattle.std.proofs.Common.{◌≡◌, ℕ, ◌<◌, ◌≤◌, ◌+◌, ◌^◌, List, [], ◌∷◌, Bool, arith, true, false, refl, sym, ap, ◌∙◌, subst, length, get_or, take}
+use Rattle.std.proofs.Common.{◌≡◌, ℕ, ◌<◌, ◌≤◌, ◌+◌, ◌^◌, List, [], ◌∷◌, Bool, arith, true, false, refl, sym, ◌∙◌, subst, length, get_or, take}
 use Rattle.std.specs.Prelude.{Option, None, Some, IfSome, IsSome, All, unwrap_or}
 use Rattle.std.specs.Option.{is_none}
 use Rattle.std.proofs.lemmas.List.{get_or-map, length-map}
@@ -13,18 +13,17 @@ use Rattle.scan_segments.specs.declared.segment.SegmentKey.{SegmentKey}
 use Rattle.scan_layout.specs.Layout.{rows_of}
 use Rattle.scan_layout.specs.Check.{first_fault}
 use Rattle.scan_layout.specs.declared.fault.LayoutFault.{LayoutFault}
-use Rattle.scan_multi.specs.Opener.{OpenerState, Given, skip, layout_of}
+use Rattle.scan_opener.specs.Opener.{OpenerState, Given, skip, layout_of}
 use Rattle.scan_multi.specs.Answer.{ToldFile, is_within}
 use Rattle.scan_multi.specs.Causes.{counted, IsOfFile, HasCause}
 use Rattle.scan_multi.specs.Checks.{IsGood, IsOfOtherType, IsIllFormed, EndsPast, rows_given, rows_in}
 use Rattle.scan_multi.specs.Lawful.{Tells, told, told_file, IsLawful}
 use Rattle.scan_multi.specs.Valid.{IsSound, NeverOverflows, IsValid, NoneFailed}
-use Rattle.scan_multi.specs.declared.scan.files.ScanFile.{ScanFile}
+use Rattle.scan_drive.specs.declared.files.ScanFile.{ScanFile}
 use Rattle.scan_multi.specs.declared.scan.fault.RangeFault.TheVariants.{Reversed, Past}
 use Rattle.scan_multi.specs.declared.scan.fault.ScanFault.{ScanFault}
 use Rattle.scan_multi.specs.declared.scan.fault.ScanFault.TheVariants as fault
-use Rattle.scan_multi.proofs.PlainForms.{and-left, and-right}
-use Rattle.scan_multi.proofs.Checked.{good-form, well_typed}
+use Rattle.scan_multi.proofs.Goods.{and-left, and-right, good-form, well_typed}
 
 -- a good file is of the dtype
 of-type : (d : DataType) (q : ScanRequest) (gives : Option Given) → IsSome gives → IfSome gives (IsOfOtherType d) → IsGood d q (unwrap_or gives skip) → ⊥
@@ -99,4 +98,3 @@ module _ {O S : Type 0} (opener : O → OpenerState) (source : S → SourceState
         absurd (omega (arith, many, most, few))
     go (fault.Corrupt place id) at = absurd (never _ place at (λ f lt w. told-at (IsSound d q) valid.sound place f lt id (w.damaged lawful)))
     go (fault.Overflow place) at = absurd (never _ place at (λ f lt w. told-at (NeverOverflows d q) valid.no_overflow place f lt (w lawful)))
-    go fault.NotBuilt h = absurd h

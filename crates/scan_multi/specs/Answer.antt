@@ -15,7 +15,7 @@ use Rattle.scan_segments.specs.Source.{Store}
 use Rattle.scan_layout.specs.Layout.{Layout, rows_of}
 use Rattle.scan_layout.specs.RowValue.{row_value}
 use Rattle.scan_layout.specs.Check.{first_fault}
-use Rattle.scan_multi.specs.Opener.{Given, skip, layout_of}
+use Rattle.scan_opener.specs.Opener.{Given, skip, layout_of}
 
 -- a file, where its opener and its source tell
 pub record ToldFile : Type 0 where

@@ -7,7 +7,7 @@ use Rattle.scan_layout.specs.Layout.{Layout, rows_of}
 use Rattle.scan_layout.specs.PickGroups.{pick_groups, least}
 use Rattle.scan_layout.specs.Places.{Place}
 use Rattle.scan_layout.specs.Touched.{touched}
-use Rattle.scan_multi.specs.Opener.{layout_of}
+use Rattle.scan_opener.specs.Opener.{layout_of}
 use Rattle.scan_multi.specs.Answer.{ToldFile, Item, part_of, answer}
 use Rattle.scan_multi.specs.Named.{range_from, range_to, span_of}
 use Rattle.scan_multi.specs.Chunks.{splits_of}

@@ -5,19 +5,19 @@ use Rattle.scan_expr.specs.declared.request.ScanRequest.{ScanRequest}
 use Rattle.scan_segments.specs.Source.{SourceState}
 use Rattle.scan_segments.specs.Cache.{CacheState}
 use Rattle.scan_segments.specs.declared.segment.SegmentKey.{SegmentKey}
-use Rattle.scan_multi.specs.Opener.{OpenerState, OpenerFailed, Given}
+use Rattle.scan_opener.specs.Opener.{OpenerState, OpenerFailed, Given}
 use Rattle.scan_multi.specs.Answer.{ToldFile}
 use Rattle.scan_multi.specs.Before.{ReachesFile}
 use Rattle.scan_multi.specs.Checks.{IsRead, IsOfOtherType, IsIllFormed, EndsPast, rows_in}
 use Rattle.scan_multi.specs.Damaged.{IsDamaged}
-use Rattle.scan_multi.specs.Fetch.{SourceFailed}
+use Rattle.scan_drive.specs.Drivings.{SourceFailed}
 use Rattle.scan_multi.specs.Lawful.{told, told_file, IsLawful, AllGive, Gives}
 use Rattle.scan_multi.specs.Moves.{NoneAsked}
 use Rattle.scan_multi.specs.Overflow.{OverflowsIn}
-use Rattle.scan_multi.specs.Places.{WasAsked}
+use Rattle.scan_drive.specs.Traffic.{WasAsked, key_of}
 use Rattle.scan_multi.specs.Request.{first_request_fault}
-use Rattle.scan_multi.specs.Traffic.{key_of, IsKept}
-use Rattle.scan_multi.specs.declared.scan.files.ScanFile.{ScanFile}
+use Rattle.scan_multi.specs.Traffic.{IsKept}
+use Rattle.scan_drive.specs.declared.files.ScanFile.{ScanFile}
 use Rattle.scan_multi.specs.declared.scan.fault.RangeFault.TheVariants.{Reversed, Past}
 use Rattle.scan_multi.specs.declared.scan.fault.ScanFault.{ScanFault}
 use Rattle.scan_multi.specs.declared.scan.fault.ScanFault.TheVariants as fault
@@ -87,4 +87,3 @@ module _ {O S : Type 0} (opener : O → OpenerState) (source : S → SourceState
     HasCause (fault.Source place id) = IsOfFile place (IsSourceCause id)
     HasCause (fault.Corrupt place id) = IsOfFile place (IsCorruptCause id)
     HasCause (fault.Overflow place) = IsOfFile place (λ f g. IfLawful (λ t. OverflowsIn d request t.given t.store) f)
-    HasCause fault.NotBuilt = ⊥

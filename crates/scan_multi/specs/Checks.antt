@@ -5,7 +5,7 @@ use Rattle.scan_expr.specs.declared.request.ScanRequest.{ScanRequest}
 use Rattle.scan_layout.specs.Layout.{dtype_of, rows_of}
 use Rattle.scan_layout.specs.Check.{first_fault}
 use Rattle.scan_layout.specs.declared.fault.LayoutFault.{LayoutFault}
-use Rattle.scan_multi.specs.Opener.{Given, skip, layout_of}
+use Rattle.scan_opener.specs.Opener.{Given, skip, layout_of}
 use Rattle.scan_multi.specs.Answer.{ToldFile, is_within, is_good}
 
 -- a layout that is read: of the dtype, well-formed, and with the rows of the range

@@ -5,7 +5,7 @@ use Rattle.scan_expr.specs.declared.request.ScanRequest.{ScanRequest}
 use Rattle.scan_layout.specs.Layout.{Layout, rows_of}
 use Rattle.scan_layout.specs.Edges.{edges}
 use Rattle.scan_layout.specs.PickGroups.{split_of}
-use Rattle.scan_multi.specs.Opener.{Given, skip, layout_of}
+use Rattle.scan_opener.specs.Opener.{Given, skip, layout_of}
 use Rattle.scan_multi.specs.Answer.{ToldFile, Item, answer}
 use Rattle.scan_multi.specs.Named.{field_masks, range_from, range_to}
 use Rattle.scan_multi.specs.Output.{ChunkData, chunk_items, given}

@@ -6,11 +6,11 @@ use Rattle.scan_segments.specs.Faults.{Rose}
 use Rattle.scan_segments.specs.Source.{SourceState}
 use Rattle.scan_segments.specs.Cache.{CacheState}
 use Rattle.scan_segments.specs.declared.segment.SegmentKey.{SegmentKey}
-use Rattle.scan_multi.specs.Opener.{OpenerState}
+use Rattle.scan_opener.specs.Opener.{OpenerState}
 use Rattle.scan_multi.specs.Answer.{ToldFile, part_of, answer}
 use Rattle.scan_multi.specs.Before.{IsBelow}
 use Rattle.scan_multi.specs.Lawful.{told, IsLawful}
-use Rattle.scan_multi.specs.declared.scan.files.ScanFile.{ScanFile}
+use Rattle.scan_drive.specs.declared.files.ScanFile.{ScanFile}
 
 -- how many items the part of a file holds
 abbrev pub part_size : DataType → ScanRequest → ToldFile → ℕ

@@ -3,10 +3,10 @@ use Rattle.std.specs.Prelude.{◌≡◌, ℕ, ◌<◌, List, None, IfSome, IsSom
 use Rattle.scan_segments.specs.Source.{SourceState, none_live}
 use Rattle.scan_segments.specs.Cache.{CacheState}
 use Rattle.scan_segments.specs.declared.segment.SegmentKey.{SegmentKey}
-use Rattle.scan_multi.specs.Opener.{OpenerState, Given, skip}
+use Rattle.scan_opener.specs.Opener.{OpenerState, Given, skip}
 use Rattle.scan_multi.specs.Answer.{ToldFile}
 use Rattle.scan_multi.specs.Traffic.{KeepsContent}
-use Rattle.scan_multi.specs.declared.scan.files.ScanFile.{ScanFile}
+use Rattle.scan_drive.specs.declared.files.ScanFile.{ScanFile}
 
 module _ {O S : Type 0} (opener : O → OpenerState) (source : S → SourceState) where
   abbrev pub told_file : ScanFile O S → ToldFile

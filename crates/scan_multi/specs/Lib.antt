@@ -1,14 +1,5 @@
-pub mod Opener
-pub mod OpenerMemory
-pub mod Opened
 pub mod Places
 pub mod Traffic
-pub mod Fetch
-pub mod Holding
-pub mod Receiving
-pub mod Columns
-pub mod Read
-pub mod Choice
 pub mod Answer
 pub mod Checks
 pub mod Output
@@ -24,7 +15,6 @@ pub mod Late
 pub mod Causes
 pub mod Valid
 pub mod Scans
-pub mod Served
-pub mod Plan
-pub mod FileScan
-pub mod FileCauses
+pub mod Asked
+pub mod Checked
+pub mod Placed

@@ -3,11 +3,11 @@ use Rattle.std.specs.Prelude.{◌≡◌, ℕ, ◌≤◌, ◌+◌, List, ◌++◌
 use Rattle.scan_values.specs.DataType.{DataType}
 use Rattle.scan_expr.specs.declared.request.ScanRequest.{ScanRequest}
 use Rattle.scan_segments.specs.Source.{SourceState}
-use Rattle.scan_multi.specs.Opener.{OpenerState}
+use Rattle.scan_opener.specs.Opener.{OpenerState}
 use Rattle.scan_multi.specs.Named.{named}
 use Rattle.scan_multi.specs.Lawful.{told_file}
-use Rattle.scan_multi.specs.Traffic.{asked_since}
-use Rattle.scan_multi.specs.declared.scan.files.ScanFile.{ScanFile}
+use Rattle.scan_drive.specs.Traffic.{asked_since}
+use Rattle.scan_drive.specs.declared.files.ScanFile.{ScanFile}
 
 module _ {O S : Type 0} (opener : O → OpenerState) (source : S → SourceState) where
   -- A file after calls of its opener and its source. It tells what it told, its faults did not fall and its turns did not rise, what can fail of it is the same,

@@ -6,7 +6,7 @@ use Rattle.scan_values.specs.DataType.{DataType}
 use Rattle.scan_values.specs.Arrays.{ArrayData, array_code}
 use Rattle.scan_expr.specs.Infer.{infer}
 use Rattle.scan_expr.specs.declared.request.ScanRequest.{ScanRequest}
-use Rattle.scan_multi.specs.declared.scan.report.ScanReport.{ScanReport}
+use Rattle.scan_drive.specs.declared.report.ScanReport.{ScanReport}
 use Rattle.scan_multi.specs.Answer.{Item}
 
 -- some rows of a file, and a value for each

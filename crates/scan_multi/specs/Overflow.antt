@@ -11,7 +11,7 @@ use Rattle.scan_expr.specs.declared.request.ScanRequest.{ScanRequest}
 use Rattle.scan_segments.specs.Source.{Store}
 use Rattle.scan_layout.specs.Layout.{Layout, rows_of}
 use Rattle.scan_layout.specs.RowValue.{row_value}
-use Rattle.scan_multi.specs.Opener.{Given, skip, layout_of}
+use Rattle.scan_opener.specs.Opener.{Given, skip, layout_of}
 use Rattle.scan_multi.specs.Answer.{is_good}
 use Rattle.scan_multi.specs.Named.{read_spans}
 

@@ -3,14 +3,14 @@ use Rattle.std.specs.Prelude.{◌≡◌, ℕ, ◌<◌, ◌^◌, List, None, All,
 use Rattle.scan_values.specs.DataType.{DataType}
 use Rattle.scan_expr.specs.declared.request.ScanRequest.{ScanRequest}
 use Rattle.scan_segments.specs.Source.{SourceState}
-use Rattle.scan_multi.specs.Opener.{OpenerState, OpenerFailed}
+use Rattle.scan_opener.specs.Opener.{OpenerState, OpenerFailed}
 use Rattle.scan_multi.specs.Answer.{ToldFile}
 use Rattle.scan_multi.specs.Checks.{IsGood, rows_in}
 use Rattle.scan_multi.specs.Damaged.{IsDamaged}
-use Rattle.scan_multi.specs.Fetch.{SourceFailed}
+use Rattle.scan_drive.specs.Drivings.{SourceFailed}
 use Rattle.scan_multi.specs.Overflow.{OverflowsIn}
 use Rattle.scan_multi.specs.Request.{first_request_fault}
-use Rattle.scan_multi.specs.declared.scan.files.ScanFile.{ScanFile}
+use Rattle.scan_drive.specs.declared.files.ScanFile.{ScanFile}
 
 -- no segment that may be asked is missing or damaged
 abbrev pub IsSound : DataType → ScanRequest → ToldFile → Type 0

@@ -1,11 +1,10 @@
-//! Scans of files: their openers, and the top call. So far a scan is of one file.
+//! The top call over files: a scan of their rows under a request.
 #![tactic(auto)]
 
 mod gate;
 mod scan;
 
 pub use gate::{Gate, NoGate};
-pub use scan::{
-    BoxedFactory, LayoutReaderFactory, MemoryOpener, Opening, RangeFault, ScanChunk, ScanFault,
-    ScanFile, ScanOutput, ScanReport, scan_files,
-};
+pub use scan::{RangeFault, ScanChunk, ScanFault, ScanOutput, scan_files};
+pub use scan_drive::{ScanFile, ScanReport};
+pub use scan_opener::{BoxedFactory, LayoutReaderFactory, MemoryOpener, Opening};

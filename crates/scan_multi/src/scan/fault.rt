@@ -1,10 +1,10 @@
 //! Why a scan gives nothing.
 ghost use Rattle.std.specs.Prelude.{◌≡◌};
-ghost use Rattle.scan_multi.specs.Plan.{placed, placed_fetch};
+ghost use Rattle.scan_multi.specs.Placed.{refused, stopped, placed};
 
-use crate::scan::fetch::FetchFault;
-use crate::scan::read::ReadFault;
+use scan_drive::{DriveFault, RoundFault};
 use scan_expr::BindFault;
+use scan_file::FileFault;
 use scan_layout::LayoutFault;
 use scan_segments::SegmentId;
 use scan_values::NoMemory;
@@ -46,8 +46,6 @@ pub enum ScanFault {
     Concurrency,
     #[error("an expression overflows in file {file}")]
     Overflow { file: usize },
-    #[error("this scan is not built yet")]
-    NotBuilt,
 }
 
 impl From<BindFault> for ScanFault {
@@ -75,22 +73,37 @@ impl From<NoMemory> for ScanFault {
     }
 }
 
-/// A fault of reading, at its file.
-pub(crate) fn placed(e: ReadFault, file: usize) -> ScanFault
-    ensures { result ≡ placed file e }
+/// Why a file is not read, at its place.
+fn refused(file: usize, fault: FileFault) -> ScanFault
+    ensures { result ≡ refused file fault }
 {
-    match e {
-        ReadFault::Corrupt(segment) => ScanFault::Corrupt { file, segment },
-        ReadFault::NoMemory => ScanFault::NoMemory,
+    match fault {
+        FileFault::Opener => ScanFault::Opener { file },
+        FileFault::DTypeMismatch => ScanFault::DTypeMismatch { file },
+        FileFault::Layout(fault) => ScanFault::Layout { file, fault },
+        FileFault::RowRangePast => ScanFault::RowRange(RangeFault::Past { file }),
     }
 }
 
-/// A fault of fetching, at its file.
-pub(crate) fn placed_fetch(e: FetchFault, file: usize) -> ScanFault
-    ensures { result ≡ placed_fetch file e }
+/// Why a split of a file is not read to its end.
+fn stopped(fault: DriveFault) -> ScanFault
+    ensures { result ≡ stopped fault }
 {
-    match e {
-        FetchFault::Source(segment) => ScanFault::Source { file, segment },
-        FetchFault::NoMemory => ScanFault::NoMemory,
+    match fault {
+        DriveFault::NoMemory => ScanFault::NoMemory,
+        DriveFault::Source { file, segment } => ScanFault::Source { file, segment },
+        DriveFault::Corrupt { file, segment } => ScanFault::Corrupt { file, segment },
+        DriveFault::Overflow { file } => ScanFault::Overflow { file },
+    }
+}
+
+/// Why a drive ends without all rows.
+pub(crate) fn placed(fault: RoundFault<FileFault>) -> ScanFault
+    ensures { result ≡ placed fault }
+{
+    match fault {
+        RoundFault::Split(fault) => stopped(fault),
+        RoundFault::TooManyRows(file) => ScanFault::TooManyRows { file },
+        RoundFault::Refused(file, fault) => refused(file, fault),
     }
 }

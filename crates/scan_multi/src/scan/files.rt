@@ -1,54 +1,65 @@
 //! The top call of the library: a scan of files. An own call over the Rust's parts.
-ghost use Rattle.std.specs.Prelude.{◌≡◌, ◌⊎◌, ◌↔◌, IfOk, IfErr, Err, All, length, true, false};
+ghost use Rattle.std.specs.Prelude.{◌≡◌, All, IfOk, IfErr, Some, true, false};
+ghost use Rattle.scan_drive.specs.Chunks.{HasRoom};
 ghost use Rattle.scan_multi.specs.Lawful.{IsIdle};
 ghost use Rattle.scan_multi.specs.Scans.{IsScan, IsRefusedFor, ScanMoves};
-ghost use Rattle.scan_multi.specs.Served.{is_built};
 
 use crate::gate::Gate;
-use crate::scan::fault::ScanFault;
-use crate::scan::file::{chunk_list, scan_file};
-use crate::scan::multi::LayoutReaderFactory;
-use crate::scan::output::ScanOutput;
-use crate::scan::plan::make_plan;
-use crate::scan::served::is_built;
+use crate::scan::fault::{ScanFault, placed};
+use crate::scan::output::{ScanOutput, chunks_of};
+use crate::scan::request::check_request;
+use scan_drive::{ScanFile, drive_files};
 use scan_expr::ScanRequest;
-use scan_segments::{KeyedSegmentCache, SegmentSource, SegmentSourceId};
+use scan_opener::LayoutReaderFactory;
+use scan_segments::{KeyedSegmentCache, SegmentSource};
 use scan_values::DType;
 use std::alloc::Global;
 use std::thread::Threads;
 
-/// A file: what opens it, what holds its segments, and the name of that source, under which a cache keeps them.
-#[derive(Drop)]
-pub struct ScanFile<O, S> {
-    pub opener: O,
-    pub source: S,
-    pub source_id: SegmentSourceId,
+/// Whether a row may be given.
+fn has_room(limit: Option<u64>) -> bool
+    ensures some { result ≡ true → HasRoom limit }
+    ensures none { result ≡ false → limit ≡ Some 0 }
+{
+    match limit {
+        None => true,
+        Some(most) => most > 0,
+    }
 }
 
-/// Scans files: their rows under the request, in chunks. So far one file is scanned, on one worker: all its rows in
-/// order, and of a struct of Bool and i32 columns without nulls the whole or some fields. A file that is skipped has
-/// none.
+/// Scans files: their rows in a range and a selection at which a filter is true, in the order of the files and of their
+/// rows, up to a limit, and of each the value of a projection. An unordered request is served in the same order.
 ///
-/// The opener is polled to its end, and the layout that it gives is checked. Then each segment with a row of a chosen
-/// field is wanted, in the order of the fields. Each want is looked up in the cache first, by a lookup of its own that
-/// is polled to its end. What is not there is asked of the file's source, once for all wants of a segment, and what
-/// comes is put into the cache. A fault of the cache is a miss, and no answer of a put changes what the scan gives. No
-/// request is live after any answer. The gate is not called yet.
+/// The request is checked first. A limit of 0 asks for nothing, and no file is touched. Else openers are polled: those
+/// of as many files as there are workers, from the first file on whose rows are not all given. Each layout that one
+/// gives is checked. A file that is skipped has no rows. The rows of a file are read split by split, of those splits
+/// that have a selected row: one conjunct of the filter after the other, and then the projection at the rows that are
+/// left. Four splits for each worker are read at once, all on the calling thread.
+///
+/// What a split reads of a segment is wanted when it is needed. Each want is looked up in the cache first, by a lookup
+/// of its own that is polled to its end. What is not there is asked of the file's source, once for all wants that come
+/// while it is live, and what comes is put into the cache. A fault of the cache is a miss, and no answer of a put
+/// changes what the scan gives. No request is live after any answer. The gate is not called yet.
 ///
 /// # Errors
-/// `NotBuilt` exactly where the scan is none of these, tested before all else; nothing is touched then. Of a scan that is
-/// built: `Bind` exactly where the projection does not type over the dtype, but for want of memory, before any opener is
-/// polled. Each other fault only by its cause. `Opener` and `Source`: the count of faults of that opener or source rose
+/// `Concurrency` where there are no workers, `Partitions` where the request restricts them, `RowRange(Reversed)` where
+/// the range starts after its end, and `Bind` where the projection or the filter does not type over the dtype: exactly
+/// the first of these in this order, before any file is touched. Want of memory may come in place of `Bind` alone.
+///
+/// Each other fault is of a file, and comes only by its cause; over lawful objects only once all rows of the files
+/// before it were given, fewer than the limit. `Opener` and `Source`: the count of faults of that opener or source rose
 /// in this call, and the segment was asked in it. `DTypeMismatch`: the opener gives a layout of another dtype. `Layout`:
-/// it gives one of the dtype that is not well-formed, and this is its first fault. No segment of the file was asked
-/// before these two. `Corrupt`: a file of that source name was asked for the segment in this call, or the cache kept it
-/// before; over lawful objects it may be asked, and it is missing or damaged. `NoMemory` may come in place of any answer
-/// but `NotBuilt`; it alone comes of a valid scan of lawful objects where no count of faults rose.
+/// it gives one of the dtype that is not well-formed, and this is its first fault. `RowRange(Past)`: the range ends past
+/// the rows of one that is. `TooManyRows`: with its rows there are more than a u64 counts. No segment of the file was
+/// asked before these four. `Corrupt`: a file of that source name was asked for the segment in this call, or the cache
+/// kept it before; over lawful objects it may be asked, and it is missing or damaged. `Overflow`: over lawful objects an
+/// expression overflows at a row that is read. `NoMemory` may come in place of any answer but the first three faults; it
+/// alone comes of a valid scan of lawful objects where no count of faults rose.
 #[tactic(none)]
 pub fn scan_files<
     R: Threads + Sync,
-    O: LayoutReaderFactory,
-    S: SegmentSource,
+    O: LayoutReaderFactory + Drop,
+    S: SegmentSource + Drop,
     C: KeyedSegmentCache,
     G: Gate,
 >(
@@ -64,21 +75,20 @@ pub fn scan_files<
     requires { All (IsIdle O.opener S.state) files.old.items }
     ensures ok { IfOk result (IsScan O.opener S.state workers dtype.now request.now
         files.old.items files.new.items (C.cache cache.old) (C.cache cache.new)) }
-    ensures err { IfErr result (λ e. (e ≡ ScanFault.NotBuilt) ⊎ IsRefusedFor O.opener S.state workers dtype.now request.now
-        files.old.items files.new.items (C.cache cache.old) (C.cache cache.new) e) }
+    ensures err { IfErr result (IsRefusedFor O.opener S.state workers dtype.now request.now
+        files.old.items files.new.items (C.cache cache.old) (C.cache cache.new)) }
     ensures moves { ScanMoves O.opener S.state workers dtype.now request.now
         files.old.items files.new.items (C.cache cache.old) (C.cache cache.new) }
-    ensures built { IfOk result (λ out. is_built workers (length files.old.items) dtype.now request.now ≡ true) }
-    ensures unbuilt { (result ≡ Err ScanFault.NotBuilt) ↔ (is_built workers (length files.old.items) dtype.now request.now ≡ false) }
-    ensures untouched { result ≡ Err ScanFault.NotBuilt → (files.new.items ≡ files.old.items) × (C.cache cache.new ≡ C.cache cache.old) }
 {
-    if !is_built(workers, files.len(), dtype, request) {
-        return Err(ScanFault::NotBuilt);
+    let ask = check_request(alloc, dtype, workers, request)?;
+    if !has_room(request.limit) {
+        return Ok(ScanOutput::empty(alloc));
     }
-    let plan = make_plan(alloc, dtype, request)?;
-    let found = scan_file(alloc, &mut files[0], cache, 0, &plan)?;
-    Ok(ScanOutput {
-        chunks: chunk_list(alloc, found.chunk)?,
-        report: found.report,
-    })
+    match drive_files(alloc, &ask, files, cache, workers, request.limit) {
+        Ok(output) => Ok(ScanOutput {
+            chunks: chunks_of(alloc, output.chunks)?,
+            report: output.report,
+        }),
+        Err(fault) => Err(placed(fault)),
+    }
 }

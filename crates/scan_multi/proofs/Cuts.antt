@@ -1,0 +1,202 @@
+-- What a drive over files gives is cut at the splits of the files.
+use Rattle.std.proofs.Common.{◌≡◌, ◌<◌, ◌+◌, ℕ, suc, Bool, true, false, List, [], ◌∷◌, ◌++◌, append-nil, append_assoc, drop, map, Option, Some, None, inl, inr, refl, sym, ap, subst, ◌∙◌, arith}
+use Rattle.std.specs.Prelude.{◌⊎◌, ◌==◌, ◌&&◌, All, if◌then◌else◌}
+use Rattle.std.proofs.lemmas.Bool.Decides.{nat_tests}
+use Rattle.std.proofs.lemmas.List.{take-append-drop}
+use Rattle.std.proofs.lemmas.List.Elements.{All-cons, All-nil}
+use Rattle.scan_values.specs.DataType.{DataType}
+use Rattle.scan_expr.specs.declared.request.ScanRequest.{ScanRequest}
+use Rattle.scan_drive.specs.Files as drive
+use Rattle.scan_file.specs.FileAsks.{FileAsk}
+use Rattle.scan_multi.specs.Answer.{Item, ToldFile, answer}
+use Rattle.scan_multi.specs.Asked.{AreClean, AsksFor, Row, item_from, items_from, tale_of}
+use Rattle.scan_multi.specs.Chunks.{AreSplits, IsFrontOf, cut, grouped, is_beside, join_first}
+use Rattle.scan_multi.specs.Output.{ChunkData, chunk_items, given, limited}
+use Rattle.scan_multi.proofs.Keys.{IsNext, KeyedFrom, OfSplit, answer_keyed, keyed_cut, split_in}
+use Rattle.scan_multi.proofs.Tales.{given_limited}
+
+-- the items of a group
+abbrev pub group_items : drive.Group drive.Item → List Item
+group_items g = items_from (drive.placed g)
+
+items_append : (xs ys : List Row) → items_from (xs ++ ys) ≡ items_from xs ++ items_from ys
+items_append [] ys = refl
+items_append (x ∷ xs) ys = ap (λ zs. item_from x ∷ zs) (items_append xs ys)
+
+clean_parts : (xs ys : List Row) → AreClean (xs ++ ys) → AreClean xs × AreClean ys
+clean_parts [] ys h = (tt, h)
+clean_parts (x ∷ xs) ys h = let p = clean_parts xs ys h.1 in ((h.0, p.0), p.1)
+
+same_numbers : (a b : ℕ) → a ≡ b → (a == b) ≡ true
+same_numbers a b h = grind (arith, nat_tests, h)
+
+other_numbers : (a b : ℕ) → a < b → (a == b) ≡ false
+other_numbers a b h = grind (arith, nat_tests, h)
+
+-- groups put into one, or beside others
+pub record StartsWith (xs : List Item) (groups : List (List Item)) : Type 0 where
+  pub rest : List Item
+  pub others : List (List Item)
+  pub is : groups ≡ (xs ++ rest) ∷ others
+
+module _ (d : DataType) (request : ScanRequest) (files : List ToldFile) where
+  abbrev pub beside : Item → Item → Bool
+  beside = is_beside d request files
+
+  -- an item that is of another split than those of a number
+  abbrev pub IsApart : ℕ → ℕ → Item → Type 0
+  IsApart file k y = (file < y.file) ⊎ ((file ≡ y.file) × (k < split_in d request files y.file y.row))
+
+  -- groups whose first item is
+  abbrev pub LeaveOff : ℕ → ℕ → List (List Item) → Type 0
+  LeaveOff file k [] = Unit {0}
+  LeaveOff file k ([] ∷ gs) = ⊥
+  LeaveOff file k ((y ∷ ys) ∷ gs) = IsApart file k y
+
+  apart_not : (x y : Item) (k : ℕ) → split_in d request files x.file x.row ≡ k → IsApart x.file k y → beside x y ≡ false
+  apart_not x y k e (inl l) = ap (λ b. b && (split_in d request files x.file x.row == split_in d request files x.file y.row)) (other_numbers x.file y.file l)
+  apart_not x y k e (inr h) =
+      let same : (x.file == y.file) ≡ true = same_numbers x.file y.file h.0 in
+      let up : split_in d request files x.file x.row < split_in d request files x.file y.row =
+      subst (λ f. split_in d request files x.file x.row < split_in d request files f y.row) (sym h.0) (omega (arith, e, h.1)) in
+      ap (λ b. b && (split_in d request files x.file x.row == split_in d request files x.file y.row)) same ∙ other_numbers (split_in d request files x.file x.row) (split_in d request files x.file y.row) up
+
+  alike : (file k : ℕ) (v w : Row) → v.0 ≡ file → w.0 ≡ file → split_in d request files file v.1.0 ≡ k → split_in d request files file w.1.0 ≡ k → beside (item_from v) (item_from w) ≡ true
+  alike file k v w p q e f =
+      let same : (v.0 == w.0) ≡ true = same_numbers v.0 w.0 (p ∙ sym q) in
+      let one : split_in d request files v.0 v.1.0 ≡ k = ap (λ z. split_in d request files z v.1.0) p ∙ e in
+      let two : split_in d request files v.0 w.1.0 ≡ k = ap (λ z. split_in d request files z w.1.0) p ∙ f in
+      ap (λ b. b && (split_in d request files v.0 v.1.0 == split_in d request files v.0 w.1.0)) same ∙ same_numbers (split_in d request files v.0 v.1.0) (split_in d request files v.0 w.1.0) (one ∙ sym two)
+
+  joined : (x : Item) (k : ℕ) (gs : List (List Item)) → split_in d request files x.file x.row ≡ k → LeaveOff x.file k gs → join_first beside x gs ≡ (x ∷ []) ∷ gs
+  joined x k [] e h = refl
+  joined x k ([] ∷ gs) e h = absurd h
+  joined x k ((y ∷ ys) ∷ gs) e h = ap (λ b. if b then (x ∷ y ∷ ys) ∷ gs else (x ∷ []) ∷ (y ∷ ys) ∷ gs) (apart_not x y k e h)
+
+  -- the rows of one split, before items of others
+  one_group : (file k : ℕ) (x : drive.Item) (xs : List drive.Item) (rest : List Item) → OfSplit (split_in d request files file) k (x ∷ xs) → LeaveOff file k (grouped beside rest)
+      → grouped beside (group_items (file, x ∷ xs) ++ rest) ≡ group_items (file, x ∷ xs) ∷ grouped beside rest
+  one_group file k x [] rest h off = joined (item_from (file, x)) k (grouped beside rest) h.0 off
+  one_group file k x (y ∷ ys) rest h off =
+      ap (join_first beside (item_from (file, x))) (one_group file k y ys rest h.1 off)
+      ∙ ap (λ b. if b then (item_from (file, x) ∷ group_items (file, y ∷ ys)) ∷ grouped beside rest else (item_from (file, x) ∷ []) ∷ group_items (file, y ∷ ys) ∷ grouped beside rest)
+      (alike file k (file, x) (file, y) refl refl h.0 h.1.0)
+
+  -- or before any items
+  starts_one : (x : Item) (gs : List (List Item)) → StartsWith (x ∷ []) (join_first beside x gs)
+  starts_one x [] = record { rest = []; others = []; is = refl }
+  starts_one x ([] ∷ gs) = record { rest = []; others = gs; is = refl }
+  starts_one x ((y ∷ ys) ∷ gs) = go (beside x y)
+    where
+      go : (b : Bool) → StartsWith (x ∷ []) (if b then (x ∷ y ∷ ys) ∷ gs else (x ∷ []) ∷ (y ∷ ys) ∷ gs)
+      go true = record { rest = y ∷ ys; others = gs; is = refl }
+      go false = record { rest = []; others = (y ∷ ys) ∷ gs; is = refl }
+
+  starts_group : (file k : ℕ) (x : drive.Item) (xs : List drive.Item) (rest : List Item) → OfSplit (split_in d request files file) k (x ∷ xs) → StartsWith (group_items (file, x ∷ xs)) (grouped beside (group_items (file, x ∷ xs) ++ rest))
+  starts_group file k x [] rest h = starts_one (item_from (file, x)) (grouped beside rest)
+  starts_group file k x (y ∷ ys) rest h =
+      let r = starts_group file k y ys rest h.1 in
+      record {
+        rest = r.rest;
+        others = r.others;
+        is = ap (join_first beside (item_from (file, x))) r.is
+            ∙ ap (λ b. if b then (item_from (file, x) ∷ group_items (file, y ∷ ys) ++ r.rest) ∷ r.others else (item_from (file, x) ∷ []) ∷ (group_items (file, y ∷ ys) ++ r.rest) ∷ r.others)
+            (alike file k (file, x) (file, y) refl refl h.0 h.1.0);
+      }
+
+  -- the first of groups of later splits
+  apart_next : (f c : ℕ) (file k : ℕ) (x : drive.Item) → IsNext f (c + 1) file k → split_in d request files file x.0 ≡ k → IsApart f c (item_from (file, x))
+  apart_next f c file k x (inl l) e = inl l
+  apart_next f c file k x (inr h) e = inr (h.0, omega (arith, h.1, e))
+
+  leave_groups : (f c : ℕ) (gs : List (drive.Group drive.Item)) → KeyedFrom (split_in d request files) f (c + 1) gs → AreClean (drive.flattened gs) → LeaveOff f c (map group_items gs)
+  leave_groups f c [] h clean = tt
+  leave_groups f c ((file, []) ∷ gs) h clean = absurd h
+  leave_groups f c ((file, x ∷ xs) ∷ gs) h clean = let r = h clean.0 in apart_next f c file r.0 x r.1 r.2.0
+
+  leave_first : (f c file k : ℕ) (x : drive.Item) (xs : List Item) (groups : List (List Item)) → StartsWith (item_from (file, x) ∷ xs) groups → IsNext f (c + 1) file k → split_in d request files file x.0 ≡ k → LeaveOff f c groups
+  leave_first f c file k x xs groups s n e = subst (LeaveOff f c) (sym s.is) (apart_next f c file k x n e)
+
+  -- a front of a group among others is one among more
+  fronts_more : (g : List Item) (groups chunks : List (List Item)) → All (IsFrontOf groups) chunks → All (IsFrontOf (g ∷ groups)) chunks
+  fronts_more g groups chunks h = λ k e l. let f = h k e l in let c = f.among in record { rest = f.rest; among = (suc c.0, let m = c.1 in omega (arith, m), c.2) }
+
+  first_front : (xs : List Item) (groups : List (List Item)) → StartsWith xs groups → IsFrontOf groups xs
+  first_front xs groups s = subst (λ z. IsFrontOf z xs) (sym s.is) (record { rest = s.rest; among = (0, omega arith, refl) })
+
+  clean_rest : (g : drive.Group drive.Item) (gs : List (drive.Group drive.Item)) → AreClean (drive.flattened (g ∷ gs)) → AreClean (drive.flattened gs)
+  clean_rest g gs h = (clean_parts (drive.placed g) (drive.flattened gs) h).1
+
+  flat_first : (g : drive.Group drive.Item) (gs : List (drive.Group drive.Item)) (later : List Item) → items_from (drive.flattened (g ∷ gs)) ++ later ≡ group_items g ++ (items_from (drive.flattened gs) ++ later)
+  flat_first g gs later = ap (λ xs. xs ++ later) (items_append (drive.placed g) (drive.flattened gs)) ∙ append_assoc (group_items g) (items_from (drive.flattened gs)) later
+
+  -- ---- groups of splits that follow each other
+  -- their items are cut into them
+  pub cut_alone : (f c : ℕ) (gs : List (drive.Group drive.Item)) → KeyedFrom (split_in d request files) f c gs → AreClean (drive.flattened gs) → grouped beside (items_from (drive.flattened gs)) ≡ map group_items gs
+  cut_alone f c [] h clean = refl
+  cut_alone f c ((file, []) ∷ gs) h clean = absurd h
+  cut_alone f c ((file, x ∷ xs) ∷ gs) h clean =
+      let r = h clean.0 in
+      let behind : AreClean (drive.flattened gs) = clean_rest (file, x ∷ xs) gs clean in
+      let rest = cut_alone file (r.0 + 1) gs r.3 behind in
+      let off : LeaveOff file r.0 (grouped beside (items_from (drive.flattened gs))) = subst (LeaveOff file r.0) (sym rest) (leave_groups file r.0 gs r.3 behind) in
+      ap (grouped beside) (items_append (drive.placed (file, x ∷ xs)) (drive.flattened gs))
+      ∙ one_group file r.0 x xs (items_from (drive.flattened gs)) r.2 off
+      ∙ ap (λ zs. group_items (file, x ∷ xs) ∷ zs) rest
+
+  -- with more items behind them each is a front of a group
+  pub cut_fronts : (f c : ℕ) (gs : List (drive.Group drive.Item)) (later : List Item) → KeyedFrom (split_in d request files) f c gs → AreClean (drive.flattened gs)
+      → All (IsFrontOf (grouped beside (items_from (drive.flattened gs) ++ later))) (map group_items gs)
+  cut_fronts f c [] later h clean = All-nil (IsFrontOf (grouped beside later))
+  cut_fronts f c ((file, []) ∷ gs) later h clean = absurd h
+  cut_fronts f c ((file, x ∷ xs) ∷ []) later h clean =
+      let r = h clean.0 in
+      let starts = starts_group file r.0 x xs later r.2 in
+      subst (λ items. All (IsFrontOf (grouped beside items)) (group_items (file, x ∷ xs) ∷ [])) (sym (flat_first (file, x ∷ xs) [] later))
+      (All-cons (IsFrontOf (grouped beside (group_items (file, x ∷ xs) ++ later))) (group_items (file, x ∷ xs)) [] (first_front (group_items (file, x ∷ xs)) (grouped beside (group_items (file, x ∷ xs) ++ later)) starts)
+      (All-nil (IsFrontOf (grouped beside (group_items (file, x ∷ xs) ++ later)))))
+  cut_fronts f c ((file, x ∷ xs) ∷ (other, []) ∷ gs) later h clean = let r = h clean.0 in absurd r.3
+  cut_fronts f c ((file, x ∷ xs) ∷ (other, y ∷ ys) ∷ gs) later h clean =
+      let r = h clean.0 in
+      let behind : AreClean (drive.flattened ((other, y ∷ ys) ∷ gs)) = clean_rest (file, x ∷ xs) ((other, y ∷ ys) ∷ gs) clean in
+      let next = r.3 behind.0 in
+      let after : List Item = items_from (drive.flattened ((other, y ∷ ys) ∷ gs)) ++ later in
+      let starts : StartsWith (group_items (other, y ∷ ys)) (grouped beside after) =
+      subst (λ items. StartsWith (group_items (other, y ∷ ys)) (grouped beside items)) (sym (flat_first (other, y ∷ ys) gs later)) (starts_group other next.0 y ys (items_from (drive.flattened gs) ++ later) next.2) in
+      let off : LeaveOff file r.0 (grouped beside after) = leave_first file r.0 other next.0 y (group_items (other, ys)) (grouped beside after) starts next.1 next.2.0 in
+      let groups : grouped beside (group_items (file, x ∷ xs) ++ after) ≡ group_items (file, x ∷ xs) ∷ grouped beside after = one_group file r.0 x xs after r.2 off in
+      let rest = cut_fronts file (r.0 + 1) ((other, y ∷ ys) ∷ gs) later r.3 behind in
+      let all : All (IsFrontOf (group_items (file, x ∷ xs) ∷ grouped beside after)) (map group_items ((file, x ∷ xs) ∷ (other, y ∷ ys) ∷ gs)) =
+      All-cons (IsFrontOf (group_items (file, x ∷ xs) ∷ grouped beside after)) (group_items (file, x ∷ xs)) (map group_items ((other, y ∷ ys) ∷ gs))
+      (record { rest = []; among = (0, omega arith, sym (append-nil (group_items (file, x ∷ xs)))) })
+      (fronts_more (group_items (file, x ∷ xs)) (grouped beside after) (map group_items ((other, y ∷ ys) ∷ gs)) rest) in
+      subst (λ items. All (IsFrontOf (grouped beside items)) (map group_items ((file, x ∷ xs) ∷ (other, y ∷ ys) ∷ gs))) (sym (flat_first (file, x ∷ xs) ((other, y ∷ ys) ∷ gs) later))
+      (subst (λ groups. All (IsFrontOf groups) (map group_items ((file, x ∷ xs) ∷ (other, y ∷ ys) ∷ gs))) (sym groups) all)
+
+-- ---- what a drive gives, as far as the limit allows
+module _ (d : DataType) (request : ScanRequest) (a : FileAsk) (asks : AsksFor d request a) (files : List ToldFile) where
+  all_keyed : KeyedFrom (split_in d request files) 0 0 (drive.answer (map (tale_of a) files))
+  all_keyed = subst (λ z. KeyedFrom (split_in d request files) 0 0 (drive.answer (map (tale_of z) files))) (sym asks.is) (answer_keyed d request files (record { is = refl; askable = asks.askable }))
+
+  given_keyed : (limit : Option ℕ) (gs : List (drive.Group drive.Item)) → gs ≡ drive.limited limit (drive.answer (map (tale_of a) files)) → KeyedFrom (split_in d request files) 0 0 gs
+  given_keyed None gs e = subst (KeyedFrom (split_in d request files) 0 0) (sym e) all_keyed
+  given_keyed (Some n) gs e = subst (KeyedFrom (split_in d request files) 0 0) (sym e) (keyed_cut (split_in d request files) n 0 0 (drive.answer (map (tale_of a) files)) all_keyed)
+
+  -- the items of an answer that come behind those that are given
+  abbrev pub later_items : Option ℕ → List Item
+  later_items None = []
+  later_items (Some n) = drop n (answer d request files)
+
+  with_later : (limit : Option ℕ) → limited limit (answer d request files) ++ later_items limit ≡ answer d request files
+  with_later None = append-nil (answer d request files)
+  with_later (Some n) = take-append-drop n (answer d request files)
+
+  -- clean groups of a drive, as chunks with these items, are split where the files are
+  pub given_splits : (ordered : Bool) (limit : Option ℕ) (gs : List (drive.Group drive.Item)) (chunks : List ChunkData) → gs ≡ drive.limited limit (drive.answer (map (tale_of a) files)) → AreClean (drive.flattened gs)
+      → map chunk_items chunks ≡ map group_items gs → given chunks ≡ items_from (drive.flattened gs) → AreSplits ordered d request files chunks
+  given_splits true limit gs chunks e clean same items = same ∙ sym (cut_alone d request files 0 0 gs (given_keyed limit gs e) clean) ∙ ap (cut d request files) (sym items)
+  given_splits false limit gs chunks e clean same items =
+      let first : items_from (drive.flattened gs) ≡ limited limit (answer d request files) = given_limited d request a asks files limit gs e clean in
+      let whole : items_from (drive.flattened gs) ++ later_items limit ≡ answer d request files = ap (λ xs. xs ++ later_items limit) first ∙ with_later limit in
+      subst (All (IsFrontOf (cut d request files (answer d request files)))) (sym same)
+      (subst (λ xs. All (IsFrontOf (cut d request files xs)) (map group_items gs)) whole (cut_fronts d request files 0 0 gs (later_items limit) (given_keyed limit gs e) clean))

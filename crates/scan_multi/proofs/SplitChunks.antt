@@ -1,0 +1,39 @@
+-- The chunks of a scan are split where its files are.
+use Rattle.std.proofs.Common.{◌≡◌, ◌≢◌, Bool, List, [], ◌∷◌, ◌++◌, map, refl, sym, ap, ◌∙◌}
+use Rattle.std.specs.Prelude.{All}
+use Rattle.std.proofs.lemmas.List.Elements.{All-head, All-tail}
+use Rattle.scan_values.specs.DataType.{DataType}
+use Rattle.scan_expr.specs.declared.request.ScanRequest.{ScanRequest}
+use Rattle.scan_drive.specs.Chunks.{HasRow}
+use Rattle.scan_drive.specs.Chunks as drive_chunks
+use Rattle.scan_drive.specs.Files as drive
+use Rattle.scan_drive.specs.declared.delivery.Chunk.{Chunk}
+use Rattle.scan_file.specs.FileAsks.{FileAsk}
+use Rattle.scan_file.specs.FileRows.{RowsData, row_items}
+use Rattle.scan_multi.specs.Answer.{ToldFile}
+use Rattle.scan_multi.specs.Asked.{AsksFor, tale_of}
+use Rattle.scan_multi.specs.Chunks.{AreSplits}
+use Rattle.scan_multi.specs.Output.{chunk_items}
+use Rattle.scan_multi.specs.Placed.{chunk_of}
+use Rattle.scan_multi.proofs.Chunking.{chunks_clean, chunks_items, rows_items}
+use Rattle.scan_multi.proofs.Cuts.{given_splits, group_items}
+
+-- rows, of which there are some, are one group
+one_group : (c : Chunk RowsData) (xs : List drive.Item) → xs ≢ [] → drive.grouped c.file xs ≡ (c.file, xs) ∷ []
+one_group c [] some = absurd (some refl)
+one_group c (x ∷ xs) some = refl
+
+-- the items of chunks are those of the groups that they give
+group_by_group : (chunks : List (Chunk RowsData)) → All (HasRow row_items) chunks → map chunk_items (map chunk_of chunks) ≡ map group_items (drive_chunks.given row_items chunks)
+group_by_group [] some = refl
+group_by_group (c ∷ cs) some =
+    let row : row_items c.rows ≢ [] = All-head (HasRow row_items) c cs some in
+    let rest = group_by_group cs (All-tail (HasRow row_items) c cs some) in
+    let groups : drive_chunks.given row_items (c ∷ cs) ≡ (c.file, row_items c.rows) ∷ drive_chunks.given row_items cs = ap (λ gs. gs ++ drive_chunks.given row_items cs) (one_group c (row_items c.rows) row) in
+    (λ z. sym (rows_items c.file (c.rows).values.dtype (c.rows).numbers (c.rows).values.items) z ∷ rest z) ∙ sym (ap (map group_items) groups)
+
+-- chunks of the first rows of the answer are split where the files are
+pub chunks_split : (d : DataType) (q : ScanRequest) (a : FileAsk) → AsksFor d q a → (files : List ToldFile) (chunks : List (Chunk RowsData))
+    → drive_chunks.given row_items chunks ≡ drive.limited q.limit (drive.answer (map (tale_of a) files)) → All (HasRow row_items) chunks → (ordered : Bool) → AreSplits ordered d q files (map chunk_of chunks)
+chunks_split d q a asks files chunks is some ordered =
+    given_splits d q a asks files ordered q.limit (drive_chunks.given row_items chunks) (map chunk_of chunks) is (chunks_clean chunks) (group_by_group chunks some) (sym (chunks_items chunks))

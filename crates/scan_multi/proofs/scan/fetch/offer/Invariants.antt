@@ -1,9 +1,0 @@
-use Rattle.scan_segments.specs.Cache.{Loses}
-use Rattle.scan_segments.specs.Cached.{Moves}
-use Rattle.scan_multi.proofs.scan.fetch.offer.Given as goal
-
-abbrev pub invariant-wait : goal.invariant-wait
-invariant-wait g l = Moves Loses (g.C.KeyedSegmentCache.cache l.fn.cache).ended (g.C.KeyedSegmentCache.cache l.fn.cache) (g.C.KeyedSegmentCache.cache l.cache)
-
-abbrev pub decreases-wait : goal.decreases-wait
-decreases-wait g l = (g.C.KeyedSegmentCache.cache l.cache).turns
