@@ -1,12 +1,12 @@
 #!/usr/bin/env python3
-"""Holds manifests against the schemas in docs/, and the schemas and the examples against the program.
+"""Holds manifests against the schema in docs/, and the schema and the examples against the program.
 
-  check.py FILE..      says where each manifest leaves the form, or what is served so far
-  check.py             the examples in cases/ against the schemas and against statuses.txt, and the schema of the
-                       form against the tests of the manifest's reader (crates/scan_vectors/src/manifest.rt)
+  check.py FILE..      says where each manifest leaves the form
+  check.py             the examples in cases/ against the schema and against statuses.txt, and the schema
+                       against the tests of the manifest's reader (crates/scan_vectors/src/manifest.rt)
   check.py --run       the same, and the program on each example: its status and its lines
   check.py --variants  the program on some hundred manifests that are made wrong in one place:
-                       it has status 2 exactly where a schema refuses
+                       it has status 2 exactly where the schema refuses
 
 The last two build the program once by `rt try`, in about a minute. Needs python3.8 alone.
 """
@@ -20,7 +20,6 @@ from pathlib import Path
 HERE = Path(__file__).resolve().parent
 DOCS = HERE.parent / "docs"
 FORM = json.loads((DOCS / "manifest.schema.json").read_text())
-SERVED = json.loads((DOCS / "served.schema.json").read_text())
 
 
 # ---- JSON as the program reads it
@@ -39,7 +38,7 @@ def read(data):
     return json.loads(data.decode("utf-8"), parse_int=whole, parse_float=no_number, parse_constant=no_number)
 
 
-# ---- a validator for the words that the two schemas use: the first place that does not fit, or None
+# ---- a validator for the words that the schema uses: the first place that does not fit, or None
 
 KINDS = {
     "null": lambda v: v is None,
@@ -209,21 +208,14 @@ def beyond(manifest):
     return None
 
 
-def form_fault(data):
-    """Why these bytes are no manifest, or None."""
+def judge(data):
+    """Why these bytes are no manifest and are refused by status 2, or None."""
     try:
         manifest = read(data)
     except (ValueError, RecursionError) as e:
         return f"no JSON: {e}"
     at = fault(FORM, manifest, FORM) or beyond(manifest)
     return at and f"no manifest: {at[0]} {at[1]}"
-
-
-def judge(data):
-    """Why these bytes are refused by status 2, or None."""
-    why = form_fault(data)
-    at = None if why else fault(SERVED, read(data), SERVED)
-    return why or at and f"not served: {at[0]} {at[1]}"
 
 
 # ---- against what the tests of the manifest's reader say of it
@@ -255,11 +247,8 @@ def agrees_with_jsonschema(data):
         manifest = read(data)
     except (ImportError, ValueError):
         return True
-    for schema in (FORM, SERVED):
-        Draft202012Validator.check_schema(schema)
-        if Draft202012Validator(schema).is_valid(manifest) != (fault(schema, manifest, schema) is None):
-            return False
-    return True
+    Draft202012Validator.check_schema(FORM)
+    return Draft202012Validator(FORM).is_valid(manifest) == (fault(FORM, manifest, FORM) is None)
 
 
 # ---- the program
@@ -314,12 +303,12 @@ def manifests():
 
 def main(words):
     bad = []
-    unknown = unknown_words(FORM) + unknown_words(SERVED)
+    unknown = unknown_words(FORM)
     if unknown:
-        bad.append(f"schemas use words that are not known here: {unknown}")
+        bad.append(f"the schema uses words that are not known here: {unknown}")
     if words and not words[0].startswith("--"):
         for word in words:
-            print(f"{word}: {judge(Path(word).read_bytes()) or 'a manifest that is served'}")
+            print(f"{word}: {judge(Path(word).read_bytes()) or 'a manifest'}")
         return 0
     lines = (HERE / "statuses.txt").read_text().splitlines()
     wanted = {line.split()[0]: int(line.split()[1]) for line in lines if line and line[0] != "#"}
@@ -327,11 +316,11 @@ def main(words):
         data, status = path.read_bytes(), wanted.get(path.name)
         why = judge(data)
         if status is None or (why is not None) != (status == 2):
-            bad.append(f"{path.name}: wanted status {status}, and the schemas say: {why}")
+            bad.append(f"{path.name}: wanted status {status}, and the schema says: {why}")
         if not agrees_with_jsonschema(data):
             bad.append(f"{path.name}: jsonschema judges otherwise")
     rows = list(reader_rows())
-    bad += [f"the reader's tests say {taken} of: {text}" for text, taken in rows if (form_fault(text.encode()) is None) != taken]
+    bad += [f"the reader's tests say {taken} of: {text}" for text, taken in rows if (judge(text.encode()) is None) != taken]
     bad += [f"jsonschema judges otherwise: {text}" for text, _ in rows if not agrees_with_jsonschema(text.encode())]
     if set(wanted) != {p.name for p in manifests()}:
         bad.append("statuses.txt and cases/ name different examples")

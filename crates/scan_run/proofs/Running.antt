@@ -3,14 +3,14 @@ use Rattle.std.proofs.Common.{◌≡◌, ◌≢◌, ◌⊎◌, inl, inr, ℕ, �
 use Rattle.std.specs.Prelude.{IfSome, option_map, length}
 use Rattle.scan_manifest.specs.declared.manifest.Manifest.{Manifest}
 use Rattle.scan_run.specs.declared.run.Stop.{Stop}
-use Rattle.scan_run.specs.declared.run.Stop.TheVariants.{Unserved, Unbound, Unreadable, Failed, NoMemory}
+use Rattle.scan_run.specs.declared.run.Stop.TheVariants.{Unbound, Unreadable, Failed, NoMemory}
 use Rattle.scan_run.specs.Io.{InputState, OutputState}
 use Rattle.scan_segments.specs.Faults.{Rose}
 use Rattle.scan_run.specs.ReadAll.{GaveAll, TookMore}
 use Rattle.scan_run.specs.WriteAll.{WroteFront}
 use Rattle.scan_manifest.specs.Manifest.{IsManifest}
 use Rattle.scan_manifest.proofs.CallerLemmas.{only_manifest}
-use Rattle.scan_run.specs.Run.{IsDone, IsUnserved, IsRefused, IsFound, IsUnbound, IsUnreadable, IsFailing}
+use Rattle.scan_run.specs.Run.{IsDone, IsRefused, IsFound, IsUnbound, IsUnreadable, IsFailing}
 use Rattle.scan_run.specs.Stops.{status_of, IsStop, IsTextOf, WroteFrontOfLines, Ends, IsReady}
 
 told_fact : (P : List ℕ → Type 0) (left : Option (List ℕ)) (bytes : List ℕ) → IfSome left (λ all. bytes ≡ all) → P bytes → IfSome left P
@@ -19,50 +19,35 @@ told_fact P (Some all) bytes e h = subst P e h
 
 pub refused_many : (input input' : InputState) (bytes : List ℕ) → GaveAll bytes input input' → ((m : Manifest) → ¬ IsManifest bytes m) → IsRefused input input'
 refused_many input input' bytes g h =
-    record { read = g.read; is = told_fact (λ all. (m : Manifest) → IsManifest all m → IsUnserved m) input.left bytes g.all (λ m i. absurd (h m i)) }
-
-refused : (input input' : InputState) (bytes : List ℕ) (m : Manifest) → GaveAll bytes input input' → IsManifest bytes m → IsUnserved m → IsRefused input input'
-refused input input' bytes m g i u =
-    record { read = g.read; is = told_fact (λ all. (k : Manifest) → IsManifest all k → IsUnserved k) input.left bytes g.all (λ k j. subst IsUnserved (only_manifest bytes m k i j) u) }
+    record { read = g.read; is = told_fact (λ all. (m : Manifest) → ¬ IsManifest all m) input.left bytes g.all h }
 
 found : (P : Manifest → Type 0) (input input' : InputState) (bytes : List ℕ) (m : Manifest) → GaveAll bytes input input' → IsManifest bytes m → P m → IsFound input input' P
 found P input input' bytes m g i p = record { read = g.read; manifest = m; is = told_fact (λ all. IsManifest all m) input.left bytes g.all i; fact = p }
 
-pub stop_refused : (input input' : InputState) (bytes : List ℕ) (m : Manifest) (s : Stop) → GaveAll bytes input input' → IsManifest bytes m → IsStop m s → status_of s ≡ 2 → IsRefused input input'
-stop_refused input input' bytes m Unserved g i h e = refused input input' bytes m g i h
-stop_refused input input' bytes m Unbound g i h e = absurd (omega arith)
-stop_refused input input' bytes m Unreadable g i h e = absurd (omega arith)
-stop_refused input input' bytes m Failed g i h e = absurd (omega arith)
-stop_refused input input' bytes m NoMemory g i h e = absurd (omega arith)
-
 pub stop_unbound : (input input' : InputState) (bytes : List ℕ) (m : Manifest) (s : Stop) → GaveAll bytes input input' → IsManifest bytes m → IsStop m s → status_of s ≡ 3 → IsFound input input' IsUnbound
-stop_unbound input input' bytes m Unserved g i h e = absurd (omega arith)
 stop_unbound input input' bytes m Unbound g i h e = found IsUnbound input input' bytes m g i h
 stop_unbound input input' bytes m Unreadable g i h e = absurd (omega arith)
 stop_unbound input input' bytes m Failed g i h e = absurd (omega arith)
 stop_unbound input input' bytes m NoMemory g i h e = absurd (omega arith)
 
 pub stop_unreadable : (input input' : InputState) (bytes : List ℕ) (m : Manifest) (s : Stop) → GaveAll bytes input input' → IsManifest bytes m → IsStop m s → status_of s ≡ 4 → IsFound input input' IsUnreadable
-stop_unreadable input input' bytes m Unserved g i h e = absurd (omega arith)
 stop_unreadable input input' bytes m Unbound g i h e = absurd (omega arith)
 stop_unreadable input input' bytes m Unreadable g i h e = found IsUnreadable input input' bytes m g i h
 stop_unreadable input input' bytes m Failed g i h e = absurd (omega arith)
 stop_unreadable input input' bytes m NoMemory g i h e = absurd (omega arith)
 
 pub stop_failing : (input input' : InputState) (bytes : List ℕ) (m : Manifest) (s : Stop) → GaveAll bytes input input' → IsManifest bytes m → IsStop m s → status_of s ≡ 5 → IsFound input input' IsFailing
-stop_failing input input' bytes m Unserved g i h e = absurd (omega arith)
 stop_failing input input' bytes m Unbound g i h e = absurd (omega arith)
 stop_failing input input' bytes m Unreadable g i h e = absurd (omega arith)
 stop_failing input input' bytes m Failed g i h e = found IsFailing input input' bytes m g i h
 stop_failing input input' bytes m NoMemory g i h e = absurd (omega arith)
 
--- a stop is one of five statuses
-pub stop_status : (s : Stop) → (status_of s ≢ 0) × (status_of s ≢ 1) × (status_of s ≢ 6) × (status_of s < 8)
-stop_status Unserved = (λ e. omega arith, λ e. omega arith, λ e. omega arith, omega arith)
-stop_status Unbound = (λ e. omega arith, λ e. omega arith, λ e. omega arith, omega arith)
-stop_status Unreadable = (λ e. omega arith, λ e. omega arith, λ e. omega arith, omega arith)
-stop_status Failed = (λ e. omega arith, λ e. omega arith, λ e. omega arith, omega arith)
-stop_status NoMemory = (λ e. omega arith, λ e. omega arith, λ e. omega arith, omega arith)
+-- a stop is one of four statuses
+pub stop_status : (s : Stop) → (status_of s ≢ 0) × (status_of s ≢ 1) × (status_of s ≢ 6) × (status_of s < 8) × (status_of s ≢ 2)
+stop_status Unbound = (λ e. omega arith, λ e. omega arith, λ e. omega arith, omega arith, λ e. omega arith)
+stop_status Unreadable = (λ e. omega arith, λ e. omega arith, λ e. omega arith, omega arith, λ e. omega arith)
+stop_status Failed = (λ e. omega arith, λ e. omega arith, λ e. omega arith, omega arith, λ e. omega arith)
+stop_status NoMemory = (λ e. omega arith, λ e. omega arith, λ e. omega arith, omega arith, λ e. omega arith)
 
 pub done_is : (input input' : InputState) (output output' : OutputState) (bytes text : List ℕ) (m : Manifest) → GaveAll bytes input input' → IsManifest bytes m → IsTextOf m text → output'.written ≡ option_map (λ before. before ++ text) output.written → IsDone input input' output output'
 done_is input input' output output' bytes text m g i (chunks, s, e) w = record {
@@ -105,7 +90,7 @@ module _ (s : ℕ) (old new : InputState) where
   end_refused (inl (inl (e, r))) h = r
   end_refused (inl (inr (inl (e, r)))) h = absurd (omega arith)
   end_refused (inl (inr (inr e))) h = absurd (omega arith)
-  end_refused (inr (m, stop, (bytes, g, k), i, e)) h = stop_refused old new bytes m stop g k i (sym e ∙ h)
+  end_refused (inr (m, stop, g, i, e)) h = absurd ((stop_status stop).4 (sym e ∙ h))
 
   pub end_unbound : Ends s old new → s ≡ 3 → IsFound old new IsUnbound
   end_unbound (inl (inl (e, r))) h = absurd (omega arith)

@@ -11,7 +11,7 @@ use Rattle.scan_segments.specs.Source.{Store}
 use Rattle.scan_segments.specs.MemorySource.{source_state}
 use Rattle.scan_segments.specs.Cache.{empty_cache}
 use Rattle.scan_segments.specs.declared.memory_source.MemorySource.{MemorySource}
-use Rattle.scan_multi.specs.Opener.{Given, skip}
+use Rattle.scan_opener.specs.Opener.{Given, skip}
 use Rattle.scan_multi.specs.Answer.{ToldFile, answer}
 use Rattle.scan_multi.specs.Output.{ChunkData, chunk_items, given, IsChunk, Admits}
 use Rattle.scan_multi.specs.Causes.{counted, IsOfFile, HasCause}
@@ -20,10 +20,9 @@ use Rattle.scan_multi.specs.Damaged.{IsDamaged}
 use Rattle.scan_multi.specs.Lawful.{told, told_file, IsLawful, Tells, Agrees, IsIdle, AllGive}
 use Rattle.scan_multi.specs.Overflow.{OverflowsIn}
 use Rattle.scan_multi.specs.Request.{first_request_fault}
-use Rattle.scan_multi.specs.Served.{is_built}
 use Rattle.scan_multi.proofs.Complete.{counted-rows}
-use Rattle.scan_multi.specs.declared.scan.multi.MemoryOpener.{MemoryOpener}
-use Rattle.scan_multi.specs.declared.scan.files.ScanFile.{ScanFile}
+use Rattle.scan_opener.specs.declared.opener.MemoryOpener.{MemoryOpener}
+use Rattle.scan_drive.specs.declared.files.ScanFile.{ScanFile}
 use Rattle.scan_multi.specs.declared.scan.fault.RangeFault.TheVariants.{Reversed, Past}
 use Rattle.scan_multi.specs.declared.scan.fault.ScanFault.{ScanFault}
 use Rattle.scan_multi.specs.declared.scan.fault.ScanFault.TheVariants as fault
@@ -35,7 +34,7 @@ use Rattle.scan_manifest.proofs.CallerLemmas.{manifest_agrees, places_same}
 use Rattle.scan_run.specs.declared.run.Asked.{Asked}
 use Rattle.scan_run.specs.AskedOf.{IsAsked}
 use Rattle.scan_run.specs.FileOf.{memory_opener, IsFileOf, AreFilesOf, AreReady}
-use Rattle.scan_run.specs.Run.{CanFail, given_by, store_of, told_by, lines_of, IsScanned, IsUnserved, HasNoFault, IsBadFile, IsUnreadable, of_opener, of_source, of_type, of_layout, of_range, of_segment, of_overflow, of_rows}
+use Rattle.scan_run.specs.Run.{CanFail, given_by, store_of, told_by, lines_of, IsScanned, HasNoFault, IsBadFile, IsUnreadable, of_opener, of_source, of_type, of_layout, of_range, of_segment, of_overflow, of_rows}
 use Rattle.scan_run.specs.Printed.{chunks_lines}
 use Rattle.scan_run.specs.Stops.{stop_of, IsStop, IsTextOf}
 
@@ -121,7 +120,6 @@ module _ (m : Manifest) (made new : List File) (are : AreFilesOf m.files made) (
       bad_file place _ at (λ spec f g is w. of_segment id (subst (λ t. IsDamaged m.dtype m.request t id) (told_spec spec f is) (w.damaged lawful)))
   stopped (fault.Overflow place) at =
       bad_file place _ at (λ spec f g is w. of_overflow (subst (λ (t : ToldFile). OverflowsIn m.dtype m.request t.given t.store) (told_spec spec f is) (w lawful)))
-  stopped fault.NotBuilt c = absurd c
 
   -- what a scan of the files that were made gives is what the manifest asks for
   pub scanned : (chunks : List ChunkData) → first_request_fault m.workers m.dtype m.request ≡ None
@@ -188,15 +186,9 @@ module _ (a : Asked) (made : List File) (ready : AreReady made) where
   asked_scanned chunks p h m is are =
       scanned m made made are ready.lawful chunks (rw (is.dtype, is.request, is.workers) p) (rw (is.dtype, is.request) h)
 
-  -- a scan that is not built is one that is not served
-  unserved : (m : Manifest) → is_built m.workers (length made) m.dtype m.request ≡ false → AreFilesOf m.files made → IsUnserved m
-  unserved m h are = (subst (λ n. is_built m.workers n m.dtype m.request ≡ false) (same_length m.files made are) h)
-
-  pub asked_stopped : (new : List File) (e : ScanFault) → (e ≡ fault.NotBuilt → is_built a.workers (length made) a.dtype a.request ≡ false)
-      → (e ≡ fault.NotBuilt) ⊎ HasCause memory_opener source_state a.workers a.dtype a.request empty_cache made new e
+  pub asked_stopped : (new : List File) (e : ScanFault) → HasCause memory_opener source_state a.workers a.dtype a.request empty_cache made new e
       → (m : Manifest) → IsAsked m a → AreFilesOf m.files made → IsStop m (stop_of e)
-  asked_stopped new e un (inl is-un) m is are = subst (λ z. IsStop m (stop_of z)) (sym is-un) (unserved m (rw (is.dtype, is.request, is.workers) (un is-un)) are)
-  asked_stopped new e un (inr h) m is are = stopped m made new are ready.lawful e (rw (is.dtype, is.request, is.workers) h)
+  asked_stopped new e h m is are = stopped m made new are ready.lawful e (rw (is.dtype, is.request, is.workers) h)
 
 chunks_by : (d : DataType) (cs : List ChunkData) → AllByRecursion (IsChunk d) cs → chunks_lines cs ≡ lines_of d (given cs)
 chunks_by d [] h = refl

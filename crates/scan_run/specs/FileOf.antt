@@ -6,10 +6,10 @@ use Rattle.scan_segments.specs.Cache.{empty_cache}
 use Rattle.scan_segments.specs.Script.{has_number}
 use Rattle.scan_segments.specs.declared.memory_source.MemorySource.{MemorySource}
 use Rattle.scan_multi.specs.Lawful.{IsLawful, IsIdle}
-use Rattle.scan_multi.specs.Opener.{OpenerState}
-use Rattle.scan_multi.specs.OpenerMemory.{opener_state}
-use Rattle.scan_multi.specs.declared.scan.multi.MemoryOpener.{MemoryOpener}
-use Rattle.scan_multi.specs.declared.scan.files.ScanFile.{ScanFile}
+use Rattle.scan_opener.specs.Opener.{OpenerState}
+use Rattle.scan_opener.specs.OpenerMemory.{opener_state}
+use Rattle.scan_opener.specs.declared.opener.MemoryOpener.{MemoryOpener}
+use Rattle.scan_drive.specs.declared.files.ScanFile.{ScanFile}
 use Rattle.scan_manifest.specs.declared.manifest.FileSpec.{FileSpec}
 use Rattle.scan_run.specs.Run.{given_by, store_of}
 

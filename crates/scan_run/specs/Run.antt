@@ -8,11 +8,10 @@ use Rattle.scan_segments.specs.Source.{Store}
 use Rattle.scan_values.specs.DataType.{DataType}
 use Rattle.scan_values.specs.Val.{Val}
 use Rattle.scan_expr.specs.Infer.{infer}
-use Rattle.scan_multi.specs.Opener.{Given, skip, layout_of}
+use Rattle.scan_opener.specs.Opener.{Given, skip, layout_of}
 use Rattle.scan_multi.specs.Answer.{Item, ToldFile, answer}
 use Rattle.scan_multi.specs.Output.{ChunkData, Admits, given}
 use Rattle.scan_multi.specs.Request.{first_request_fault}
-use Rattle.scan_multi.specs.Served.{is_built}
 use Rattle.scan_segments.specs.Script.{has_number}
 use Rattle.scan_multi.specs.Checks.{IsRead, IsOfOtherType, IsIllFormed, EndsPast, rows_in}
 use Rattle.scan_multi.specs.Damaged.{IsDamaged}
@@ -72,14 +71,10 @@ pub record IsDone (input input' : InputState) (output output' : OutputState) : T
   pub scanned : IsScanned manifest chunks
   pub written : output'.written ≡ option_map (λ before. before ++ printed manifest chunks) output.written
 
--- a manifest whose scan is not served
-abbrev pub IsUnserved : Manifest → Type 0
-IsUnserved m = is_built m.workers (length m.files) m.dtype m.request ≡ false
-
--- the input was read to its end, and is no manifest, or one whose scan is not served
+-- the input was read to its end, and is no manifest
 pub record IsRefused (input input' : InputState) : Type 0 where
   pub read : WasRead input input'
-  pub is : IfSome input.left (λ bytes. (m : Manifest) → IsManifest bytes m → IsUnserved m)
+  pub is : IfSome input.left (λ bytes. (m : Manifest) → ¬ IsManifest bytes m)
 
 -- the input was read to its end, and is a manifest with this fact
 pub record IsFound (input input' : InputState) (P : Manifest → Type 0) : Type 0 where

@@ -5,13 +5,13 @@ use Rattle.scan_multi.specs.declared.scan.fault.RangeFault.TheVariants.{Reversed
 use Rattle.scan_multi.specs.declared.scan.fault.ScanFault.{ScanFault}
 use Rattle.scan_multi.specs.declared.scan.fault.ScanFault.TheVariants as fault
 use Rattle.scan_run.specs.declared.run.Stop.{Stop}
-use Rattle.scan_run.specs.declared.run.Stop.TheVariants.{Unserved, Unbound, Unreadable, Failed, NoMemory}
+use Rattle.scan_run.specs.declared.run.Stop.TheVariants.{Unbound, Unreadable, Failed, NoMemory}
 use Rattle.scan_manifest.specs.declared.manifest.Manifest.{Manifest}
 use Rattle.scan_run.specs.Io.{InputState, OutputState, WasRead}
 use Rattle.scan_segments.specs.Faults.{Rose}
 use Rattle.scan_run.specs.ReadAll.{GaveAll, TookMore}
 use Rattle.scan_manifest.specs.Manifest.{IsManifest}
-use Rattle.scan_run.specs.Run.{IsScanned, printed, IsUnserved, IsRefused, IsUnbound, IsUnreadable, IsFailing, WroteNone}
+use Rattle.scan_run.specs.Run.{IsScanned, printed, IsRefused, IsUnbound, IsUnreadable, IsFailing, WroteNone}
 
 abbrev pub stop_of : ScanFault → Stop
 stop_of fault.NoMemory = NoMemory
@@ -27,10 +27,8 @@ stop_of (fault.Corrupt file segment) = Unreadable
 stop_of (fault.TooManyRows file) = Unreadable
 stop_of fault.Concurrency = Unbound
 stop_of (fault.Overflow file) = Unreadable
-stop_of fault.NotBuilt = Unserved
 
 abbrev pub status_of : Stop → ℕ
-status_of Unserved = 2
 status_of Unbound = 3
 status_of Unreadable = 4
 status_of Failed = 5
@@ -38,7 +36,6 @@ status_of NoMemory = 7
 
 -- the reason is one that the manifest shows
 abbrev pub IsStop : Manifest → Stop → Type 0
-IsStop m Unserved = IsUnserved m
 IsStop m Unbound = IsUnbound m
 IsStop m Unreadable = IsUnreadable m
 IsStop m Failed = IsFailing m

@@ -3,12 +3,12 @@ ghost use Rattle.std.specs.Prelude.{◌≡◌, ◌≢◌, ◌⊎◌, ◌↔◌, 
 ghost use Rattle.scan_segments.specs.Faults.{Rose};
 ghost use Rattle.scan_segments.specs.Cache.{empty_cache};
 ghost use Rattle.scan_segments.specs.Bounded.{bounded, keyed_state};
-ghost use Rattle.scan_multi.specs.Opener.{skip, layout_of};
-ghost use Rattle.scan_multi.specs.OpenerMemory.{given_of};
+ghost use Rattle.scan_opener.specs.Opener.{skip, layout_of};
+ghost use Rattle.scan_opener.specs.OpenerMemory.{given_of};
 ghost use Rattle.scan_multi.specs.Output.{ChunkData};
 ghost use Rattle.scan_multi.specs.declared.scan.fault.ScanFault.TheVariants as fault;
 ghost use Rattle.scan_run.specs.ReadAll.{TookMore};
-ghost use Rattle.scan_run.specs.Run.{is_scan_words, IsScanned, printed, IsDone, IsUnserved, IsRefused, IsFound, IsUnbound, IsUnreadable, IsFailing, WroteNone};
+ghost use Rattle.scan_run.specs.Run.{is_scan_words, IsScanned, printed, IsDone, IsRefused, IsFound, IsUnbound, IsUnreadable, IsFailing, WroteNone};
 ghost use Rattle.scan_run.specs.Printed.{chunks_lines};
 ghost use Rattle.scan_run.specs.Stops.{stop_of, status_of, IsStop, IsTextOf, WroteFrontOfLines, IsGiven, Halts, IsReady, Ends};
 ghost use Rattle.scan_run.specs.FileOf.{IsFileOf, AreFilesOf, AreReady};
@@ -79,7 +79,6 @@ fn make_file(
 /// Why a run stops before it prints.
 #[derive(Clone, Copy, Debug, PartialEq, Eq)]
 enum Stop {
-    Unserved,
     Unbound,
     Unreadable,
     Failed,
@@ -109,7 +108,6 @@ fn stop_of(e: ScanFault) -> Stop
         ScanFault::TooManyRows { file: _ } => Stop::Unreadable,
         ScanFault::Concurrency => Stop::Unbound,
         ScanFault::Overflow { file: _ } => Stop::Unreadable,
-        ScanFault::NotBuilt => Stop::Unserved,
     }
 }
 
@@ -117,7 +115,6 @@ fn status_of(stop: Stop) -> u8
     ensures { result ≡ status_of stop }
 {
     match stop {
-        Stop::Unserved => 2,
         Stop::Unbound => 3,
         Stop::Unreadable => 4,
         Stop::Failed => 5,
@@ -299,7 +296,7 @@ fn take_text<R: Threads + Sync, I: Input, G: Gate>(
 
 /// The program: it reads a manifest from the input, scans its files, and writes a line for each row to the output.
 /// The words are those after the program's name; `scan` alone is served. The answer is the exit status:
-/// 0 the lines were written, 1 other words, 2 the input is no manifest that is served, 3 the request does not bind,
+/// 0 the lines were written, 1 other words, 2 the input is no manifest, 3 the request does not bind,
 /// 4 a file's layout is of another dtype or not well-formed, a segment is missing or damaged, or an expression overflows,
 /// 5 an opener or a source failed, 6 the input or the output failed or the input has more than 67,108,864 bytes, 7 want
 /// of memory. Whatever the status, reading stops once more than 67,108,864 bytes were read.

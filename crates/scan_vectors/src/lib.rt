@@ -6,6 +6,10 @@ mod edges;
 #[cfg(test)]
 mod manifest;
 #[cfg(test)]
+mod many;
+#[cfg(test)]
 mod program;
+#[cfg(test)]
+mod rows;
 #[cfg(test)]
 mod scan;

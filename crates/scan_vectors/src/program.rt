@@ -120,7 +120,7 @@ fn outcome<R: Threads + Sync>(
 }
 
 // The same on the word `scan`, where no read and no write fails.
-fn scanned<R: Threads + Sync>(
+pub(crate) fn scanned<R: Threads + Sync>(
     rt: &R,
     alloc: Global,
     text: &str,
@@ -149,6 +149,7 @@ fn a_manifest_gives_its_lines(rt: HostRuntime) -> Result<(), Fail> {
             PACKED_TRUTHS,
             "{\"file\":0,\"row\":0,\"value\":{\"t\":true}}\n{\"file\":0,\"row\":1,\"value\":{\"t\":false}}\n",
         ),
+        (TWO_WORKERS, "{\"file\":0,\"row\":0,\"value\":{\"a\":1}}\n"),
         (PENDING, "{\"file\":0,\"row\":0,\"value\":{\"a\":42}}\n"),
         (
             ESCAPED,
@@ -170,7 +171,6 @@ fn a_manifest_that_is_refused_writes_nothing(rt: HostRuntime) -> Result<(), Fail
     let rows = [
         ("", 2),
         ("{\"dtype\":", 2),
-        (TWO_WORKERS, 2),
         (TWO_CONTENTS, 2),
         (REPEATED_SEGMENT, 2),
         (MISSING_FIELD, 3),

@@ -27,7 +27,7 @@ fn names(alloc: Global, texts: &[&str]) -> Result<Vec<FieldName>, Fail> {
     Ok(names)
 }
 
-fn number() -> DType {
+pub(crate) fn number() -> DType {
     DType::primitive(PType::I32, Nullability::NonNullable)
 }
 
@@ -48,7 +48,7 @@ fn columns(alloc: Global, first: DType) -> Result<DType, Fail> {
 }
 
 /// A struct of two columns a and b of i32.
-fn table(alloc: Global) -> Result<DType, Fail> {
+pub(crate) fn table(alloc: Global) -> Result<DType, Fail> {
     columns(alloc, number())
 }
 
@@ -64,14 +64,14 @@ fn flagged(alloc: Global) -> Result<DType, Fail> {
 }
 
 /// A leaf of one segment.
-fn leaf(alloc: Global, dtype: DType, id: u32, rows: u64) -> Result<LayoutRef, Fail> {
+pub(crate) fn leaf(alloc: Global, dtype: DType, id: u32, rows: u64) -> Result<LayoutRef, Fail> {
     let mut segments = Vec::new(alloc);
     segments.push((SegmentId::from(id), rows))?;
     Ok(LayoutNode::leaf(alloc, dtype, segments)?)
 }
 
 /// Three rows of a and b, where these are their leaves.
-fn table_of(
+pub(crate) fn table_of(
     alloc: Global,
     dtype: DType,
     first: LayoutRef,
@@ -91,7 +91,7 @@ fn table_with(alloc: Global, second: u32) -> Result<LayoutRef, Fail> {
 }
 
 /// Three rows of a and b, in the segments 0 and 1.
-fn table_layout(alloc: Global) -> Result<LayoutRef, Fail> {
+pub(crate) fn table_layout(alloc: Global) -> Result<LayoutRef, Fail> {
     table_with(alloc, 1)
 }
 
@@ -105,16 +105,16 @@ fn flagged_layout(alloc: Global, spelling: Spelling) -> Result<LayoutRef, Fail> 
     Ok(LayoutNode::from_parts(alloc, flagged(alloc)?, 2, LayoutKind::Struct, leaves)?)
 }
 
-fn bytes(alloc: Global, items: &[u8]) -> Result<ByteBuffer, Fail> {
+pub(crate) fn bytes(alloc: Global, items: &[u8]) -> Result<ByteBuffer, Fail> {
     Ok(ByteBuffer::new(alloc, Vec::from_slice(alloc, items)?)?)
 }
 
-fn sorted(alloc: Global, numbers: &[u64]) -> Result<StrictSorted, Fail> {
+pub(crate) fn sorted(alloc: Global, numbers: &[u64]) -> Result<StrictSorted, Fail> {
     Ok(StrictSorted::try_new(Vec::from_slice(alloc, numbers)?)?)
 }
 
 /// A source of the segments 0 and 1, whose polls of these numbers fail.
-fn source(alloc: Global, zero: &[u8], failing: &[u64]) -> Result<MemorySource, Fail>
+pub(crate) fn source(alloc: Global, zero: &[u8], failing: &[u64]) -> Result<MemorySource, Fail>
     ensures { IfOk result (λ s. (source_state s).live ≡ none_live) }
 {
     let mut segments = BTreeMap::new(alloc);
@@ -129,13 +129,17 @@ fn source(alloc: Global, zero: &[u8], failing: &[u64]) -> Result<MemorySource, F
 }
 
 /// An opener of a layout, whose polls of these numbers fail.
-fn opener(alloc: Global, layout: LayoutRef, failing: &[u64]) -> Result<MemoryOpener, Fail> {
+pub(crate) fn opener(
+    alloc: Global,
+    layout: LayoutRef,
+    failing: &[u64],
+) -> Result<MemoryOpener, Fail> {
     let failing = sorted(alloc, failing)?;
     let pending = sorted(alloc, &[])?;
     Ok(MemoryOpener::new(Some(layout), failing, pending))
 }
 
-fn source_name(alloc: Global, text: &str) -> Result<SegmentSourceId, Fail> {
+pub(crate) fn source_name(alloc: Global, text: &str) -> Result<SegmentSourceId, Fail> {
     Ok(SegmentSourceId::new(alloc, String::from_str(alloc, text)?)?)
 }
 
@@ -158,7 +162,7 @@ fn file<O: LayoutReaderFactory + Drop>(
 }
 
 /// Scans a file for some fields, or for all where none is named, through a cache.
-fn scan_through<R: Threads + Sync, O: LayoutReaderFactory, C: KeyedSegmentCache>(
+fn scan_through<R: Threads + Sync, O: LayoutReaderFactory + Drop, C: KeyedSegmentCache>(
     rt: &R,
     alloc: Global,
     dtype: &DType,
@@ -174,7 +178,7 @@ fn scan_through<R: Threads + Sync, O: LayoutReaderFactory, C: KeyedSegmentCache>
 }
 
 /// Scans a file for some fields, or for all where none is named, without a cache.
-fn scan<R: Threads + Sync, O: LayoutReaderFactory>(
+fn scan<R: Threads + Sync, O: LayoutReaderFactory + Drop>(
     rt: &R,
     alloc: Global,
     dtype: &DType,
@@ -250,7 +254,7 @@ fn is_true_false(chunks: &[ScanChunk]) -> bool {
     }
 }
 
-fn counts(wants: u64, hits: u64, shared: u64, asks: u64) -> ScanReport {
+pub(crate) fn counts(wants: u64, hits: u64, shared: u64, asks: u64) -> ScanReport {
     ScanReport {
         wants,
         hits,
@@ -260,7 +264,7 @@ fn counts(wants: u64, hits: u64, shared: u64, asks: u64) -> ScanReport {
 }
 
 // The column a, whole, and without its last byte.
-const A: [u8; 12] = [1, 0, 0, 0, 2, 0, 0, 0, 3, 0, 0, 0];
+pub(crate) const A: [u8; 12] = [1, 0, 0, 0, 2, 0, 0, 0, 3, 0, 0, 0];
 
 #[test]
 fn one_column_is_read_and_no_other(rt: HostRuntime) -> Result<(), Fail> {
@@ -335,8 +339,8 @@ fn a_request_is_refused_by_name(rt: HostRuntime) -> Result<(), Fail> {
     let alloc = rt.alloc();
     let missing = fault_of(&rt, alloc, &A, (&[0], &[0]), "z", 1)?;
     assert!(rt; missing == Some(ScanFault::Bind(BindFault::NoField)));
-    let workers = fault_of(&rt, alloc, &A, (&[0], &[0]), "z", 2)?;
-    assert!(rt; workers == Some(ScanFault::NotBuilt));
+    let workers = fault_of(&rt, alloc, &A, (&[0], &[0]), "z", 0)?;
+    assert!(rt; workers == Some(ScanFault::Concurrency));
     Ok(())
 }
 
@@ -363,7 +367,7 @@ fn a_segment_cut_by_a_byte_is_corrupt(rt: HostRuntime) -> Result<(), Fail> {
 }
 
 /// The row count of what an opener gives.
-fn rows_opened<O: LayoutReaderFactory>(alloc: Global, opener: &mut O) -> Option<u64> {
+fn rows_opened<O: LayoutReaderFactory + Drop>(alloc: Global, opener: &mut O) -> Option<u64> {
     match opener.poll_open(alloc) {
         Opening::Opened(layout) => Some(layout.row_count()),
         _ => None,
@@ -510,13 +514,13 @@ fn a_cache_that_fails_changes_no_row(rt: HostRuntime) -> Result<(), Fail> {
 }
 
 #[test]
-fn a_segment_that_is_wanted_twice_is_asked_once(rt: HostRuntime) -> Result<(), Fail> {
+fn a_segment_under_two_leaves_is_wanted_once(rt: HostRuntime) -> Result<(), Fail> {
     let alloc = rt.alloc();
     let opener = opener(alloc, table_with(alloc, 0)?, &[])?;
     let mut files = file(alloc, opener, source(alloc, &A, &[])?)?;
     let dtype = table(alloc)?;
     let output = scan(&rt, alloc, &dtype, &mut files, Expression::root(), 1)?;
-    assert_eq!(rt; output.report, counts(2, 0, 1, 1));
+    assert_eq!(rt; output.report, counts(1, 0, 0, 1));
     assert_eq!(rt; asked(&files), [SegmentId::from(0)].as_slice());
     Ok(())
 }

@@ -1,4 +1,4 @@
-use Rattle.std.proofs.Common.{◌≡◌, ◌⊎◌, sym, ap, subst, rules, false, length, inl, inr, Err}
+use Rattle.std.proofs.Common.{sym, subst, rules}
 use Rattle.scan_segments.specs.Cache.{CacheState, empty_cache}
 use Rattle.scan_segments.specs.MemorySource.{source_state}
 use Rattle.scan_segments.specs.declared.segment.SegmentKey.{SegmentKey}
@@ -6,8 +6,6 @@ use Rattle.scan_multi.specs.Answer.{answer}
 use Rattle.scan_multi.specs.Causes.{HasCause}
 use Rattle.scan_multi.specs.Lawful.{IsLawful, told}
 use Rattle.scan_multi.specs.Output.{Admits}
-use Rattle.scan_multi.specs.Served.{is_built}
-use Rattle.scan_multi.specs.declared.scan.fault.ScanFault.TheVariants as fault
 use Rattle.scan_manifest.specs.declared.manifest.Manifest.{Manifest}
 use Rattle.scan_run.specs.declared.run.Stop.{Stop}
 use Rattle.scan_run.specs.AskedOf.{IsAsked}
@@ -31,6 +29,4 @@ returns-clause-stop g c =
     let e = c.in-Err-scan_files.e in
     let P : Stop → Type 0 = λ s. (m : Manifest) → IsAsked m a → AreFilesOf m.files c.args.made.items → IsStop m s in
     let Q : CacheState SegmentKey → Type 0 = λ z. HasCause memory_opener source_state a.workers a.dtype a.request z c.args.made.items c.scan_files.new.files.items e in
-    let un : e ≡ fault.NotBuilt → is_built a.workers (length c.args.made.items) a.dtype a.request ≡ false = λ is. c.in-Err-scan_files.ensures.unbuilt.0 (ap Err is) in
-    let why : (e ≡ fault.NotBuilt) ⊎ Q empty_cache = elim c.in-Err-scan_files.ensures.err [ inl is ↦ inl is | inr r ↦ inr (subst Q c.in-Ok.ensures.empty r.cause) ] in
-    subst P (sym c.stop_of.ensures) (asked_stopped a c.args.made.items c.requires c.scan_files.new.files.items e un why)
+    subst P (sym c.stop_of.ensures) (asked_stopped a c.args.made.items c.requires c.scan_files.new.files.items e (subst Q c.in-Ok.ensures.empty c.in-Err-scan_files.ensures.err.cause))
