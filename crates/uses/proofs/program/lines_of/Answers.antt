@@ -1,0 +1,23 @@
+use Rattle.std.proofs.Common.{◌≡◌, ap, arith, rules}
+use Rattle.uses.proofs.Concluding.{code_of, lines-are, is-none}
+use Rattle.uses.proofs.program.lines_of.Goals as goal
+
+pub returns-in_default-clause-refused : goal.returns-in_default-clause-refused
+returns-in_default-clause-refused g c e m i = let n = ap code_of e in absurd (omega (arith, n))
+
+pub returns-then-status-eq0-clause-lines : goal.returns-then-status-eq0-clause-lines
+returns-then-status-eq0-clause-lines g c =
+    let input = c.new-input.result in
+    let output = c.new-output.result in
+    let now = c.run-status.new.output in
+    let zero : c.run-status.result ≡ 0 = search rules in
+    lines-are c.args.manifest.items input.bytes.items output.bytes.items now.bytes.items input.at input.taken input.ends input.faults output.faults output.short now.faults now.short _
+    c.new-input.ensures.bytes c.new-output.ensures.bytes (c.run-status.ensures.done zero)
+
+pub returns-then-status-eq0-clause-refused : goal.returns-then-status-eq0-clause-refused
+returns-then-status-eq0-clause-refused g c e m i = let n = ap code_of e in absurd (omega (arith, n))
+
+pub returns-clause-refused : goal.returns-clause-refused
+returns-clause-refused g c e m i =
+    let input = c.new-input.result in
+    is-none c.args.manifest.items input.bytes.items input.at input.taken input.ends input.faults _ c.new-input.ensures.bytes (c.run-status.ensures.refused (ap code_of e)) m i

@@ -1,0 +1,12 @@
+//! Numbers of calls.
+ghost use Rattle.std.specs.Prelude.{◌≡◌, []};
+
+use scan_values::StrictSorted;
+use std::alloc::Global;
+
+/// No numbers of calls: nothing fails by a script.
+pub(crate) fn never(alloc: Global) -> StrictSorted
+    ensures { result ≡ [] }
+{
+    StrictSorted::try_new(Vec::new(alloc)).unwrap()
+}

@@ -1,0 +1,45 @@
+//! A writer of lines.
+ghost use Rattle.std.specs.Prelude.{◌≡◌, IfOk, Err};
+ghost use Rattle.scan_manifest.specs.declared.manifest.Manifest.{Manifest};
+ghost use Rattle.scan_manifest.specs.Manifest.{IsManifest};
+ghost use Rattle.uses.specs.Uses.{AreLinesOf};
+
+use crate::never::never;
+use scan_run::run::run;
+use scan_run::{MemoryInput, MemoryOutput, NoGate};
+use scan_values::NoMemory;
+use std::alloc::Global;
+use std::thread::Threads;
+
+/// The words with which the program is called.
+fn scan_words(alloc: Global) -> Result<Vec<String>, NoMemory> {
+    let mut words = Vec::new(alloc);
+    words.push(String::from_str(alloc, "scan")?)?;
+    Ok(words)
+}
+
+/// The lines that the program writes for the bytes of a manifest, or its status. Lines are those of an output that the
+/// manifest admits; a status of 2 means that the bytes are no manifest.
+#[tactic(none)]
+pub fn lines_of<R: Threads + Sync>(rt: &R, alloc: Global, manifest: Vec<u8>) -> Result<Vec<u8>, u8>
+    ensures lines { IfOk result (λ lines. AreLinesOf manifest.items lines.items) }
+    ensures refused { result ≡ Err 2 → (m : Manifest) → ¬ IsManifest manifest.items m }
+{
+    let Ok(words) = scan_words(alloc) else {
+        return Err(7);
+    };
+    let mut input = MemoryInput::new(alloc, manifest, never(alloc));
+    let mut output = MemoryOutput::new(alloc, never(alloc));
+    let status = run(
+        rt,
+        alloc,
+        words.as_slice(),
+        &mut input,
+        &mut output,
+        &NoGate::new(),
+    );
+    if status == 0 {
+        return Ok(output.bytes);
+    }
+    Err(status)
+}
