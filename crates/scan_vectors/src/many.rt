@@ -42,14 +42,27 @@ fn copy(alloc: Global) -> Result<ScanFile<MemoryOpener, MemorySource>, Fail>
     file_of(alloc, table_layout(alloc)?, source(alloc, &A, &[])?)
 }
 
+/// Such a file more.
+fn add_copy(
+    alloc: Global,
+    files: &mut Vec<ScanFile<MemoryOpener, MemorySource>>,
+) -> Result<(), Fail>
+    requires { All (λ f. (source_state f.source).live ≡ none_live) files.old.items }
+    ensures { IfOk result (λ _. All (λ f. (source_state f.source).live ≡ none_live) files.new.items) }
+{
+    let file = copy(alloc)?;
+    files.push(file)?;
+    Ok(())
+}
+
 /// Three such files.
 fn three(alloc: Global) -> Result<Vec<ScanFile<MemoryOpener, MemorySource>>, Fail>
     ensures { IfOk result (λ files. All (λ f. (source_state f.source).live ≡ none_live) files.items) }
 {
     let mut files = Vec::new(alloc);
-    files.push(copy(alloc)?)?;
-    files.push(copy(alloc)?)?;
-    files.push(copy(alloc)?)?;
+    add_copy(alloc, &mut files)?;
+    add_copy(alloc, &mut files)?;
+    add_copy(alloc, &mut files)?;
     Ok(files)
 }
 

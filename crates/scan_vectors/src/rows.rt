@@ -4,7 +4,7 @@ use crate::program::scanned;
 use std::test::Fail;
 
 // What a row shows, its manifest, the status of its run, and what is written.
-const ROWS: [(&str, &str, u8, &str); 39] = [
+const ROWS: [(&str, &str, u8, &str); 41] = [
     (
         "one field of two",
         r##"{"dtype":{"struct":[["a","i32"],["b","i32"]]},"files":[{"id":"A","layout":{"struct":[{"leaf":[[0,3]],"rows":3},{"leaf":[[1,3]],"rows":3}],"rows":3},"segments":[[0,"010000000200000003000000"]]}],"request":{"projection":{"select":[["a"],"$"]}}}"##,
@@ -210,10 +210,22 @@ const ROWS: [(&str, &str, u8, &str); 39] = [
         "",
     ),
     (
-        "a sum that overflows behind the limit",
+        "a sum that overflows outside the range",
         r##"{"dtype":{"struct":[["a","i32"],["b","i32"]]},"files":[{"id":"A","layout":{"struct":[{"leaf":[[0,3]],"rows":3},{"leaf":[[1,3]],"rows":3}],"rows":3},"segments":[[0,"010000000200000003000000"],[1,"0a000000140000001e000000"]]}],"request":{"projection":{"add":[{"get":["a","$"]},{"lit":2147483646,"type":"i32"}]},"limit":1,"range":[0,1]}}"##,
         0,
         "{\"file\":0,\"row\":0,\"value\":2147483647}\n",
+    ),
+    (
+        "a segment that lacks behind the limit, in the same file",
+        r##"{"dtype":{"struct":[["a","i32"],["b","i32"]]},"files":[{"id":"A","layout":{"struct":[{"leaf":[[0,3]],"rows":3},{"leaf":[[1,2],[2,1]],"rows":3}],"rows":3},"segments":[[0,"010000000200000003000000"],[1,"0a00000014000000"]]}],"request":{"projection":"$","limit":2}}"##,
+        0,
+        "{\"file\":0,\"row\":0,\"value\":{\"a\":1,\"b\":10}}\n{\"file\":0,\"row\":1,\"value\":{\"a\":2,\"b\":20}}\n",
+    ),
+    (
+        "a segment that lacks within the limit",
+        r##"{"dtype":{"struct":[["a","i32"],["b","i32"]]},"files":[{"id":"A","layout":{"struct":[{"leaf":[[0,3]],"rows":3},{"leaf":[[1,2],[2,1]],"rows":3}],"rows":3},"segments":[[0,"010000000200000003000000"],[1,"0a00000014000000"]]}],"request":{"projection":"$","limit":3}}"##,
+        4,
+        "",
     ),
     (
         "a fault behind the limit is not told",
