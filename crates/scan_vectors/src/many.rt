@@ -3,10 +3,7 @@ ghost use Rattle.std.specs.Prelude.{◌≡◌, All, IfOk};
 ghost use Rattle.scan_segments.specs.Source.{none_live};
 ghost use Rattle.scan_segments.specs.MemorySource.{source_state};
 
-use crate::scan::{
-    A, bytes, counts, leaf, number, opener, sorted, source, source_name, table, table_layout,
-    table_of,
-};
+use crate::scan::{A, bytes, counts, leaf, number, opener, sorted, source_name, table, table_of};
 use scan_expr::{Expression, ScanRequest};
 use scan_layout::{LayoutNode, LayoutRef};
 use scan_multi::{MemoryOpener, NoGate, ScanChunk, ScanFault, ScanFile, ScanOutput, scan_files};
@@ -33,37 +30,6 @@ fn file_of(
         source,
         source_id,
     })
-}
-
-/// A file of three rows, in a segment a column.
-fn copy(alloc: Global) -> Result<ScanFile<MemoryOpener, MemorySource>, Fail>
-    ensures { IfOk result (λ f. (source_state f.source).live ≡ none_live) }
-{
-    file_of(alloc, table_layout(alloc)?, source(alloc, &A, &[])?)
-}
-
-/// Such a file more.
-fn add_copy(
-    alloc: Global,
-    files: &mut Vec<ScanFile<MemoryOpener, MemorySource>>,
-) -> Result<(), Fail>
-    requires { All (λ f. (source_state f.source).live ≡ none_live) files.old.items }
-    ensures { IfOk result (λ _. All (λ f. (source_state f.source).live ≡ none_live) files.new.items) }
-{
-    let file = copy(alloc)?;
-    files.push(file)?;
-    Ok(())
-}
-
-/// Three such files.
-fn three(alloc: Global) -> Result<Vec<ScanFile<MemoryOpener, MemorySource>>, Fail>
-    ensures { IfOk result (λ files. All (λ f. (source_state f.source).live ≡ none_live) files.items) }
-{
-    let mut files = Vec::new(alloc);
-    add_copy(alloc, &mut files)?;
-    add_copy(alloc, &mut files)?;
-    add_copy(alloc, &mut files)?;
-    Ok(files)
 }
 
 /// A file of three rows whose second column is in two segments.
@@ -126,43 +92,6 @@ fn is_of(chunk: &ScanChunk, file: usize, rows: &[u64]) -> bool {
 }
 
 #[test]
-fn a_limit_leaves_the_openers_of_later_files_alone(rt: HostRuntime) -> Result<(), Fail> {
-    let alloc = rt.alloc();
-    let mut files = three(alloc)?;
-    let mut cache = new_cache(alloc)?;
-    let output = scan_rows(&rt, alloc, &mut files, &mut cache, 1, Some(4))??;
-    let [first, second] = output.chunks.as_slice() else {
-        return Err(Fail::from("chunks"));
-    };
-    assert!(rt; is_of(first, 0, &[0, 1, 2]) && is_of(second, 1, &[0]));
-    assert_eq!(rt; files[2].opener.polled(), 0);
-    Ok(())
-}
-
-#[test]
-fn a_limit_of_nothing_polls_no_opener(rt: HostRuntime) -> Result<(), Fail> {
-    let alloc = rt.alloc();
-    let mut files = three(alloc)?;
-    let mut cache = new_cache(alloc)?;
-    let output = scan_rows(&rt, alloc, &mut files, &mut cache, 1, Some(0))??;
-    assert!(rt; output.chunks.is_empty() && files[0].opener.polled() == 0);
-    Ok(())
-}
-
-#[test]
-fn files_of_one_source_name_ask_once(rt: HostRuntime) -> Result<(), Fail> {
-    let alloc = rt.alloc();
-    let mut files = three(alloc)?;
-    files.pop();
-    let mut cache = new_cache(alloc)?;
-    let output = scan_rows(&rt, alloc, &mut files, &mut cache, 1, None)??;
-    assert_eq!(rt; output.report, counts(4, 2, 0, 2));
-    assert_eq!(rt; files[0].source.asked().len(), 2);
-    assert_eq!(rt; files[1].source.asked().len(), 0);
-    Ok(())
-}
-
-#[test]
 fn splits_share_a_segment_and_the_next_scan_finds_all_in_the_cache(
     rt: HostRuntime,
 ) -> Result<(), Fail> {
@@ -177,21 +106,5 @@ fn splits_share_a_segment_and_the_next_scan_finds_all_in_the_cache(
     assert_eq!(rt; output.report, counts(4, 0, 1, 3));
     let again = scan_rows(&rt, alloc, &mut files, &mut cache, 2, None)??;
     assert_eq!(rt; again.report, counts(4, 4, 0, 0));
-    Ok(())
-}
-
-#[test]
-fn workers_change_no_chunk(rt: HostRuntime) -> Result<(), Fail> {
-    let alloc = rt.alloc();
-    for workers in [1, 2, 4] {
-        let mut files = three(alloc)?;
-        let mut cache = new_cache(alloc)?;
-        let output = scan_rows(&rt, alloc, &mut files, &mut cache, workers, Some(7))??;
-        let [first, second, third] = output.chunks.as_slice() else {
-            return Err(Fail::from("chunks"));
-        };
-        assert!(rt; is_of(first, 0, &[0, 1, 2]) && is_of(second, 1, &[0, 1, 2]));
-        assert!(rt; is_of(third, 2, &[0]));
-    }
     Ok(())
 }
