@@ -100,27 +100,6 @@ module _ {O S W I R F : Type 0} (state : O → OpenerState I) (polls : O → O �
         stops = λ h w. subst (λ (ts : List (Told I)). Stops split comes items ts s.mid d2 x) t (s.stops (sound_now P a b desks c 0 d0 d1 m g h w));
       }
 
-  pub goes_less : (n : ℕ) (a b : List (ScanFile O S)) (desks : List Waiters) (c : Cache) (d e : Drive W R F) → GoesOn state polls refuses source split comes items n a b desks c d e → GoesOn state polls refuses source split comes items 0 a b desks c d e
-  goes_less n a b desks c d e g = record { stands = g.stands; links = g.links; limit = g.limit; opened = (let x = g.opened in omega (arith, x)); why = g.why; sound = g.sound; order = g.order; polled = g.polled }
-
-  pub moves_wait : (a b e : List (ScanFile O S)) (desks : List Waiters) (c c' : Cache) (d0 d1 : Drive W R F) → EachMoves state polls source (Agrees a c d0) a b → FilesTrade source a b c c'
-      → GoesOn state polls refuses source split comes items 0 a b desks c d0 d1 → EachMoves state polls source (Agrees b c' d1) b e → EachMoves state polls source (Agrees a c d0) a e
-  moves_wait a b e desks c c' d0 d1 m t g k = each_then state polls source (Agrees a c d0) a b e m (each_under state polls source (Agrees b c' d1) (Agrees a c d0) (λ h. (t.agrees h.0, sound_now (Agrees a c d0) a b desks c 0 d0 d1 m g h.0 h.1)) b e k)
-
-  pub stops_wait : (P Q : Type 0) (a b e : List (ScanFile O S)) (desks : List Waiters) (c c' : Cache) (d0 d1 d2 : Drive W R F) (x : RoundFault F) → EachMoves state polls source P a b
-      → EachMoves state polls source Q b e → FilesTrade source a b c c' → GoesOn state polls refuses source split comes items 0 a b desks c d0 d1
-      → StopsRun state polls refuses source split comes items b e c' d1 d2 x → StopsRun state polls refuses source split comes items a e c d0 d2 x
-  stops_wait P Q a b e desks c c' d0 d1 d2 x m k u g s =
-      let t = tells_stay state polls source P a b m in
-      record {
-        mid = s.mid;
-        limit = s.limit ∙ g.limit;
-        why = why_then P Q a b e d0.phases.items d1.phases.items s.mid.phases.items m k g.why s.why;
-        held = s.held;
-        sound = λ h w. subst (λ (ts : List (Told I)). Sound split comes items ts s.mid) t (s.sound (u.agrees h) (sound_now P a b desks c 0 d0 d1 m g h w));
-        stops = λ h w. subst (λ (ts : List (Told I)). Stops split comes items ts s.mid d2 x) t (s.stops (u.agrees h) (sound_now P a b desks c 0 d0 d1 m g h w));
-      }
-
   -- the same of a drive whose splits are in order
   pub order_now : (P : Type 0) (a b : List (ScanFile O S)) (desks : List Waiters) (c : Cache) (n : ℕ) (d e : Drive W R F) → EachMoves state polls source P a b → GoesOn state polls refuses source split comes items n a b desks c d e → CacheAgrees source a c →
       SoundInOrder split comes items (tells state source a) d → SoundInOrder split comes items (tells state source b) e
@@ -128,12 +107,13 @@ module _ {O S W I R F : Type 0} (state : O → OpenerState I) (polls : O → O �
 
   -- polls of openers, in rounds that follow others
   pub polls_none : (workers : ℕ) (P : Type 0) (a : List (ScanFile O S)) (d : Drive W R F) → PollsOn state items workers (limit_in split comes items d) (tells state source a) P d.phases.items a a
-  polls_none workers P a d = record { fit = λ start h. stand_fit state start a d.phases.items h; late = λ p start h. h }
+  polls_none workers P a d = record { grows = λ k f. omega arith; fit = λ start h. stand_fit state start a d.phases.items h; late = λ p start h. h }
 
   pub polls_then : (workers : ℕ) (P Q N : Type 0) (a b e : List (ScanFile O S)) (desks : List Waiters) (c : Cache) (d0 d1 : Drive W R F) → EachMoves state polls source N a b → GoesOn state polls refuses source split comes items 0 a b desks c d0 d1 → (P → Q) →
       PollsOn state items workers (limit_in split comes items d0) (tells state source a) P d0.phases.items a b → PollsOn state items workers (limit_in split comes items d1) (tells state source b) Q d1.phases.items b e → PollsOn state items workers (limit_in split comes items d0)
       (tells state source a) P d0.phases.items a e
   polls_then workers P Q N a b e desks c d0 d1 m g w p q = record {
+    grows = λ k f. (let x = p.grows k f in let y = q.grows k f in omega (arith, x, y));
     fit = λ start h. q.fit start (g.polled start h);
     late = λ h start l. r.late (w h) start (p.late h start l);
   }

@@ -194,10 +194,11 @@ module _ {O S : Type 0} (source : S → SourceState) where
 
 -- ---- where nothing is done
 module _ {O S R I : Type 0} (state : O → OpenerState I) (source : S → SourceState) (items : R → List I) where
-  pub polls_self : (limit : Option ℕ) (workers : ℕ) (c : Cache) (files : List (ScanFile O S)) → PollsEnd state source items limit workers c files files
-  polls_self limit workers c files = record {
+  pub polls_self : (limit : Option ℕ) (ordered : Bool) (workers : ℕ) (c : Cache) (files : List (ScanFile O S)) → PollsEnd state source items limit ordered workers c files files
+  polls_self limit ordered workers c files = record {
     grows = λ k f. omega arith;
     most = λ k f. omega arith;
     first = λ i j f l m h. absurd (omega arith);
-    late = λ law k f h. absurd (omega arith);
+    late = λ o law k f h. absurd (omega arith);
+    some = λ o law k f h. absurd (omega arith);
   }

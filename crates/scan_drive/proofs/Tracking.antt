@@ -4,15 +4,11 @@ use Rattle.std.specs.Prelude.{◌⊎◌, Option, Bool, true, false}
 use Rattle.std.proofs.lemmas.Bool.{cases_eq}
 use Rattle.std.proofs.lemmas.List.{get_or_default}
 use Rattle.scan_segments.specs.Faults.{Rose, RaisedBy}
-use Rattle.scan_segments.specs.Source.{SourceState}
-use Rattle.scan_drive.specs.Drivings.{GivesBefore, PollsEnd}
+use Rattle.scan_drive.specs.Drivings.{GivesBefore}
 use Rattle.scan_drive.specs.Files.{Told}
-use Rattle.scan_drive.specs.Moves.{tells}
 use Rattle.scan_drive.specs.Openers.{OpenerState, PolledOnce, as_number}
 use Rattle.scan_drive.specs.Phases.{phase_at, is_unopened, IsSpent, SpentBelow}
-use Rattle.scan_drive.specs.Polls.{IsPolledIn, StandsIn, OpenersRest, opener_at, PollsFirst, AllPolled, PollsStand, PollsFit, ArePolledLate, PollsOn}
-use Rattle.scan_drive.specs.Rounds.{IsLawful}
-use Rattle.scan_drive.specs.Wants.{Cache}
+use Rattle.scan_drive.specs.Polls.{IsPolledIn, StandsIn, OpenersRest, opener_at, PollsFirst, AllPolled, OpensFirst, PollsGrow, PollsStand, PollsFit, ArePolledLate, PollsOn}
 use Rattle.scan_drive.specs.declared.files.ScanFile.{ScanFile}
 use Rattle.scan_drive.specs.declared.phase.Phase.{Phase}
 use Rattle.scan_drive.specs.declared.phase.Phase.TheVariants as phase
@@ -109,6 +105,22 @@ module _ {O W I F : Type 0} (state : O → OpenerState I) where
           omega (arith, x, top)
 
 -- ---- the openers of files
+module _ {O S W F I : Type 0} (state : O → OpenerState I) where
+  -- no count of polls has fallen where one file more is polled
+  pub grows_set : (old now : List (ScanFile O S)) (i : ℕ) (x y : ScanFile O S) (p : Phase W F) → i < length now → x ≡ get_or now i x → IsPolledIn state p x.opener y.opener → PollsGrow state old now → PollsGrow state old (set now i y)
+  grows_set old now i x y p lt e h g k f = go (cases_eq k i)
+    where
+      go : (k ≡ i) ⊎ (k ≢ i) → (opener_at state old k f).polled ≤ (opener_at state (set now i y) k f).polled
+      go (inl same) =
+          let is : opener_at state (set now i y) k f ≡ state y.opener = ap (λ j. opener_at state (set now i y) j f) same ∙ ap (λ (z : ScanFile O S). state z.opener) (get_or-set_same now i y f lt) in
+          let was : opener_at state now k f ≡ state x.opener = ap (λ j. opener_at state now j f) same ∙ ap (λ (z : ScanFile O S). state z.opener) (sym (e ∙ get_or_default now i x f lt)) in
+          let a = g k f in
+          let b = (goes state p x.opener y.opener h).grows in
+          let u = ap (λ (s : OpenerState I). s.polled) is in
+          let v = ap (λ (s : OpenerState I). s.polled) was in
+          omega (arith, a, b, u, v)
+      go (inr ne) = subst (λ (s : OpenerState I). (opener_at state old k f).polled ≤ s.polled) (sym (ap (λ (z : ScanFile O S). state z.opener) (get_or-set_other now i k y f ne))) (g k f)
+
 module _ {O S I : Type 0} (state : O → OpenerState I) where
   -- no opener was polled
   pub fit_rest : (start old now : List (ScanFile O S)) → ((k : ℕ) (f : ScanFile O S) → (get_or now k f).opener ≡ (get_or old k f).opener) → PollsFit state start old → PollsFit state start now
@@ -135,6 +147,7 @@ module _ {O S W I F : Type 0} (state : O → OpenerState I) where
       rose = λ o. x.rose (sym (e k) ∙ o);
     });
     first = h.first;
+    opened = λ i j f lt has o. h.opened i j f lt has (sym (e j) ∙ o);
   }
 
   -- no opener was polled
@@ -142,6 +155,7 @@ module _ {O S W I F : Type 0} (state : O → OpenerState I) where
   stand_rest start old now ps e h = record {
     at = λ k f. subst (λ (o : O). StandsIn (phase_at ps k) (opener_at state start k f) (state o)) (sym (e k f)) (h.at k f);
     first = λ i j f lt has was. subst (λ (o : O). Rose (opener_at state start i f).polled (state o).polled) (sym (e i f)) (h.first i j f lt has (subst (λ (o : O). (opener_at state start j f).polled < (state o).polled) (e j f) was));
+    opened = λ i j f lt has is. subst (λ (o : O). Rose (opener_at state start i f).polled (state o).polled) (sym (e i f)) (h.opened i j f lt has is);
   }
 
   -- those of open files were polled
@@ -194,12 +208,20 @@ module _ {O S W I F : Type 0} (state : O → OpenerState I) where
     polled_set polled = at_place (λ k f s. k < i + 1 → Rose (opener_at state start k f).polled s.polled)
         (λ f l. rises state p (opener_at state start i f) x.opener y.opener (there f) h) (λ k f ne l. polled k f (omega (arith, ne, l)))
 
+    opened_set : AllPolled state i start now → OpensFirst state start (set now i y) (set ps i q)
+    opened_set polled k j f less has is = go (cases_eq j i)
+      where
+        go : (j ≡ i) ⊎ (j ≢ i) → Rose (opener_at state start k f).polled (opener_at state (set now i y) k f).polled
+        go (inl same) = rose_kept (opener_at state start k f).polled k f (polled k f (omega (arith, less, same)))
+        go (inr ne) = rose_kept (opener_at state start k f).polled k f (st.opened k j f less has (sym (ap is_unopened (get_or-set_other ps i j q phase.Unopened ne)) ∙ is))
+
     pub stand_set : (answered : Bool) → AllPolled state i start now → is_unopened q + as_number answered ≤ is_unopened p → (answered ≡ false → p ≡ phase.Unopened → (state y.opener).turns < (state x.opener).turns) → PollsStand state start (set now i y) (set ps i q)
     stand_set answered polled le fell = record {
       at = at_place (λ k f s. StandsIn (phase_at (set ps i q) k) (opener_at state start k f) s)
           (λ f. subst (λ (r : Phase W F). StandsIn r (opener_at state start i f) (state y.opener)) (sym (get_or-set_same ps i q phase.Unopened plt)) (stand_one state p q answered (opener_at state start i f) x.opener y.opener (there f) h le fell))
           (λ k f ne. subst (λ (r : Phase W F). StandsIn r (opener_at state start k f) (opener_at state now k f)) (sym (get_or-set_other ps i k q phase.Unopened ne)) (st.at k f));
       first = first_set polled;
+      opened = opened_set polled;
     }
 
 pub rest_set : {O S : Type 0} (first i : ℕ) (old now : List (ScanFile O S)) (y : ScanFile O S) → first ≤ i → OpenersRest first i old now → OpenersRest first (i + 1) old (set now i y)
@@ -247,6 +269,7 @@ module _ {O S I R : Type 0} (state : O → OpenerState I) (items : R → List I)
   pub on_rest : {W F : Type 0} (workers : ℕ) (limit : Option ℕ) (tale : List (Told I)) (P : Type 0) (ps : List (Phase W F)) (old mid new : List (ScanFile O S)) → ((k : ℕ) (f : ScanFile O S) → (get_or new k f).opener ≡ (get_or mid k f).opener) →
       PollsOn state items workers limit tale P ps old mid → PollsOn state items workers limit tale P ps old new
   on_rest workers limit tale P ps old mid new e h = record {
+    grows = λ k f. subst (λ (o : O). (opener_at state old k f).polled ≤ (state o).polled) (sym (e k f)) (h.grows k f);
     fit = λ start st. fit_rest state start mid new e (h.fit start st);
     late = λ p start l. late_rest workers limit tale start mid new e (h.late p start l);
   }
@@ -259,18 +282,5 @@ stand_first {F = F} state files ps shut = record {
     rose = λ o. (let e : is_unopened (phase_at ps k) ≡ 1 = ap is_unopened (shut k) in absurd (omega (arith, e, o)));
   };
   first = λ i j f lt has was. absurd (omega (arith, was));
+  opened = λ i j f lt has is. (let e : is_unopened (phase_at ps j) ≡ 1 = ap is_unopened (shut j) in absurd (omega (arith, e, is)));
 }
-
--- of all calls since no file was open
-pub polls_end : {O S W I R F : Type 0} (state : O → OpenerState I) (source : S → SourceState) (items : R → List I) (workers : ℕ) (limit : Option ℕ) (c : Cache) (P : Type 0) (ps : List (Phase W F)) (old new : List (ScanFile O S)) → ((k : ℕ) → phase_at ps k ≡ phase.Unopened) →
-    (IsLawful state source old c → P) →
-    PollsOn state items workers limit (tells state source old) P ps old new → PollsEnd state source items limit workers c old new
-polls_end state source items workers limit c P ps old new shut lawful on = record {
-  grows = fit.grows;
-  most = fit.most;
-  first = fit.first;
-  late = λ h. on.late (lawful h) old (late_first state items workers limit (tells state source old) old);
-}
-  where
-    fit : PollsFit state old new
-    fit = on.fit old (stand_first state old ps shut)

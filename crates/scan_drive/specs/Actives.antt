@@ -24,6 +24,7 @@ module _ {W R : Type 0} where
     pub within : (place : ℕ) → is_among (turns ++ free) place ≡ true → place < length slots
     pub empty : (place : ℕ) → is_among turns place ≡ false → (slot_at slots place).stage ≡ stage.Empty
 
+  -- its turns and its free places are such
   abbrev pub Seated : Active W R → Type 0
   Seated a = AreSeats a.turns.items a.free.items a.slots.items
 
@@ -88,6 +89,7 @@ module _ {W I R : Type 0} (split : W → SplitState I) (comes : W → Arrivals �
   abbrev pub EachOk : List (Told I) → List ℕ → List (Slot W R) → Type 0
   EachOk tale turns slots = (place : ℕ) → is_among turns place ≡ true → SlotOk tale (slot_at slots place)
 
+  -- so is each active split
   abbrev pub AllOk : List (Told I) → Active W R → Type 0
   AllOk tale a = EachOk tale a.turns.items a.slots.items
 

@@ -17,6 +17,7 @@ module _ {W R : Type 0} where
     pub live : (id place : ℕ) → (slot_at slots place).file ≡ file → is_among asking place ≡ false → stage_waits (slot_at slots place).stage id ≡ true → waits d id place ≡ true
     pub none : (id place : ℕ) → is_among asking place ≡ true → waits d id place ≡ false
 
+  -- so is each file
   abbrev pub EachLinkedBut : List ℕ → List Waiters → List (Slot W R) → Type 0
   EachLinkedBut asking desks slots = (k : ℕ) → k < length desks → LinkedBut asking k (desk_at desks k) slots
 

@@ -38,6 +38,7 @@ fault_of file halt.Overflow = fault.Overflow file
 fault_of file halt.NoMemory = fault.NoMemory
 
 module _ {I R : Type 0} (items : R → List I) where
+  -- the group that a chunk gives: none where it has no row
   abbrev pub chunk_groups : Chunk R → List (Group I)
   chunk_groups c = grouped c.file (items c.rows)
 
@@ -70,6 +71,7 @@ module _ {I R : Type 0} (items : R → List I) where
     pub within : most ≤ length rows
     pub groups : given chunks' ≡ given chunks ++ grouped file (take most rows)
 
+  -- what is given, by whether more may be
   abbrev pub Gives : ℕ → List I → List (Chunk R) → List (Chunk R) → Option ℕ → Option ℕ → Delivered → Type 0
   Gives file rows chunks chunks' left left' More = GivesAll file rows chunks chunks' left left'
   Gives file rows chunks chunks' left left' Full = GivesFirst file rows chunks chunks' left
@@ -99,6 +101,7 @@ module _ {W I R : Type 0} (split : W → SplitState I) (comes : W → Arrivals �
     pub counts : Counts items chunks chunks' left left'
     pub order : KeepsOrder old new
 
+  -- what a delivery does, by whether more may be given
   abbrev pub IsDelivered : Active W R → Active W R → List (Chunk R) → List (Chunk R) → Option ℕ → Option ℕ → Delivered → Type 0
   IsDelivered old new chunks chunks' left left' More = IsMore old new chunks chunks' left left'
   IsDelivered old new chunks chunks' left left' Full = IsCut old chunks chunks' left
@@ -108,6 +111,7 @@ module _ {W I R : Type 0} (split : W → SplitState I) (comes : W → Arrivals �
     pub turn : IsHalted file h new
     pub more : IsMore old new chunks chunks' left left'
 
+  -- why a delivery fails: a split is given up for this at its turn
   abbrev pub IsDeliverFault : Active W R → Active W R → List (Chunk R) → List (Chunk R) → Option ℕ → Option ℕ → DriveFault → Type 0
   IsDeliverFault old new chunks chunks' left left' fault.NoMemory = Unit {0}
   IsDeliverFault old new chunks chunks' left left' (fault.Source file id) = IsHeld file (halt.Source id) old new chunks chunks' left left'

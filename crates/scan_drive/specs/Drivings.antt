@@ -1,9 +1,10 @@
 -- What one call over all files does: which files were admitted, how late openers were polled, and why it stops.
-use Rattle.std.specs.Prelude.{◌≡◌, ◌≢◌, ◌<◌, ◌≤◌, ◌+◌, ◌-◌, ◌^◌, ◌++◌, ◌⊎◌, ℕ, true, List, [], Option, IfSome, IsSome, All, length, take, slice_index_or}
+use Rattle.std.specs.Prelude.{◌≡◌, ◌≢◌, ◌<◌, ◌≤◌, ◌+◌, ◌-◌, ◌^◌, ◌++◌, ◌⊎◌, ℕ, Bool, true, false, List, [], Option, IfSome, IsSome, All, length, take, slice_index_or}
 use Rattle.scan_segments.specs.Faults.{Rose}
 use Rattle.scan_segments.specs.Source.{SourceState}
 use Rattle.scan_drive.specs.Chunks.{given, Fits}
 use Rattle.scan_drive.specs.Files.{Group, Told, answer, count, IfTold}
+use Rattle.scan_drive.specs.Line.{GivesSome}
 use Rattle.scan_drive.specs.Moves.{tell, tells}
 use Rattle.scan_drive.specs.Openers.{OpenerState, IsRefused, IsAdmitted}
 use Rattle.scan_drive.specs.Rounds.{IsLawful}
@@ -65,25 +66,28 @@ module _ {O S R I : Type 0} (state : O → OpenerState I) (source : S → Source
 
   -- How often openers were polled: no more than they put off an answer, and once. Those that were are of the first files, as
   -- far as their counts can rise. Over lawful objects a file's opener was polled only when the rows of the files before it,
-  -- but for as many as there are workers, had been given, and there was room for more.
-  pub record PollsEnd (limit : Option ℕ) (workers : ℕ) (c : Cache) (old new : List (ScanFile O S)) : Type 0 where
+  -- but for as many as there are workers, had been given, and there was room for more; in no order, those of so many of the
+  -- files up to it.
+  pub record PollsEnd (limit : Option ℕ) (ordered : Bool) (workers : ℕ) (c : Cache) (old new : List (ScanFile O S)) : Type 0 where
     pub grows : (k : ℕ) (f : ScanFile O S) → (state (slice_index_or old k f).opener).polled ≤ (state (slice_index_or new k f).opener).polled
     pub most : (k : ℕ) (f : ScanFile O S) →
         (state (slice_index_or new k f).opener).polled + (state (slice_index_or new k f).opener).turns
         ≤ (state (slice_index_or old k f).opener).polled + (state (slice_index_or old k f).opener).turns + 1
     pub first : (i j : ℕ) (f : ScanFile O S) → i < j → j < length old → WasPolled (slice_index_or old j f) (slice_index_or new j f) →
         Rose (state (slice_index_or old i f).opener).polled (state (slice_index_or new i f).opener).polled
-    pub late : IsLawful state source old c → (k : ℕ) (f : ScanFile O S) → WasPolled (slice_index_or old k f) (slice_index_or new k f) →
+    pub late : ordered ≡ true → IsLawful state source old c → (k : ℕ) (f : ScanFile O S) → WasPolled (slice_index_or old k f) (slice_index_or new k f) →
         GivesBefore items limit (tells state source old) (k + 1 - workers)
+    pub some : ordered ≡ false → IsLawful state source old c → (k : ℕ) (f : ScanFile O S) → WasPolled (slice_index_or old k f) (slice_index_or new k f) →
+        GivesSome items limit (tells state source old) k (k + 1 - workers)
 
 module _ {O S W R I F : Type 0} (state : O → OpenerState I) (polls : O → O → Type 0) (refuses : O → O → F → Type 0) (admits : O → O → List W → Type 0)
-    (source : S → SourceState) (items : R → List I) (limit : Option ℕ) (c : Cache) (old new : List (ScanFile O S)) where
+    (source : S → SourceState) (items : R → List I) (limit : Option ℕ) (ordered : Bool) (c : Cache) (old new : List (ScanFile O S)) where
   -- The fault is of the file at this place: it is there, and this holds of it, as it was and as it is. Over lawful objects
-  -- all rows of the files before it were given, and there was room for more.
+  -- all rows of the files before it were given, if files are read in order, and there was room for more.
   pub record IsFaultOf (k : ℕ) (P : ScanFile O S → ScanFile O S → Type 0) : Type 0 where
     pub there : k < length old
     pub fact : (f : ScanFile O S) → P (slice_index_or old k f) (slice_index_or new k f)
-    pub before : IsLawful state source old c → GivesBefore items limit (tells state source old) k
+    pub before : ordered ≡ true → IsLawful state source old c → GivesBefore items limit (tells state source old) k
 
   -- a source failed over a segment: its count rose, the segment was asked, and its file has splits
   pub record StopsSource (id : ℕ) (f g : ScanFile O S) : Type 0 where
@@ -111,9 +115,10 @@ module _ {O S W R I F : Type 0} (state : O → OpenerState I) (polls : O → O �
     pub admitted : WasAdmitted state polls admits f g
     pub rows : IfSome (state f.opener).gives (λ p. 0 < p.row_count)
 
-  -- as far as the openers tell, the rows of the files up to one reach 2 ^ 64
-  abbrev pub AreTooMany : ℕ → Type 0
-  AreTooMany k = All (λ f. IsSome (state f.opener).gives) old → 2 ^ 64 ≤ rows_of (take (k + 1) (tells state source old))
+  -- as far as the openers tell, the rows of the files up to one reach 2 ^ 64, or in no order those of all files
+  abbrev pub AreTooMany : Bool → ℕ → Type 0
+  AreTooMany true k = All (λ f. IsSome (state f.opener).gives) old → 2 ^ 64 ≤ rows_of (take (k + 1) (tells state source old))
+  AreTooMany false k = All (λ f. IsSome (state f.opener).gives) old → 2 ^ 64 ≤ rows_of (tells state source old)
 
   -- why a drive ends without all rows
   abbrev pub StopsDrive : RoundFault F → Type 0
@@ -121,5 +126,5 @@ module _ {O S W R I F : Type 0} (state : O → OpenerState I) (polls : O → O �
   StopsDrive (why.Split (fault.Source k id)) = IsFaultOf k (StopsSource id)
   StopsDrive (why.Split (fault.Corrupt k id)) = IsFaultOf k (StopsCorrupt id)
   StopsDrive (why.Split (fault.Overflow k)) = IsFaultOf k StopsOverflow
-  StopsDrive (why.TooManyRows k) = IsFaultOf k StopsUnread × AreTooMany k
+  StopsDrive (why.TooManyRows k) = IsFaultOf k StopsUnread × AreTooMany ordered k
   StopsDrive (why.Refused k e) = IsFaultOf k (StopsRefused e)

@@ -63,9 +63,11 @@ pub record Told (I : Type 0) : Type 0 where
   pub store : Option Store
 
 module _ {I : Type 0} where
+  -- of this file nothing is told
   abbrev pub untold : Told I
   untold = record { part = None; store = None }
 
+  -- what is told of the file at a place
   abbrev pub told_at : List (Told I) → ℕ → Told I
   told_at tale k = slice_index_or tale k untold
 
@@ -78,6 +80,7 @@ module _ {I : Type 0} where
   abbrev pub part_over : ℕ → Part I → Store → List (Group I)
   part_over place p store = flat_map (grouped place) (p.splits store)
 
+  -- the groups of a part over a store, where both are told
   abbrev pub part_in : ℕ → Option (Part I) → Option Store → List (Group I)
   part_in place None o = []
   part_in place (Some p) o = over o (part_over place p)
@@ -91,6 +94,7 @@ module _ {I : Type 0} where
   answer_from place [] = []
   answer_from place (t ∷ ts) = part_groups place t ++ answer_from (place + 1) ts
 
+  -- the groups of all files, in their order
   abbrev pub answer : List (Told I) → List (Group I)
   answer tale = answer_from 0 tale
 
@@ -98,6 +102,7 @@ module _ {I : Type 0} where
   abbrev pub Tells : Told I → Type 0
   Tells t = IsSome t.part × IsSome t.store
 
+  -- each opener and each source tells
   abbrev pub AllTell : List (Told I) → Type 0
   AllTell tale = All Tells tale
 

@@ -192,6 +192,7 @@ module _ {O S : Type 0} (source : S → SourceState) where
   FilesKeepBalance old new c d report after lost gone =
       (first : List (ScanFile O S)) (cache : Cache) → length old ≡ length first → Balance (books_of first old) cache c report lost → Balance (books_of first new) cache d after gone
 
+  -- they keep both, and no request is lost
   abbrev pub FilesKeepReport : List (ScanFile O S) → List (ScanFile O S) → Cache → Cache → ScanReport → ScanReport → Type 0
   FilesKeepReport old new c d report after = (lost : Bool) → FilesKeepBalance old new c d report after lost lost
 

@@ -10,9 +10,11 @@ pub mod Ends
 pub mod Fetches
 pub mod Files
 pub mod Filling
+pub mod Forward
 pub mod Grounds
 pub mod Laws
 pub mod Ledger
+pub mod Line
 pub mod Links
 pub mod Looks
 pub mod Losses
@@ -33,3 +35,4 @@ pub mod Trades
 pub mod Traffic
 pub mod Turns
 pub mod Wants
+pub mod Workers

@@ -36,27 +36,32 @@ module _ {W I : Type 0} (split : W → SplitState I) where
   abbrev pub work_steps : W → ℕ
   work_steps w = run_steps (new_run w) + 1
 
+  -- the same of some splits that are not active yet
   abbrev pub works_steps : List W → ℕ
   works_steps [] = 0
   works_steps (w ∷ ws) = work_steps w + works_steps ws
 
 module _ {W I F : Type 0} (split : W → SplitState I) where
+  -- the steps left of the splits of a file that are not active yet
   abbrev pub phase_steps : Phase W F → ℕ
   phase_steps phase.Unopened = 0
   phase_steps (phase.Queued ws rows) = works_steps split ws.items
   phase_steps (phase.Held f) = 0
 
+  -- the same of all files
   abbrev pub phases_steps : List (Phase W F) → ℕ
   phases_steps [] = 0
   phases_steps (p ∷ ps) = phase_steps p + phases_steps ps
 
 module _ {W I R : Type 0} (split : W → SplitState I) where
+  -- the steps left of a slot
   abbrev pub stage_steps : Stage W R → ℕ
   stage_steps stage.Empty = 0
   stage_steps (stage.Reads r) = run_steps split r
   stage_steps (stage.Read rows) = 1
   stage_steps (stage.Halted r h) = 0
 
+  -- the same of all slots
   abbrev pub slots_steps : List (Slot W R) → ℕ
   slots_steps [] = 0
   slots_steps (s ∷ ss) = stage_steps s.stage + slots_steps ss
@@ -71,6 +76,7 @@ module _ {W I R : Type 0} (split : W → SplitState I) where
     pub there : is_there new.stage ≡ is_there old.stage
     pub nears : (new ≡ old) ⊎ IsNearer old new
 
+  -- each slot is so
   pub record EachAdvances (old new : List (Slot W R)) : Type 0 where
     pub len : length new ≡ length old
     pub at : (place : ℕ) → Advances (slot_at old place) (slot_at new place)

@@ -25,6 +25,7 @@ module _ {O S I : Type 0} (state : O → OpenerState I) (source : S → SourceSt
   abbrev pub tell : ScanFile O S → Told I
   tell f = record { part = (state f.opener).gives; store = (source f.source).holds }
 
+  -- what those of each file tell
   abbrev pub tells : List (ScanFile O S) → List (Told I)
   tells files = map tell files
 
@@ -35,6 +36,7 @@ module _ {O S I : Type 0} (state : O → OpenerState I) (polls : O → O → Typ
     pub source_moves : SourceMoves (λ id. If → IsNamed (tell state source old) id) (source old.source) (source new.source)
     pub name : new.source_id ≡ old.source_id
 
+  -- so is each file, and there are as many
   pub record EachMoves (old new : List (ScanFile O S)) : Type 0 where
     pub len : length new ≡ length old
     pub at : (k : ℕ) (f : ScanFile O S) → FileMoves (slice_index_or old k f) (slice_index_or new k f)

@@ -77,6 +77,7 @@ module _ {W I F : Type 0} where
   RowsOk t (phase.Queued ws rows) = IfSome t.part (λ p. rows ≡ p.row_count)
   RowsOk t (phase.Held f) = Unit {0}
 
+  -- so are those of each file
   abbrev pub AllRowsOk : List (Told I) → List (Phase W F) → Type 0
   AllRowsOk tale ps = (k : ℕ) → RowsOk (told_at tale k) (phase_at ps k)
 
@@ -93,6 +94,7 @@ module _ {W I F : Type 0} (split : W → SplitState I) (comes : W → Arrivals �
   rest_from place (t ∷ ts) [] = []
   rest_from place (t ∷ ts) (p ∷ ps) = phase_left place t p ++ rest_from (place + 1) ts ps
 
+  -- the groups of all files for which no split is active
   abbrev pub rest : List (Told I) → List (Phase W F) → List (Group I)
   rest tale ps = rest_from 0 tale ps
 
@@ -102,6 +104,7 @@ module _ {W I F : Type 0} (split : W → SplitState I) (comes : W → Arrivals �
   PhaseOk t (phase.Queued ws rows) = All (WorkOk split comes t) ws.items × IfSome t.part (λ p. rows ≡ p.row_count)
   PhaseOk t (phase.Held f) = Unit {0}
 
+  -- such are the splits of each file
   abbrev pub PhasesOk : List (Told I) → List (Phase W F) → Type 0
   PhasesOk tale ps = (k : ℕ) → PhaseOk (told_at tale k) (phase_at ps k)
 

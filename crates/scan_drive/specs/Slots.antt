@@ -83,9 +83,11 @@ module _ {W R : Type 0} where
   stage_given_up h (stage.Read rows) = stage.Read rows
   stage_given_up h (stage.Halted r g) = stage.Halted r g
 
+  -- an arrival is handed to the split of a slot
   abbrev pub handed : ℕ → Arrival → Slot W R → Slot W R
   handed id a s = record s { stage = stage_handed id a s.stage }
 
+  -- the split of a slot is given up for this
   abbrev pub given_up : Halt → Slot W R → Slot W R
   given_up h s = record s { stage = stage_given_up h s.stage }
 
@@ -98,6 +100,7 @@ module _ {W R : Type 0} where
   abbrev pub MayTake : ℕ → Slot W R → Type 0
   MayTake id s = is_halted s.stage ≡ false → stage_waits s.stage id ≡ true
 
+  -- so has each of these places
   abbrev pub AllTake : ℕ → List ℕ → List (Slot W R) → Type 0
   AllTake id places slots = (p : ℕ) → is_among places p ≡ true → MayTake id (slot_at slots p)
 

@@ -67,6 +67,7 @@ module _ {O S : Type 0} (source : S → SourceState) where
   abbrev pub held_of : ScanFile O S → ScanFile O S → ℕ
   held_of f g = length (filter (λ id. is_some (option_and_then (λ store. store id) (source f.source).holds)) (asked_since (source f.source) (source g.source)))
 
+  -- the same of all files together
   abbrev pub held_asks : List (ScanFile O S) → List (ScanFile O S) → ℕ
   held_asks [] now = 0
   held_asks (f ∷ fs) [] = 0

@@ -31,6 +31,7 @@ module _ {W R : Type 0} where
     pub work : W
     pub now : new.stage ≡ stage.Reads (new_run work)
 
+  -- a slot is as before, or a split has become active in it
   abbrev pub IsSeated : ℕ → Slot W R → Slot W R → Type 0
   IsSeated n old new = (new ≡ old) ⊎ TakesSeat n old new
 
@@ -88,6 +89,7 @@ module _ {W F : Type 0} where
   FitsIn file tally p true = IsTooMany file tally p → ⊥
   FitsIn file tally p false = IsTooMany file tally p
 
+  -- the rows of this file are counted, or there would be too many
   abbrev pub Counts : ℕ → Tally → Tally → Phase W F → Bool → Type 0
   Counts file old new p true = IsCounted file old new p
   Counts file old new p false = (new ≡ old) × IsTooMany file old p
@@ -102,6 +104,7 @@ module _ {I : Type 0} where
   rows_in None = 0
   rows_in (Some p) = p.row_count
 
+  -- how many rows the files have, as far as that is told
   abbrev pub rows_of : List (Told I) → ℕ
   rows_of [] = 0
   rows_of (t ∷ ts) = rows_in t.part + rows_of ts

@@ -3,7 +3,7 @@ ghost use Rattle.std.specs.Prelude.{◌≡◌, ◌<◌, ℕ, None, All, IfOk, If
 ghost use Rattle.scan_drive.specs.Chunks.{given, HasRoom, HasRow};
 ghost use Rattle.scan_drive.specs.Drives.{IsIdle};
 ghost use Rattle.scan_drive.specs.Drivings.{WasAdmitted, PollsEnd, StopsDrive};
-ghost use Rattle.scan_drive.specs.Files.{answer, limited};
+ghost use Rattle.scan_drive.specs.Line.{IsAnswered};
 ghost use Rattle.scan_drive.specs.Moves.{EachMoves, tells};
 ghost use Rattle.scan_drive.specs.Rounds.{IsLawful};
 ghost use Rattle.scan_drive.specs.Runnings.{Starts};
@@ -15,6 +15,8 @@ use crate::active::Active;
 use crate::delivery::{Chunk, DriveFault};
 use crate::drive::{close_all, make_desks};
 use crate::files::ScanFile;
+use crate::gate::Gate;
+use crate::line::{give_output, put_back};
 use crate::opening::SplitOpener;
 use crate::phase::{Phase, Tally};
 use crate::report::ScanReport;
@@ -25,6 +27,7 @@ use crate::work::SplitWork;
 use scan_segments::{KeyedSegmentCache, SegmentSource};
 use scan_values::NoMemory;
 use std::alloc::Global;
+use std::thread::Threads;
 
 /// What a drive gives.
 #[derive(Drop)]
@@ -56,22 +59,27 @@ fn start<W: SplitWork + Drop, F: Drop>(
     })
 }
 
-/// The rows of all files, in the order of files and splits, and no more of them than the limit. After any answer no
-/// request is live.
+/// The rows of all files, and no more of them than the limit: in the order of files and splits, or else file by file in
+/// the order in which they open. After any answer the files stand as they stood, and no request is live.
 pub fn drive_files<
+    R: Threads + Sync,
     X: SplitOpener<O, W, F>,
     O: Drop,
-    W: SplitWork + Drop,
+    W: SplitWork + Drop + Send,
     F: Drop,
     S: SegmentSource + Drop,
     C: KeyedSegmentCache,
+    G: Gate,
 >(
+    rt: &R,
     alloc: Global,
+    gate: &G,
     context: &X,
     files: &mut Vec<ScanFile<O, S>>,
     cache: &mut C,
     workers: usize,
     limit: Option<u64>,
+    ordered: bool,
 ) -> Result<DriveOutput<W::Rows>, RoundFault<F>>
     requires workers { 0 < workers }
     requires idle { All (IsIdle S.state) files.old.items }
@@ -88,15 +96,15 @@ pub fn drive_files<
     ensures puts { IfOk result (λ o. limit ≡ None → IfSome (ended_since (C.cache cache.old) (C.cache cache.new))
         (PutsWhatItAsked S.state files.old.items files.new.items (C.cache cache.old) (C.cache cache.new))) }
     ensures answer { IfOk result (λ o. IsLawful (X.state context.now) S.state files.old.items (C.cache cache.old) →
-        given W.items o.chunks.items ≡ limited limit (answer (tells (X.state context.now) S.state files.old.items))) }
+        IsAnswered ordered limit (tells (X.state context.now) S.state files.old.items) (given W.items o.chunks.items)) }
     ensures some { IfOk result (λ o. All (HasRow W.items) o.chunks.items) }
     ensures opened { IfOk result (λ o. limit ≡ None → (k : ℕ) (f : ScanFile O S) → k < length files.old.items →
         WasAdmitted (X.state context.now) X.polls (X.admits context.now)
         (slice_index_or files.old.items k f) (slice_index_or files.new.items k f)) }
-    ensures polls { PollsEnd (X.state context.now) S.state W.items limit workers (C.cache cache.old)
+    ensures polls { PollsEnd (X.state context.now) S.state W.items limit ordered workers (C.cache cache.old)
         files.old.items files.new.items }
     ensures fault { IfErr result (λ e. StopsDrive (X.state context.now) X.polls (X.refuses context.now)
-        (X.admits context.now) S.state W.items limit (C.cache cache.old) files.old.items files.new.items e) }
+        (X.admits context.now) S.state W.items limit ordered (C.cache cache.old) files.old.items files.new.items e) }
 {
     let Ok(mut desks) = make_desks(alloc, files) else {
         return Err(RoundFault::Split(DriveFault::NoMemory));
@@ -104,15 +112,21 @@ pub fn drive_files<
     let Ok(mut drive) = start::<W, F>(alloc, files.len(), limit) else {
         return Err(RoundFault::Split(DriveFault::NoMemory));
     };
+    let mut exchanges = Vec::new(alloc);
     let done = run_rounds(
-        alloc, context, files, &mut desks, cache, &mut drive, workers,
+        rt,
+        alloc,
+        gate,
+        context,
+        files,
+        &mut desks,
+        cache,
+        &mut drive,
+        &mut exchanges,
+        workers,
+        ordered,
     );
     close_all(files, &mut desks);
-    match done {
-        Ok(()) => Ok(DriveOutput {
-            chunks: drive.chunks,
-            report: drive.report,
-        }),
-        Err(fault) => Err(fault),
-    }
+    put_back(files, &exchanges);
+    give_output(alloc, drive, &exchanges, files.len(), done)
 }

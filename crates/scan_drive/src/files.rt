@@ -4,7 +4,7 @@ ghost use Rattle.scan_drive.specs.Filling.{OpensBy};
 ghost use Rattle.scan_drive.specs.Moves.{EachMoves, KeepsSources, KeepsRest, KeepsPhases, HoldsWhy, AllWait, tells};
 ghost use Rattle.scan_drive.specs.Openers.{as_number};
 ghost use Rattle.scan_drive.specs.Phases.{SpentBelow, phase_at, unopened, AllRowsOk};
-ghost use Rattle.scan_drive.specs.Polls.{OpenersRest, PollsStand, PollsFit};
+ghost use Rattle.scan_drive.specs.Polls.{OpenersRest, PollsGrow, PollsStand, PollsFit};
 ghost use Rattle.scan_drive.specs.declared.files.ScanFile.{ScanFile};
 
 use crate::opening::{SplitOpener, open_file};
@@ -57,6 +57,7 @@ pub fn open_files<X: SplitOpener<O, W, F>, O, W: SplitWork + Drop, F: Drop, S: S
     ensures why { OnOk result (HoldsWhy (X.state context.now) X.polls (X.refuses context.now)
         files.old.items files.new.items phases.old.items phases.new.items) }
     ensures rest { OpenersRest first last files.old.items files.new.items }
+    ensures grows { PollsGrow (X.state context.now) files.old.items files.new.items }
     ensures polled { OnOk result ((start : List (ScanFile O S)) →
         PollsStand (X.state context.now) start files.old.items phases.old.items →
         PollsStand (X.state context.now) start files.new.items phases.new.items) }

@@ -29,17 +29,19 @@ use crate::delivery::{Chunk, Delivered, DriveFault, deliver};
 use crate::desk::Desk;
 use crate::drive::fetch_files;
 use crate::files::{ScanFile, open_files};
-use crate::looking::poll_news;
+use crate::gate::Gate;
 use crate::opening::SplitOpener;
 use crate::phase::{Phase, Tally, activate};
 use crate::report::ScanReport;
 use crate::slot::Slot;
 use crate::wants::want_news;
 use crate::work::SplitWork;
+use crate::workers::poll_news;
 use scan_segments::{KeyedSegmentCache, SegmentSource};
 use scan_values::NoMemory;
 use std::alloc::Global;
 use std::collections::VecDeque;
+use std::thread::Threads;
 
 /// How far a drive is.
 #[derive(Drop)]
@@ -67,7 +69,7 @@ fn front_file<W: Drop, R: Drop>(turns: &VecDeque<usize>, slots: &Vec<Slot<W, R>>
 }
 
 /// Below which file all is given: that of the split whose turn it is, or else this one.
-fn finished<W: Drop, R: Drop>(
+pub(crate) fn finished<W: Drop, R: Drop>(
     turns: &VecDeque<usize>,
     slots: &Vec<Slot<W, R>>,
     first: usize,
@@ -102,7 +104,7 @@ fn room_for(workers: usize) -> usize
 }
 
 /// Up to which file openers are polled, where so many at the front are done.
-fn window(done: usize, workers: usize, files: usize) -> usize
+pub(crate) fn window(done: usize, workers: usize, files: usize) -> usize
     ensures within { result ≤ files }
     ensures some { done < files → 0 < workers → done < result }
     ensures most { result ≤ done + workers }
@@ -167,12 +169,16 @@ pub(crate) fn bring_in<X: SplitOpener<O, W, F>, O, W: SplitWork + Drop, F: Drop,
 
 /// Polls the splits with news, and gives the rows of those whose turn it is. It answers the places of the splits that wait
 /// for other segments now, or nothing once the limit is met.
-pub(crate) fn give_out<W: SplitWork + Drop>(
+pub(crate) fn give_out<R: Threads + Sync, W: SplitWork + Drop + Send, G: Gate>(
+    rt: &R,
     alloc: Global,
+    gate: &G,
+    workers: usize,
     active: &mut Active<W, W::Rows>,
     chunks: &mut Vec<Chunk<W::Rows>>,
     left: &mut Option<u64>,
 ) -> Result<Option<VecDeque<usize>>, DriveFault>
+    requires workers { 0 < workers }
     requires ready { (n : ℕ) × IsReady n active.old }
     requires room { HasRoom left.old }
     ensures ready { IfOk result (λ o. IfSome o (λ asking. (n : ℕ) → IsReady n active.old → IsReady n active.new)) }
@@ -201,7 +207,14 @@ pub(crate) fn give_out<W: SplitWork + Drop>(
         ⊎ ((slots_steps W.split active.new.slots.items ≤ slots_steps W.split active.old.slots.items)
         × (active.new.turns.items ≡ active.old.turns.items))))) }
 {
-    let asking = match poll_news(alloc, &mut active.slots, &mut active.news) {
+    let asking = match poll_news(
+        rt,
+        alloc,
+        gate,
+        workers,
+        &mut active.slots,
+        &mut active.news,
+    ) {
         Ok(asking) => asking,
         Err(_) => return Err(DriveFault::NoMemory),
     };

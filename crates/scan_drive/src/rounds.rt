@@ -1,28 +1,35 @@
 //! Rounds of a drive over many files.
-ghost use Rattle.std.specs.Prelude.{◌≡◌, ◌<◌, None, OnOk, IfOk, IfErr, length};
+ghost use Rattle.std.specs.Prelude.{◌≡◌, ◌<◌, [], ℕ, true, All, None, OnOk, IfOk, IfErr, length};
+ghost use Rattle.std.specs.List.Sorted.{SwapsInRange};
 ghost use Rattle.scan_drive.specs.Accounts.{AllServed, RoundKeeps, RunEnds, RunKeeps};
-ghost use Rattle.scan_drive.specs.Chunks.{given, KeepsRows};
+ghost use Rattle.scan_drive.specs.Chunks.{given, HasRoom, HasRow, KeepsRows};
 ghost use Rattle.scan_drive.specs.Before.{SoundInOrder, StopsBefore};
-ghost use Rattle.scan_drive.specs.Drives.{DesksAgree, EachLinked};
+ghost use Rattle.scan_drive.specs.Drives.{DesksAgree, EachLinked, IsIdle};
+ghost use Rattle.scan_drive.specs.Drivings.{WasAdmitted};
 ghost use Rattle.scan_drive.specs.Ends.{limit_in};
 ghost use Rattle.scan_drive.specs.Files.{AllTell, answer, limited};
-ghost use Rattle.scan_drive.specs.Grounds.{AdmitsAll, EndsGrounded, RoundGrounds};
+ghost use Rattle.scan_drive.specs.Forward.{LinePolls};
+ghost use Rattle.scan_drive.specs.Grounds.{At, IsGround, EndsGrounded, RoundGrounds};
+ghost use Rattle.scan_drive.specs.Line.{exchanged};
 ghost use Rattle.scan_drive.specs.Moves.{EachMoves, tells};
 ghost use Rattle.scan_drive.specs.Polls.{PollsOn};
-ghost use Rattle.scan_drive.specs.Rounds.{Stands, Sound};
-ghost use Rattle.scan_drive.specs.Runnings.{RoundIs, StopsIn, RunIs, StopsRun};
+ghost use Rattle.scan_drive.specs.Rounds.{IsLawful, Stands, Sound};
+ghost use Rattle.scan_drive.specs.Runnings.{RoundIs, Starts, StopsIn, RunIs, StopsRun};
 ghost use Rattle.scan_drive.specs.Trades.{CacheAgrees, FilesTrade};
 ghost use Rattle.scan_drive.specs.declared.rounds.Round.TheVariants as rounds;
 
 use crate::delivery::DriveFault;
 use crate::desk::Desk;
 use crate::files::ScanFile;
+use crate::gate::Gate;
+use crate::line::bring_forward;
 use crate::opening::SplitOpener;
 use crate::round::{Drive, bring_in, serve};
 use crate::settling::{RoundFault, settle};
 use crate::work::SplitWork;
 use scan_segments::{KeyedSegmentCache, SegmentSource};
 use std::alloc::Global;
+use std::thread::Threads;
 
 /// What a round has come to.
 #[derive(Clone, Copy, Debug, PartialEq, Eq)]
@@ -37,14 +44,18 @@ pub enum Round {
 
 /// One round.
 pub fn make_round<
+    R: Threads + Sync,
     X: SplitOpener<O, W, F>,
     O: Drop,
-    W: SplitWork + Drop,
+    W: SplitWork + Drop + Send,
     F: Drop,
     S: SegmentSource + Drop,
     C: KeyedSegmentCache,
+    G: Gate,
 >(
+    rt: &R,
     alloc: Global,
+    gate: &G,
     context: &X,
     files: &mut Vec<ScanFile<O, S>>,
     desks: &mut Vec<Desk>,
@@ -88,7 +99,7 @@ pub fn make_round<
         Ok(opened) => opened,
         Err(_) => return Err(RoundFault::Split(DriveFault::NoMemory)),
     };
-    let mut asking = match settle(alloc, drive) {
+    let mut asking = match settle(rt, alloc, gate, workers, drive) {
         Ok(Some(asking)) => asking,
         Ok(None) => return Ok(Round::Done),
         Err(fault) => return Err(fault),
@@ -116,14 +127,18 @@ pub fn make_round<
 
 /// Rounds until an opener answers, or all is given or the limit is met. What is left falls with each.
 fn wait_rounds<
+    R: Threads + Sync,
     X: SplitOpener<O, W, F>,
     O: Drop,
-    W: SplitWork + Drop,
+    W: SplitWork + Drop + Send,
     F: Drop,
     S: SegmentSource + Drop,
     C: KeyedSegmentCache,
+    G: Gate,
 >(
+    rt: &R,
     alloc: Global,
+    gate: &G,
     context: &X,
     files: &mut Vec<ScanFile<O, S>>,
     desks: &mut Vec<Desk>,
@@ -164,7 +179,9 @@ fn wait_rounds<
         files.old.items files.new.items (C.cache cache.old) drive.old e) }
 {
     'rounds: loop {
-        match make_round(alloc, context, files, desks, cache, drive, workers) {
+        match make_round(
+            rt, alloc, gate, context, files, desks, cache, drive, workers,
+        ) {
             Ok(Round::More) => {}
             Ok(Round::Opened) => return Ok(Round::Opened),
             Ok(Round::Done) => return Ok(Round::Done),
@@ -173,64 +190,79 @@ fn wait_rounds<
     }
 }
 
-/// Rounds until all is given or the limit is met. Fewer files are unopened after each answer of an opener. Live requests
-/// are not dropped.
+/// Rounds from the start until all is given or the limit is met. Fewer files are unopened after each answer of an opener.
+/// Where files are not read in order, those that are open are then brought before those that are not: what is said here
+/// is said of the files as the exchanges leave them. Live requests are not dropped.
 pub fn run_rounds<
+    R: Threads + Sync,
     X: SplitOpener<O, W, F>,
     O: Drop,
-    W: SplitWork + Drop,
+    W: SplitWork + Drop + Send,
     F: Drop,
     S: SegmentSource + Drop,
     C: KeyedSegmentCache,
+    G: Gate,
 >(
+    rt: &R,
     alloc: Global,
+    gate: &G,
     context: &X,
     files: &mut Vec<ScanFile<O, S>>,
     desks: &mut Vec<Desk>,
     cache: &mut C,
     drive: &mut Drive<W, W::Rows, F>,
+    exchanges: &mut Vec<(usize, usize)>,
     workers: usize,
+    ordered: bool,
 ) -> Result<(), RoundFault<F>>
     requires workers { 0 < workers }
+    requires idle { All (IsIdle S.state) files.old.items }
     requires agree { DesksAgree S.state files.old.items desks.old.items }
-    requires stands { Stands (length files.old.items) drive.old }
-    requires links { EachLinked desks.old.items drive.old.active.slots.items }
+    requires starts { Starts (length files.old.items) drive.old.left drive.old }
+    requires room { HasRoom drive.old.left }
+    requires none { exchanges.old.items ≡ [] }
+    ensures places { SwapsInRange (length files.old.items) exchanges.new.items }
+    ensures order { ordered ≡ true → exchanges.new.items ≡ [] }
     ensures agree { DesksAgree S.state files.new.items desks.new.items }
     ensures moves { EachMoves (X.state context.now) X.polls S.state
-        (CacheAgrees S.state files.old.items (C.cache cache.old)
-        × Sound W.split W.comes W.items (tells (X.state context.now) S.state files.old.items) drive.old)
-        files.old.items files.new.items }
-    ensures trades { FilesTrade S.state files.old.items files.new.items (C.cache cache.old) (C.cache cache.new) }
+        (CacheAgrees S.state (exchanged exchanges.new.items files.old.items) (C.cache cache.old))
+        (exchanged exchanges.new.items files.old.items) files.new.items }
+    ensures trades { FilesTrade S.state (exchanged exchanges.new.items files.old.items) files.new.items
+        (C.cache cache.old) (C.cache cache.new) }
     ensures fault { IfErr result (λ e. StopsRun (X.state context.now) X.polls (X.refuses context.now) S.state
-        W.split W.comes W.items files.old.items files.new.items (C.cache cache.old) drive.old drive.new e) }
+        W.split W.comes W.items (exchanged exchanges.new.items files.old.items) files.new.items
+        (C.cache cache.old) drive.old drive.new e) }
     ensures balance { OnOk result (RunEnds S.state (limit_in W.split W.comes W.items drive.old)
-        files.old.items files.new.items desks.new.items (C.cache cache.old) (C.cache cache.new) drive.old drive.new) }
-    ensures some { OnOk result (KeepsRows W.items drive.old.chunks.items drive.new.chunks.items) }
-    ensures polls { PollsOn (X.state context.now) W.items workers (limit_in W.split W.comes W.items drive.old)
-        (tells (X.state context.now) S.state files.old.items)
-        (CacheAgrees S.state files.old.items (C.cache cache.old)
-        × SoundInOrder W.split W.comes W.items (tells (X.state context.now) S.state files.old.items) drive.old)
-        drive.old.phases.items files.old.items files.new.items }
-    ensures before { IfErr result (λ e. CacheAgrees S.state files.old.items (C.cache cache.old) →
-        SoundInOrder W.split W.comes W.items (tells (X.state context.now) S.state files.old.items) drive.old →
-        StopsBefore W.items (limit_in W.split W.comes W.items drive.old)
-        (tells (X.state context.now) S.state files.old.items) e) }
-    ensures done { OnOk result (CacheAgrees S.state files.old.items (C.cache cache.old) →
-        AllTell (tells (X.state context.now) S.state files.old.items) →
-        Sound W.split W.comes W.items (tells (X.state context.now) S.state files.old.items) drive.old →
-        given W.items drive.new.chunks.items ≡ limited (limit_in W.split W.comes W.items drive.old)
-        (answer (tells (X.state context.now) S.state files.old.items))) }
-    ensures opened { OnOk result (AdmitsAll (X.state context.now) X.polls (X.admits context.now) S.state
-        files.old.items files.new.items (C.cache cache.old) drive.old) }
-    ensures ends { IfErr result (λ e. EndsGrounded (X.state context.now) X.polls (X.admits context.now) S.state
-        files.old.items files.new.items (C.cache cache.old) drive.old e) }
+        (exchanged exchanges.new.items files.old.items) files.new.items desks.new.items
+        (C.cache cache.old) (C.cache cache.new) drive.old drive.new) }
+    ensures some { OnOk result (All (HasRow W.items) drive.new.chunks.items) }
+    ensures polls { LinePolls (X.state context.now) S.state W.items ordered workers drive.old.left (C.cache cache.old)
+        files.old.items exchanges.new.items files.new.items }
+    ensures before { IfErr result (λ e. ordered ≡ true →
+        IsLawful (X.state context.now) S.state files.old.items (C.cache cache.old) →
+        StopsBefore W.items drive.old.left (tells (X.state context.now) S.state files.old.items) e) }
+    ensures done { OnOk result (
+        IsLawful (X.state context.now) S.state (exchanged exchanges.new.items files.old.items) (C.cache cache.old) →
+        given W.items drive.new.chunks.items ≡ limited drive.old.left
+        (answer (tells (X.state context.now) S.state (exchanged exchanges.new.items files.old.items)))) }
+    ensures opened { OnOk result (drive.old.left ≡ None → (k : ℕ) → k < length files.old.items →
+        At (exchanged exchanges.new.items files.old.items) files.new.items
+        (WasAdmitted (X.state context.now) X.polls (X.admits context.now)) k) }
+    ensures ends { IfErr result (IsGround (X.state context.now) X.polls (X.admits context.now) S.state
+        (exchanged exchanges.new.items files.old.items) files.new.items (C.cache cache.old)) }
 {
     'opens: loop {
-        match wait_rounds(alloc, context, files, desks, cache, drive, workers) {
+        match wait_rounds(
+            rt, alloc, gate, context, files, desks, cache, drive, workers,
+        ) {
             Ok(Round::Done) => return Ok(()),
             Ok(Round::Opened) => {}
             Ok(Round::More) => unreachable!(),
             Err(fault) => return Err(fault),
+        }
+        match bring_forward(files, desks, drive, exchanges, workers, ordered) {
+            Ok(()) => {}
+            Err(_) => return Err(RoundFault::Split(DriveFault::NoMemory)),
         }
     }
 }

@@ -1,5 +1,5 @@
 //! What is given of a drive, and where it ends.
-ghost use Rattle.std.specs.Prelude.{◌≡◌, ◌≤◌, [], true, false, None, ℕ, List, OnOk, IfOk, IfErr, IfSome, MatchOption, length};
+ghost use Rattle.std.specs.Prelude.{◌≡◌, ◌≤◌, ◌<◌, [], true, false, None, ℕ, List, OnOk, IfOk, IfErr, IfSome, MatchOption, length};
 ghost use Rattle.scan_drive.specs.Chunks.{given, KeepsRows};
 ghost use Rattle.scan_drive.specs.Before.{SoundInOrder, StopsBefore};
 ghost use Rattle.scan_drive.specs.Drives.{NoneOf};
@@ -13,11 +13,13 @@ ghost use Rattle.scan_drive.specs.Rounds.{Stands, Sound};
 ghost use Rattle.scan_drive.specs.declared.phase.Phase.TheVariants as phases;
 
 use crate::delivery::DriveFault;
+use crate::gate::Gate;
 use crate::phase::{Phase, Tally};
 use crate::round::{Drive, give_out};
 use crate::work::SplitWork;
 use std::alloc::Global;
 use std::collections::VecDeque;
+use std::thread::Threads;
 
 /// Why a drive ends without all rows.
 #[derive(Drop)]
@@ -83,11 +85,15 @@ fn end_of<W: Drop, F: Drop>(phases: &mut Vec<Phase<W, F>>, first: usize, tally: 
 
 /// Polls the splits with news, and gives the rows of those whose turn it is. It answers the places of the splits that wait
 /// for other segments now, or nothing once all is given or the limit is met.
-pub(crate) fn settle<W: SplitWork + Drop, F: Drop>(
+pub(crate) fn settle<R: Threads + Sync, W: SplitWork + Drop + Send, F: Drop, G: Gate>(
+    rt: &R,
     alloc: Global,
+    gate: &G,
+    workers: usize,
     drive: &mut Drive<W, W::Rows, F>,
 ) -> Result<Option<VecDeque<usize>>, RoundFault<F>>
-    requires { (n : ℕ) × Stands n drive.old }
+    requires workers { 0 < workers }
+    requires stands { (n : ℕ) × Stands n drive.old }
     ensures report { drive.new.report ≡ drive.old.report }
     ensures waits { IfOk result (λ o. IfSome o (λ asking. Settles W.split W.comes W.items asking.items drive.old drive.new)) }
     ensures done { IfOk result (λ o. o ≡ None → (tale : List (Told Item)) → AllTell tale →
@@ -106,7 +112,15 @@ pub(crate) fn settle<W: SplitWork + Drop, F: Drop>(
         length drive.old.phases.items ≤ drive.old.first) }
     ensures settles { IfErr result (λ e. SettlesBy drive.old e) }
 {
-    let asking = match give_out(alloc, &mut drive.active, &mut drive.chunks, &mut drive.left) {
+    let asking = match give_out(
+        rt,
+        alloc,
+        gate,
+        workers,
+        &mut drive.active,
+        &mut drive.chunks,
+        &mut drive.left,
+    ) {
         Ok(Some(asking)) => asking,
         Ok(None) => return Ok(None),
         Err(fault) => return Err(RoundFault::Split(fault)),

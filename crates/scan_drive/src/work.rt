@@ -11,8 +11,8 @@ pub trait SplitWork {
     ghost use Rattle.scan_splits.specs.Arrivals.{Arrivals};
     ghost use Rattle.scan_drive.specs.Splits.{SplitState, Event};
 
-    /// Rows, as it gives them.
-    type Rows: Drop;
+    /// Rows, as it gives them. A worker may make them.
+    type Rows: Drop + Send;
 
     /// The rows that are given.
     ghost items: { Self.Rows → List Item };

@@ -1,6 +1,7 @@
 pub mod Arriving
 pub mod Choosing
 pub mod Evaluating
+pub mod FilesSent
 pub mod Lasting
 pub mod Naming
 pub mod Parting

@@ -18,11 +18,17 @@ pub record FileAsk : Type 0 where
   pub range : Option (Range ℕ)
   pub selection : Selection
 
+-- these four as what is asked
 abbrev pub file_ask : Bound → Option Bound → Option (Range ℕ) → Selection → FileAsk
 file_ask e f r s = record { projection = e; filter = f; range = r; selection = s }
 
+-- how it is kept
 abbrev pub ask_code : Coded FileAsk
-ask_code = code_by (Bound × (Option Bound × (Option (Range ℕ) × Selection))) (coded× bound_code (coded× (coded_option bound_code) (coded× (coded_option range_code) selection_code))) (λ a. (a.projection, (a.filter, (a.range, a.selection)))) (λ p. record { projection = p.0; filter = p.1.0; range = p.1.1.0; selection = p.1.1.1 }) (λ _. refl)
+ask_code =
+    code_by (Bound × (Option Bound × (Option (Range ℕ) × Selection)))
+    (coded× bound_code (coded× (coded_option bound_code) (coded× (coded_option range_code) selection_code)))
+    (λ a. (a.projection, (a.filter, (a.range, a.selection))))
+    (λ p. record { projection = p.0; filter = p.1.0; range = p.1.1.0; selection = p.1.1.1 }) (λ _. refl)
 
 -- the dtype of the files
 abbrev pub asked_dtype : FileAsk → DataType

@@ -12,9 +12,11 @@ pub record RowsData : Type 0 where
   pub numbers : List ℕ
   pub values : ArrayData
 
+-- rows of these numbers and values
 abbrev pub rows_data : List ℕ → ArrayData → RowsData
 rows_data is a = record { numbers = is; values = a }
 
+-- how they are kept
 abbrev pub rows_code : Coded RowsData
 rows_code = code_by (List ℕ × ArrayData) (coded× (coded_list coded_ℕ) array_code) (λ r. (r.numbers, r.values)) (λ p. record { numbers = p.0; values = p.1 }) (λ _. refl)
 

@@ -21,6 +21,7 @@ abbrev pub ends_past : Option (Range ℕ) → ℕ → Bool
 ends_past None rows = false
 ends_past (Some r) rows = nat_lt rows r.end
 
+-- the fault of a range that ends past the rows
 abbrev pub past_fault : Bool → Option FileFault
 past_fault true = Some fault.RowRangePast
 past_fault false = None
@@ -30,6 +31,7 @@ abbrev pub form_fault : Option LayoutFault → Bool → Option FileFault
 form_fault (Some f) past = Some (fault.Layout f)
 form_fault None past = past_fault past
 
+-- the fault of another dtype, or else of the form or the range
 abbrev pub typed_fault : Bool → Option LayoutFault → Bool → Option FileFault
 typed_fault false form past = Some fault.DTypeMismatch
 typed_fault true form past = form_fault form past
@@ -42,6 +44,7 @@ layout_fault a l = typed_fault (same_type (dtype_of l) (asked_dtype a)) (first_f
 abbrev pub lost_part : FileAsk → Part Item
 lost_part a = record no_part { splits = λ store. lost_row (given_dtype a) ∷ [] }
 
+-- the part of a file, unless it has a fault
 abbrev pub part_unless : FileAsk → Option FileFault → Part Item → Part Item
 part_unless a None p = p
 part_unless a (Some f) p = lost_part a
@@ -51,6 +54,7 @@ abbrev pub part_of : FileAsk → Given → Part Item
 part_of a skip = no_part
 part_of a (layout_of l) = part_unless a (layout_fault a l) (layout_part a l)
 
+-- an opener's state, as a scan sees it: what it gives is a part
 abbrev pub file_state : FileAsk → opened.OpenerState → OpenerState Item
 file_state a o = record { gives = option_map (part_of a) o.gives; faults = o.faults; polled = o.polled; turns = o.turns }
 

@@ -6,8 +6,10 @@ mod opener;
 mod planning;
 mod rows;
 mod split;
+mod threads;
 
 pub use fault::FileFault;
 pub use opener::FileOpener;
 pub use rows::FileRows;
 pub use split::FileSplit;
+pub use threads::file_splits_cross_threads;

@@ -1,6 +1,6 @@
 -- Why a drive ends, as the cause of a fault of a scan.
 use Rattle.std.proofs.Common.{◌≡◌, ◌≢◌, ℕ, zero, suc, ◌+◌, ◌^◌, ◌<◌, ◌≤◌, List, [], ◌∷◌, Bool, true, false, refl, arith, subst, length, get_or, map, take, sum, inl, inr}
-use Rattle.std.specs.Prelude.{Option, None, Some, IfSome, IsSome, option_map, unwrap_or}
+use Rattle.std.specs.Prelude.{Option, None, Some, IfSome, IsSome, All, option_map, unwrap_or}
 use Rattle.std.proofs.lemmas.List.Sums.{sum_by-cons}
 use Rattle.scan_values.specs.DataType.{DataType}
 use Rattle.scan_expr.specs.declared.request.ScanRequest.{ScanRequest}
@@ -29,7 +29,7 @@ use Rattle.scan_multi.specs.Answer.{ToldFile}
 use Rattle.scan_multi.specs.Asked.{AsksFor}
 use Rattle.scan_multi.specs.Causes.{counted, IsOfFile, IfLawful, Stops, MayHaveCome, IsSourceCause, IsCorruptCause, HasCause}
 use Rattle.scan_multi.specs.Checks.{IsRead, IsOfOtherType, IsIllFormed, EndsPast, rows_given, rows_in}
-use Rattle.scan_multi.specs.Lawful.{told_file, told, Tells, Gives}
+use Rattle.scan_multi.specs.Lawful.{told_file, told, Tells, AllGive, Gives}
 use Rattle.scan_multi.specs.Overflow.{OverflowsIn}
 use Rattle.scan_multi.specs.Placed.{placed}
 use Rattle.scan_multi.specs.Request.{first_request_fault}
@@ -46,19 +46,6 @@ sum-first x xs = sum_by-cons (λ n. n) x xs
 
 rows-more : (f : ToldFile) (fs : List ToldFile) → rows_in (f ∷ fs) ≡ rows_given f.given + rows_in fs
 rows-more f fs = sum-first (rows_given f.given) (map (λ (t : ToldFile). rows_given t.given) fs)
-
-rows-front : (n : ℕ) (files : List ToldFile) → rows_in (take n files) ≤ rows_in files
-rows-front zero files = omega arith
-rows-front (suc n) [] = omega arith
-rows-front (suc n) (f ∷ fs) =
-    let rest = rows-front n fs in
-    let a = rows-more f (take n fs) in
-    let b = rows-more f fs in
-    omega (arith, rest, a, b)
-
-rows-counted : (o : Bool) (place : ℕ) (files : List ToldFile) → rows_in (take (place + 1) files) ≤ rows_in (counted o place files)
-rows-counted true place files = omega arith
-rows-counted false place files = rows-front (place + 1) files
 
 unless-few : (a : FileAsk) (o : Option FileFault) (p : Part Item) → (part_unless a o p).row_count ≤ p.row_count
 unless-few a None p = omega arith
@@ -94,6 +81,14 @@ module _ {O S : Type 0} (opener : O → OpenerState) (source : S → SourceState
       let b = rows-more (told_file opener source f) (take n (told opener source fs)) in
       omega (arith, rest, here, b)
 
+  all-rows : (files : List (ScanFile O S)) → turns.rows_of (tale opener source a files) ≤ rows_in (told opener source files)
+  all-rows [] = omega arith
+  all-rows (f ∷ fs) =
+      let rest = all-rows fs in
+      let here = told-rows a (opener f.opener).gives in
+      let b = rows-more (told_file opener source f) (told opener source fs) in
+      omega (arith, rest, here, b)
+
 some-mapped : {A B : Type 0} (f : A → B) (o : Option A) → IsSome o → IsSome (option_map f o)
 some-mapped f None s = cc
 some-mapped f (Some x) s = refl
@@ -106,7 +101,7 @@ module _ {O S : Type 0} (opener : O → OpenerState) (source : S → SourceState
     (c : CacheState SegmentKey) (old new : List (ScanFile O S)) (none : first_request_fault workers d q ≡ None) where
   -- a fault of a drive at a file
   abbrev pub IsDriveFaultOf : ℕ → (ScanFile O S → ScanFile O S → Type 0) → Type 0
-  IsDriveFaultOf = IsFaultOf (asked_state opener a) (Polls opener a) (refused_by opener a) (admitted_by opener a) source row_items q.limit c old new
+  IsDriveFaultOf = IsFaultOf (asked_state opener a) (Polls opener a) (refused_by opener a) (admitted_by opener a) source row_items q.limit q.ordered c old new
 
   of-file : (P Q : ScanFile O S → ScanFile O S → Type 0) (k : ℕ) → IsDriveFaultOf k P
       → ((f : ScanFile O S) → k < length old → P (get_or old k f) (get_or new k f) → Q (get_or old k f) (get_or new k f)) → IsOfFile opener source workers d q c old new k Q
@@ -114,7 +109,7 @@ module _ {O S : Type 0} (opener : O → OpenerState) (source : S → SourceState
     late = none;
     there = h.there;
     fact = λ f. g f h.there (h.fact f);
-    before = λ o l. reached d q a asks (told opener source old) k (subst (λ z. drive.GivesBefore row_items q.limit z k) (tale_is opener source a old l.tells) (h.before (lawful_drive opener source a old c l)));
+    before = λ o l. reached d q a asks (told opener source old) k (subst (λ z. drive.GivesBefore row_items q.limit z k) (tale_is opener source a old l.tells) (h.before o (lawful_drive opener source a old c l)));
   }
 
   -- ---- what is read
@@ -138,7 +133,18 @@ module _ {O S : Type 0} (opener : O → OpenerState) (source : S → SourceState
   came-of id f (inl w) = inl (record { place = w.place; there = w.there; named = w.named; asked = w.asked })
   came-of id f (inr kept) = inr kept
 
-  pub causes : (e : RoundFault FileFault) → StopsDrive (asked_state opener a) (Polls opener a) (refused_by opener a) (admitted_by opener a) source row_items q.limit c old new e → HasCause opener source workers d q c old new (placed e)
+  -- ---- too many rows
+  abbrev AreTooManyIn : Bool → ℕ → Type 0
+  AreTooManyIn = drive.AreTooMany (asked_state opener a) (Polls opener a) (refused_by opener a) (admitted_by opener a) source row_items q.limit q.ordered c old new
+
+  all-given : AllGive opener source old → All (λ f. IsSome (asked_state opener a f.opener).gives) old
+  all-given give = λ i f lt. some-mapped (part_of a) (opener (get_or old i f).opener).gives (give i f lt)
+
+  too-many : (o : Bool) (k : ℕ) → AreTooManyIn o k → AllGive opener source old → 2 ^ 64 ≤ rows_in (counted o k (told opener source old))
+  too-many true k h give = let many = h (all-given give) in let most = tale-rows opener source a (k + 1) old in omega (arith, many, most)
+  too-many false k h give = let many = h (all-given give) in let most = all-rows opener source a old in omega (arith, many, most)
+
+  pub causes : (e : RoundFault FileFault) → StopsDrive (asked_state opener a) (Polls opener a) (refused_by opener a) (admitted_by opener a) source row_items q.limit q.ordered c old new e → HasCause opener source workers d q c old new (placed e)
   causes (why.Split split.NoMemory) h = tt
   causes (why.Split (split.Source k id)) h =
       of-file _ (IsSourceCause opener source workers d q c old new id) k h (λ f lt w. record { failed = w.failed; read = read-of (get_or old k f) (get_or new k f) w.admitted; asked = w.asked })
@@ -156,11 +162,7 @@ module _ {O S : Type 0} (opener : O → OpenerState) (source : S → SourceState
       means.overflow t.given t.store (told-one (λ p store. p.overflow store ≡ true) (get_or old k f) (l.tells k f lt) (w (lawful_drive opener source a old c l).cache)))
   causes (why.TooManyRows k) h = (
     of-file _ (Stops opener source workers d q c old new (IsRead d q)) k h.0 (λ f lt w. (w.none, weaker (opener (get_or old k f).opener).gives _ (IsRead d q) (λ g r. read-good g (some-rows a g r)) (through a (opener (get_or old k f).opener).gives (λ p. 0 < p.row_count) w.rows))),
-    λ give.
-        let many : 2 ^ 64 ≤ turns.rows_of (take (k + 1) (tale opener source a old)) = h.1 (λ i f lt. some-mapped (part_of a) (opener (get_or old i f).opener).gives (give i f lt)) in
-        let most = tale-rows opener source a (k + 1) old in
-        let all = rows-counted q.ordered k (told opener source old) in
-        omega (arith, many, most, all),
+    too-many q.ordered k h.1,
   )
   causes (why.Refused k file.Opener) h = of-file _ (λ f g. OpenerFailed (opener f.opener) (opener g.opener)) k h (λ f lt w. opener_failed opener a (get_or old k f).opener (get_or new k f).opener w.1)
   causes (why.Refused k file.DTypeMismatch) h =

@@ -1,7 +1,11 @@
--- The places of an answer rise, so that its first items are a choice of them.
+-- The places of an answer rise, so that the first of its items, in whatever order, are a choice of them.
 use Rattle.std.proofs.Common.{◌≡◌, ◌≢◌, ◌<◌, ◌≤◌, ◌+◌, ℕ, zero, suc, Bool, true, false, List, [], ◌∷◌, ◌++◌, filter, flat_map, get_or, length, map, take, inl, inr, refl, sym, ap, subst, ◌∙◌, arith}
-use Rattle.std.specs.Prelude.{◌⊎◌, All, Contains, Option, None, Some, cond, if◌then◌else◌}
-use Rattle.std.specs.List.{list_any, range_with_len}
+use Rattle.std.specs.Prelude.{◌⊎◌, ◌==◌, ◌&&◌, Contains, Option, None, Some, IsPermutation, cond, if◌then◌else◌}
+use Rattle.std.specs.List.{list_any, range_with_len, IsDistinct}
+use Rattle.std.proofs.lemmas.Bool.{both_ways}
+use Rattle.std.proofs.lemmas.List.Elements.{Contains-get_or}
+use Rattle.std.proofs.lemmas.List.Sorted.{Contains-permutation, IsPermutation-sym, length_permutation}
+use Rattle.std.proofs.lemmas.Map.Keys.{apart_from_distinct, IsDistinct-from_apart, IsDistinct-IsPermutation}
 use Rattle.scan_values.specs.DataType.{DataType}
 use Rattle.scan_values.specs.Selections.{picked_rows, selects}
 use Rattle.scan_values.specs.Val.{Val}
@@ -13,7 +17,7 @@ use Rattle.scan_layout.specs.RowValue.{row_value}
 use Rattle.scan_opener.specs.Opener.{Given, skip, layout_of}
 use Rattle.scan_multi.specs.Answer.{Item, ToldFile, answer, answer_from, drops, finding, is_good, part_of, row_items, spills_at}
 use Rattle.scan_multi.specs.Output.{IsChoice, limited, place_of}
-use Rattle.scan_multi.proofs.Members.{In, In-to}
+use Rattle.scan_multi.proofs.Orders.{either_way, other_numbers, same_numbers}
 use Rattle.scan_multi.proofs.SplitItems.{tests}
 use Rattle.scan_expr.specs.Eval.{eval}
 
@@ -96,7 +100,7 @@ module _ (d : DataType) (request : ScanRequest) (file : ℕ) (l : Layout) (store
   picked_rise None = rows_rise (selects request.selection) 0 _
   picked_rise (Some r) = rise_less file 0 r.start (flat_map (row_items d request file l store) (picked_rows (Some r) request.selection (rows_of l))) (omega arith) (rows_rise (selects request.selection) r.start _)
 
-part_rises : (d : DataType) (request : ScanRequest) (file : ℕ) (store : Store) (g : Given) → RiseFrom file 0 (part_of d request file store g) × AreOf file (part_of d request file store g)
+pub part_rises : (d : DataType) (request : ScanRequest) (file : ℕ) (store : Store) (g : Given) → RiseFrom file 0 (part_of d request file store g) × AreOf file (part_of d request file store g)
 part_rises d request file store skip = (tt, tt)
 part_rises d request file store (layout_of l) = go (is_good d request l)
   where
@@ -105,18 +109,14 @@ part_rises d request file store (layout_of l) = go (is_good d request l)
     go true = (picked_rise d request file l store request.row_range, rows_of_file d request file l store (picked_rows request.row_range request.selection (rows_of l)))
     go false = ((inr (refl, omega arith), tt), (refl, tt))
 
-answer_rises : (d : DataType) (request : ScanRequest) (place : ℕ) (files : List ToldFile) → RiseFrom place 0 (answer_from d request place files)
+-- the items of an answer rise
+pub answer_rises : (d : DataType) (request : ScanRequest) (place : ℕ) (files : List ToldFile) → RiseFrom place 0 (answer_from d request place files)
 answer_rises d request place [] = tt
 answer_rises d request place (f ∷ files) =
     let p = part_rises d request place f.store f.given in
     rise_append place 0 (part_of d request place f.store f.given) (answer_from d request (place + 1) files) p.0 p.1 (answer_rises d request (place + 1) files)
 
 -- ---- items that rise stand at different places
-rise_take : (file row n : ℕ) (xs : List Item) → RiseFrom file row xs → RiseFrom file row (take n xs)
-rise_take file row zero xs h = tt
-rise_take file row (suc n) [] h = tt
-rise_take file row (suc n) (x ∷ xs) h = (h.0, rise_take x.file (x.row + 1) n xs h.1)
-
 -- one behind another is behind what is before that
 behind : (file row : ℕ) (x y : Item) → IsFrom file row x → IsFrom x.file (x.row + 1) y → IsFrom file row y
 behind file row x y (inl l) (inl m) = inl (omega (arith, l, m))
@@ -129,39 +129,64 @@ rise_at file row [] j d h l = absurd (omega arith)
 rise_at file row (x ∷ xs) zero d h l = h.0
 rise_at file row (x ∷ xs) (suc j) d h l = behind file row x (get_or xs j d) h.0 (rise_at x.file (x.row + 1) xs j d h.1 (omega arith))
 
-apart : (x y : Item) → IsFrom x.file (x.row + 1) y → place_of x ≢ place_of y
-apart x y (inl l) e = let f : x.file ≡ y.file = ap (λ (p : ℕ × ℕ). p.0) e in omega (arith, l, f)
-apart x y (inr m) e = let r : x.row ≡ y.row = ap (λ (p : ℕ × ℕ). p.1) e in omega (arith, m.1, r)
+-- whether two items stand at one place
+abbrev pub is_there : Item → Item → Bool
+is_there x y = (x.file == y.file) && (x.row == y.row)
 
-once : (file row : ℕ) (xs : List Item) (i j : ℕ) (d : Item) → RiseFrom file row xs → i < j → j < length xs → place_of (get_or xs i d) ≢ place_of (get_or xs j d)
-once file row [] i j d h l m = absurd (omega arith)
-once file row (x ∷ xs) i zero d h l m = absurd (omega arith)
-once file row (x ∷ xs) zero (suc j) d h l m = apart x (get_or xs j d) (rise_at x.file (x.row + 1) xs j d h.1 (omega arith))
-once file row (x ∷ xs) (suc i) (suc j) d h l m = once x.file (x.row + 1) xs i j d h.1 (omega arith) (omega arith)
+turned : (x y : Item) → is_there x y ≡ is_there y x
+turned x y = λ z. either_way x.file y.file z && either_way x.row y.row z
 
-taken_in : (n k : ℕ) (xs : List Item) (e : Item) → k < length (take n xs) → In (get_or (take n xs) k e) xs
-taken_in zero k xs e l = absurd (omega arith)
-taken_in (suc n) k [] e l = absurd (omega arith)
-taken_in (suc n) zero (x ∷ xs) e l = inl refl
-taken_in (suc n) (suc k) (x ∷ xs) e l = inr (taken_in n k xs e (omega arith))
+apart : (x y : Item) → IsFrom x.file (x.row + 1) y → is_there x y ≡ false
+apart x y (inl l) = ap (λ b. b && (x.row == y.row)) (other_numbers x.file y.file l)
+apart x y (inr m) = ap (λ b. b && (x.row == y.row)) (same_numbers x.file y.file m.0) ∙ other_numbers x.row y.row (omega (arith, m.1))
 
-all_in : (k : ℕ) (xs : List Item) (e : Item) → k < length xs → In (get_or xs k e) xs
-all_in k [] e l = absurd (omega arith)
-all_in zero (x ∷ xs) e l = inl refl
-all_in (suc k) (x ∷ xs) e l = inr (all_in k xs e (omega arith))
+all_apart : (file row : ℕ) (xs : List Item) (i j : ℕ) (d : Item) → RiseFrom file row xs → i < j → j < length xs → is_there (get_or xs i d) (get_or xs j d) ≡ false
+all_apart file row [] i j d h l m = absurd (omega arith)
+all_apart file row (x ∷ xs) i zero d h l m = absurd (omega arith)
+all_apart file row (x ∷ xs) zero (suc j) d h l m = apart x (get_or xs j d) (rise_at x.file (x.row + 1) xs j d h.1 (omega arith))
+all_apart file row (x ∷ xs) (suc i) (suc j) d h l m = all_apart x.file (x.row + 1) xs i j d h.1 (omega arith) (omega arith)
 
-limited_rise : (limit : Option ℕ) (xs : List Item) → RiseFrom 0 0 xs → RiseFrom 0 0 (limited limit xs)
-limited_rise None xs h = h
-limited_rise (Some n) xs h = rise_take 0 0 n xs h
+other_place : (x y : Item) → is_there x y ≡ false → place_of x ≢ place_of y
+other_place x y h e =
+    let f : (x.file == y.file) ≡ true = same_numbers x.file y.file (ap (λ (p : ℕ × ℕ). p.0) e) in
+    let r : (x.row == y.row) ≡ true = same_numbers x.row y.row (ap (λ (p : ℕ × ℕ). p.1) e) in
+    both_ways (is_there x y) h ((λ z. f z && r z))
 
-limited_in : (limit : Option ℕ) (xs : List Item) → All (λ item. Contains xs item) (limited limit xs)
-limited_in None xs = λ k e l. In-to (get_or xs k e) xs (all_in k xs e l)
-limited_in (Some n) xs = λ k e l. In-to (get_or (take n xs) k e) xs (taken_in n k xs e l)
+-- ---- as many items as a limit allows
+taken_at : (n i : ℕ) (xs : List Item) (d : Item) → i < length (take n xs) → (get_or (take n xs) i d ≡ get_or xs i d) × (i < length xs)
+taken_at zero i xs d l = absurd (omega arith)
+taken_at (suc n) i [] d l = absurd (omega arith)
+taken_at (suc n) zero (x ∷ xs) d l = (refl, omega arith)
+taken_at (suc n) (suc i) (x ∷ xs) d l = let r = taken_at n i xs d (omega arith) in (r.0, omega (arith, r.1))
 
--- the first items of an answer are a choice of its items
-pub first_chosen : (d : DataType) (request : ScanRequest) (files : List ToldFile) (items : List Item) → items ≡ limited request.limit (answer d request files) → IsChoice request.limit (answer d request files) items
-first_chosen d request files items e = subst (IsChoice request.limit (answer d request files)) (sym e) (record {
-  once = λ i j x l m. once 0 0 (limited request.limit (answer d request files)) i j x (limited_rise request.limit (answer d request files) (answer_rises d request 0 files)) l m;
-  each = limited_in request.limit (answer d request files);
-  count = refl;
-})
+limited_at : (limit : Option ℕ) (i : ℕ) (xs : List Item) (d : Item) → i < length (limited limit xs) → (get_or (limited limit xs) i d ≡ get_or xs i d) × (i < length xs)
+limited_at None i xs d l = (refl, l)
+limited_at (Some n) i xs d l = taken_at n i xs d l
+
+taken_long : (n : ℕ) (xs ys : List Item) → length xs ≡ length ys → length (take n xs) ≡ length (take n ys)
+taken_long zero xs ys e = refl
+taken_long (suc n) [] [] e = refl
+taken_long (suc n) [] (y ∷ ys) e = absurd (omega (arith, e))
+taken_long (suc n) (x ∷ xs) [] e = absurd (omega (arith, e))
+taken_long (suc n) (x ∷ xs) (y ∷ ys) e = ap suc (taken_long n xs ys (omega (arith, e)))
+
+limited_long : (limit : Option ℕ) (xs ys : List Item) → length xs ≡ length ys → length (limited limit xs) ≡ length (limited limit ys)
+limited_long None xs ys e = e
+limited_long (Some n) xs ys e = taken_long n xs ys e
+
+-- the first of the items of an answer, in whatever order they stand, are a choice of them
+pub first_chosen : (d : DataType) (request : ScanRequest) (files : List ToldFile) (limit : Option ℕ) (items : List Item) → IsPermutation items (answer d request files) → IsChoice limit (answer d request files) (limited limit items)
+first_chosen d request files limit items p = record {
+  once = λ i j x l m.
+      let first = limited_at limit i items x (omega (arith, l, m)) in
+      let second = limited_at limit j items x m in
+      let far : is_there (get_or items i x) (get_or items j x) ≡ false = apart_from_distinct is_there items i j x distinct l second.1 in
+      other_place (get_or (limited limit items) i x) (get_or (limited limit items) j x) ((λ z. is_there (first.0 z) (second.0 z)) ∙ far);
+  each = λ k e l. let at = limited_at limit k items e l in subst (Contains (answer d request files)) (sym at.0) (Contains-permutation items (answer d request files) (get_or items k e) p (Contains-get_or items k e at.1));
+  count = limited_long limit items (answer d request files) (sym (length_permutation items (answer d request files) p));
+}
+  where
+    distinct : IsDistinct is_there items
+    distinct =
+        IsDistinct-IsPermutation is_there turned (answer d request files) items (IsPermutation-sym items (answer d request files) p)
+        (IsDistinct-from_apart is_there (answer d request files) (λ i j x l m. all_apart 0 0 (answer d request files) i j x (answer_rises d request 0 files) l m))

@@ -1,5 +1,5 @@
 -- The chunks of a drive over files, as chunks of a scan.
-use Rattle.std.proofs.Common.{◌≡◌, ◌≢◌, ℕ, zero, suc, ◌<◌, List, [], ◌∷◌, ◌++◌, refl, sym, ap, ◌∙◌, arith, subst, length, map, take, append-nil}
+use Rattle.std.proofs.Common.{◌≡◌, ◌≢◌, ℕ, ◌+◌, ◌<◌, Bool, true, false, List, [], ◌∷◌, ◌++◌, refl, sym, ap, ◌∙◌, arith, subst, length, map, take, append-nil}
 use Rattle.std.specs.Prelude.{Option, None, Some, All, zip}
 use Rattle.std.proofs.lemmas.Grind.{flat_map-append}
 use Rattle.std.proofs.lemmas.List.Elements.{All-nil, All-cons, All-head, All-tail}
@@ -10,20 +10,22 @@ use Rattle.scan_drive.specs.Chunks.{HasRow, Fits}
 use Rattle.scan_drive.specs.Chunks as drive_chunks
 use Rattle.scan_drive.specs.Drivings.{GivesBefore}
 use Rattle.scan_drive.specs.Files as drive
+use Rattle.scan_drive.specs.Line.{GivesSome, IsAnswered}
 use Rattle.scan_drive.specs.declared.delivery.Chunk.{Chunk}
 use Rattle.scan_expr.specs.Infer.{infer}
 use Rattle.scan_expr.specs.declared.request.ScanRequest.{ScanRequest}
 use Rattle.scan_file.specs.FileAsks.{FileAsk}
 use Rattle.scan_file.specs.FileRows.{RowsData, row_items}
 use Rattle.scan_multi.specs.Answer.{ToldFile, answer}
-use Rattle.scan_drive.proofs.Cutting.{first_rows}
 use Rattle.scan_multi.specs.Asked.{Row, AreClean, AsksFor, clean_value, item_from, items_from, tale_of}
 use Rattle.scan_multi.specs.Before.{IsBelow, ReachesFile}
-use Rattle.scan_multi.specs.Output.{IsChunk, chunk_items, given, limited}
+use Rattle.scan_multi.specs.Late.{SomeAreFew}
+use Rattle.scan_multi.specs.Output.{IsChoice, IsChunk, IsGiven, chunk_items, given}
 use Rattle.scan_multi.specs.Placed.{chunk_of, IsEven}
+use Rattle.scan_multi.proofs.Arranged.{choice_given, few_given, rows_typed_in}
 use Rattle.scan_multi.proofs.Meaning.{AreOf}
-use Rattle.scan_multi.proofs.Reached.{reaches}
-use Rattle.scan_multi.proofs.RowTypes.{rows_typed, typed_behind}
+use Rattle.scan_multi.proofs.Reached.{reaches, some_few}
+use Rattle.scan_multi.proofs.RowTypes.{limited_typed, rows_typed, typed_behind}
 use Rattle.scan_multi.proofs.Tales.{given_limited}
 
 -- a value that was marked is clean, and is that value
@@ -61,11 +63,6 @@ some-row t (n ∷ ns) vs h = omega arith
 clean-both : (xs ys : List Row) → AreClean xs → AreClean ys → AreClean (xs ++ ys)
 clean-both [] ys h k = k
 clean-both (x ∷ xs) ys h k = (h.0, clean-both xs ys h.1 k)
-
-of-front : (t : DataType) (n : ℕ) (xs : List Row) → AreOf t xs → AreOf t (take n xs)
-of-front t zero xs h = tt
-of-front t (suc n) [] h = tt
-of-front t (suc n) (x ∷ xs) h = (h.0, of-front t n xs h.1)
 
 items-both : (xs ys : List Row) → items_from (xs ++ ys) ≡ items_from xs ++ items_from ys
 items-both [] ys = refl
@@ -120,16 +117,24 @@ module _ (d : DataType) (q : ScanRequest) (a : FileAsk) (asks : AsksFor d q a) (
   pub reached : (k : ℕ) → GivesBefore row_items q.limit (map (tale_of a) files) k → ReachesFile d q files k
   reached k g = reaches d q a asks files k (drive_chunks.given row_items g.chunks) g.more g.groups (chunks_clean g.chunks) (below-of q.limit _ g.room)
 
-  first-typed : (limit : Option ℕ) (gs : List (drive.Group drive.Item)) → gs ≡ drive.limited limit (drive.answer (map (tale_of a) files)) → AreOf (infer d q.projection) (drive.flattened gs)
-  first-typed None gs e = subst (λ z. AreOf (infer d q.projection) (drive.flattened z)) (sym e) (rows_typed d q a asks files)
-  first-typed (Some n) gs e =
-      subst (AreOf (infer d q.projection)) (sym (ap drive.flattened e ∙ first_rows n (drive.answer (map (tale_of a) files)))) (of-front (infer d q.projection) n _ (rows_typed d q a asks files))
+  -- all rows of so many of the files up to a place were given, and there was room for more
+  pub reached_some : (k n : ℕ) → k < length files → GivesSome row_items q.limit (map (tale_of a) files) k n → SomeAreFew d q (take (k + 1) files) n
+  reached_some k n l g =
+      some_few d q files k n g.places l g.once g.within g.as_many
+      (few_given d q a asks files g.places (drive_chunks.given row_items g.chunks) g.more g.groups (chunks_clean g.chunks) (below-of q.limit _ g.room))
 
-  module _ (chunks : List (Chunk RowsData)) (is : drive_chunks.given row_items chunks ≡ drive.limited q.limit (drive.answer (map (tale_of a) files))) where
-    -- chunks of the first rows of the answer give its first items
-    pub given_first : given (map chunk_of chunks) ≡ limited q.limit (answer d q files)
-    given_first = sym (chunks_items chunks) ∙ given_limited d q a asks files q.limit (drive_chunks.given row_items chunks) is (chunks_clean chunks)
+  -- chunks of what a drive gives, in order or in some order, give as many items as the limit allows
+  pub items_given : (ordered : Bool) (chunks : List (Chunk RowsData)) → IsAnswered ordered q.limit (map (tale_of a) files) (drive_chunks.given row_items chunks)
+      → IsGiven ordered q.limit (answer d q files) (given (map chunk_of chunks))
+  items_given true chunks is = sym (chunks_items chunks) ∙ given_limited d q a asks files q.limit (drive_chunks.given row_items chunks) is (chunks_clean chunks)
+  items_given false chunks is =
+      subst (IsChoice q.limit (answer d q files)) (chunks_items chunks) (choice_given d q a asks files q.limit (drive_chunks.given row_items chunks) is (chunks_clean chunks))
 
-    -- each of them has the dtype of the projection
-    pub typed_chunks : All (HasRow row_items) chunks → All IsEven (map chunk_of chunks) → All (IsChunk (infer d q.projection)) (map chunk_of chunks)
-    typed_chunks some even = are_chunks (infer d q.projection) chunks some even (first-typed q.limit (drive_chunks.given row_items chunks) is)
+  rows-typed : (ordered : Bool) (gs : List (drive.Group drive.Item)) → IsAnswered ordered q.limit (map (tale_of a) files) gs → AreOf (infer d q.projection) (drive.flattened gs)
+  rows-typed true gs is = limited_typed (infer d q.projection) (drive.answer (map (tale_of a) files)) (rows_typed d q a asks files) q.limit gs is
+  rows-typed false gs is = rows_typed_in d q a asks files q.limit gs is
+
+  -- each of them has the dtype of the projection
+  pub typed_chunks : (ordered : Bool) (chunks : List (Chunk RowsData)) → IsAnswered ordered q.limit (map (tale_of a) files) (drive_chunks.given row_items chunks) → All (HasRow row_items) chunks
+      → All IsEven (map chunk_of chunks) → All (IsChunk (infer d q.projection)) (map chunk_of chunks)
+  typed_chunks ordered chunks is some even = are_chunks (infer d q.projection) chunks some even (rows-typed ordered (drive_chunks.given row_items chunks) is)

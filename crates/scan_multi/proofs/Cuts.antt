@@ -1,19 +1,18 @@
 -- What a drive over files gives is cut at the splits of the files.
 use Rattle.std.proofs.Common.{◌≡◌, ◌<◌, ◌+◌, ℕ, suc, Bool, true, false, List, [], ◌∷◌, ◌++◌, append-nil, append_assoc, drop, map, Option, Some, None, inl, inr, refl, sym, ap, subst, ◌∙◌, arith}
 use Rattle.std.specs.Prelude.{◌⊎◌, ◌==◌, ◌&&◌, All, if◌then◌else◌}
-use Rattle.std.proofs.lemmas.Bool.Decides.{nat_tests}
 use Rattle.std.proofs.lemmas.List.{take-append-drop}
 use Rattle.std.proofs.lemmas.List.Elements.{All-cons, All-nil}
 use Rattle.scan_values.specs.DataType.{DataType}
 use Rattle.scan_expr.specs.declared.request.ScanRequest.{ScanRequest}
 use Rattle.scan_drive.specs.Files as drive
 use Rattle.scan_file.specs.FileAsks.{FileAsk}
-use Rattle.scan_multi.specs.Answer.{Item, ToldFile, answer}
+use Rattle.scan_multi.specs.Answer.{Item, ToldFile}
 use Rattle.scan_multi.specs.Asked.{AreClean, AsksFor, Row, item_from, items_from, tale_of}
-use Rattle.scan_multi.specs.Chunks.{AreSplits, IsFrontOf, cut, grouped, is_beside, join_first}
+use Rattle.scan_multi.specs.Chunks.{IsFrontOf, cut, grouped, is_beside, join_first}
 use Rattle.scan_multi.specs.Output.{ChunkData, chunk_items, given, limited}
-use Rattle.scan_multi.proofs.Keys.{IsNext, KeyedFrom, OfSplit, answer_keyed, keyed_cut, split_in}
-use Rattle.scan_multi.proofs.Tales.{given_limited}
+use Rattle.scan_multi.proofs.Keys.{IsNext, KeyedFrom, OfSplit, answer_keyed, keyed_limited, split_in}
+use Rattle.scan_multi.proofs.Orders.{other_numbers, same_numbers}
 
 -- the items of a group
 abbrev pub group_items : drive.Group drive.Item → List Item
@@ -23,15 +22,10 @@ items_append : (xs ys : List Row) → items_from (xs ++ ys) ≡ items_from xs ++
 items_append [] ys = refl
 items_append (x ∷ xs) ys = ap (λ zs. item_from x ∷ zs) (items_append xs ys)
 
-clean_parts : (xs ys : List Row) → AreClean (xs ++ ys) → AreClean xs × AreClean ys
+-- rows of which all are clean
+pub clean_parts : (xs ys : List Row) → AreClean (xs ++ ys) → AreClean xs × AreClean ys
 clean_parts [] ys h = (tt, h)
 clean_parts (x ∷ xs) ys h = let p = clean_parts xs ys h.1 in ((h.0, p.0), p.1)
-
-same_numbers : (a b : ℕ) → a ≡ b → (a == b) ≡ true
-same_numbers a b h = grind (arith, nat_tests, h)
-
-other_numbers : (a b : ℕ) → a < b → (a == b) ≡ false
-other_numbers a b h = grind (arith, nat_tests, h)
 
 -- groups put into one, or beside others
 pub record StartsWith (xs : List Item) (groups : List (List Item)) : Type 0 where
@@ -174,29 +168,23 @@ module _ (d : DataType) (request : ScanRequest) (files : List ToldFile) where
       (subst (λ groups. All (IsFrontOf groups) (map group_items ((file, x ∷ xs) ∷ (other, y ∷ ys) ∷ gs))) (sym groups) all)
 
 -- ---- what a drive gives, as far as the limit allows
+-- the items that come behind those that are given
+abbrev pub later_items : Option ℕ → List Item → List Item
+later_items None items = []
+later_items (Some n) items = drop n items
+
+pub with_later : (limit : Option ℕ) (items : List Item) → limited limit items ++ later_items limit items ≡ items
+with_later None items = append-nil items
+with_later (Some n) items = take-append-drop n items
+
 module _ (d : DataType) (request : ScanRequest) (a : FileAsk) (asks : AsksFor d request a) (files : List ToldFile) where
   all_keyed : KeyedFrom (split_in d request files) 0 0 (drive.answer (map (tale_of a) files))
   all_keyed = subst (λ z. KeyedFrom (split_in d request files) 0 0 (drive.answer (map (tale_of z) files))) (sym asks.is) (answer_keyed d request files (record { is = refl; askable = asks.askable }))
 
-  given_keyed : (limit : Option ℕ) (gs : List (drive.Group drive.Item)) → gs ≡ drive.limited limit (drive.answer (map (tale_of a) files)) → KeyedFrom (split_in d request files) 0 0 gs
-  given_keyed None gs e = subst (KeyedFrom (split_in d request files) 0 0) (sym e) all_keyed
-  given_keyed (Some n) gs e = subst (KeyedFrom (split_in d request files) 0 0) (sym e) (keyed_cut (split_in d request files) n 0 0 (drive.answer (map (tale_of a) files)) all_keyed)
-
-  -- the items of an answer that come behind those that are given
-  abbrev pub later_items : Option ℕ → List Item
-  later_items None = []
-  later_items (Some n) = drop n (answer d request files)
-
-  with_later : (limit : Option ℕ) → limited limit (answer d request files) ++ later_items limit ≡ answer d request files
-  with_later None = append-nil (answer d request files)
-  with_later (Some n) = take-append-drop n (answer d request files)
-
-  -- clean groups of a drive, as chunks with these items, are split where the files are
-  pub given_splits : (ordered : Bool) (limit : Option ℕ) (gs : List (drive.Group drive.Item)) (chunks : List ChunkData) → gs ≡ drive.limited limit (drive.answer (map (tale_of a) files)) → AreClean (drive.flattened gs)
-      → map chunk_items chunks ≡ map group_items gs → given chunks ≡ items_from (drive.flattened gs) → AreSplits ordered d request files chunks
-  given_splits true limit gs chunks e clean same items = same ∙ sym (cut_alone d request files 0 0 gs (given_keyed limit gs e) clean) ∙ ap (cut d request files) (sym items)
-  given_splits false limit gs chunks e clean same items =
-      let first : items_from (drive.flattened gs) ≡ limited limit (answer d request files) = given_limited d request a asks files limit gs e clean in
-      let whole : items_from (drive.flattened gs) ++ later_items limit ≡ answer d request files = ap (λ xs. xs ++ later_items limit) first ∙ with_later limit in
-      subst (All (IsFrontOf (cut d request files (answer d request files)))) (sym same)
-      (subst (λ xs. All (IsFrontOf (cut d request files xs)) (map group_items gs)) whole (cut_fronts d request files 0 0 gs (later_items limit) (given_keyed limit gs e) clean))
+  -- clean groups of a drive in order, as chunks with these items, are split where the files are
+  pub given_splits : (limit : Option ℕ) (gs : List (drive.Group drive.Item)) (chunks : List ChunkData) → gs ≡ drive.limited limit (drive.answer (map (tale_of a) files)) → AreClean (drive.flattened gs)
+      → map chunk_items chunks ≡ map group_items gs → given chunks ≡ items_from (drive.flattened gs) → map chunk_items chunks ≡ cut d request files (given chunks)
+  given_splits limit gs chunks e clean same items =
+      let keyed : KeyedFrom (split_in d request files) 0 0 gs =
+      subst (KeyedFrom (split_in d request files) 0 0) (sym e) (keyed_limited (split_in d request files) limit 0 0 (drive.answer (map (tale_of a) files)) all_keyed) in
+      same ∙ sym (cut_alone d request files 0 0 gs keyed clean) ∙ ap (cut d request files) (sym items)

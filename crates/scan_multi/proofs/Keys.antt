@@ -88,7 +88,7 @@ module _ (split : ℕ → ℕ → ℕ) where
   taken_of s k (suc n) [] h = tt
   taken_of s k (suc n) (x ∷ xs) h = (h.0, taken_of s k n xs h.1)
 
-  pub keyed_cut : (n f c : ℕ) (gs : List (drive.Group drive.Item)) → KeyedFrom split f c gs → KeyedFrom split f c (drive.cut n gs)
+  keyed_cut : (n f c : ℕ) (gs : List (drive.Group drive.Item)) → KeyedFrom split f c gs → KeyedFrom split f c (drive.cut n gs)
   keyed_cut zero f c gs h = subst (KeyedFrom split f c) (sym (cut_none gs)) tt
   keyed_cut (suc n) f c [] h = tt
   keyed_cut (suc n) f c (g ∷ gs) h = go g.1 h (λ k. keyed_cut (suc n - length g.1) g.0 (k + 1) gs)
@@ -98,6 +98,11 @@ module _ (split : ℕ → ℕ → ℕ) where
           → KeyedFrom split f c (drive.grouped g.0 (take (suc n) xs) ++ drive.cut (suc n - length g.1) gs)
       go [] h on = absurd h
       go (x ∷ xs) h on = λ e. let r = h e in (r.0, r.1, (r.2.0, taken_of (split g.0) r.0 n xs r.2.1), on r.0 r.3)
+
+  -- groups as far as a limit allows
+  pub keyed_limited : (limit : Option ℕ) (f c : ℕ) (gs : List (drive.Group drive.Item)) → KeyedFrom split f c gs → KeyedFrom split f c (drive.limited limit gs)
+  keyed_limited None f c gs h = h
+  keyed_limited (Some n) f c gs h = keyed_cut n f c gs h
 
 -- ---- the groups of a file
 kept_in : (f : ℕ → ℕ) (c : ℕ) (p : ℕ → Bool) (is : List ℕ) → AreIn f c is → AreIn f c (filter p is)
@@ -170,7 +175,8 @@ module _ (d : DataType) (request : ScanRequest) (files : List ToldFile) where
   part_at file (xs ∷ xss) = grouped_at file xs (flat_map (drive.grouped file) xss) (part_at file xss)
 
   module _ (asks : AsksFor d request (ask_of d request)) where
-    part_keyed : (file : ℕ) (store : Store) (g : Given) → splits_at d request files file ≡ splits_in d request g → KeyedFrom split_in file 0 (drive.part_over file (opened.part_of (ask_of d request) g) store)
+    -- the groups of a file
+    pub part_keyed : (file : ℕ) (store : Store) (g : Given) → splits_at d request files file ≡ splits_in d request g → KeyedFrom split_in file 0 (drive.part_over file (opened.part_of (ask_of d request) g) store)
     part_keyed file store skip at = tt
     part_keyed file store (layout_of l) at = go (layout_fault (ask_of d request) l) refl
       where

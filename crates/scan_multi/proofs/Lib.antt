@@ -1,3 +1,4 @@
+pub mod Orders
 pub mod Members
 pub mod Goods
 pub mod Faults
@@ -13,6 +14,7 @@ pub mod Judged
 pub mod NamedPlaces
 pub mod Tales
 pub mod Chosen
+pub mod CutFiles
 pub mod Reached
 pub mod RowTypes
 pub mod Complete
@@ -21,6 +23,7 @@ pub mod Polling
 pub mod Telling
 pub mod Meaning
 pub mod Laws
+pub mod Arranged
 pub mod Chunking
 pub mod Moving
 pub mod Causing

@@ -1,19 +1,18 @@
 -- What a drive does to files, as a scan says it.
-use Rattle.std.proofs.Common.{◌≡◌, ℕ, zero, suc, ◌+◌, ◌-◌, ◌<◌, ◌≤◌, ◌==◌, List, [], ◌∷◌, ◌++◌, Bool, true, false, ◌||◌, refl, sym, ap, ◌∙◌, arith, subst, length, get_or, drop, take, append-nil, inl, inr}
+use Rattle.std.proofs.Common.{◌≡◌, ℕ, suc, ◌+◌, ◌-◌, ◌<◌, ◌≤◌, List, [], ◌∷◌, ◌++◌, true, false, refl, sym, ap, ◌∙◌, arith, subst, length, get_or, drop, take, append-nil, inl, inr}
 use Rattle.std.specs.Prelude.{◌⊎◌, IsSome, All, Contains}
 use Rattle.std.proofs.Math.Seq.{drop-append_seam}
 use Rattle.std.proofs.lemmas.Bool.{cases_lt}
-use Rattle.std.proofs.lemmas.Bool.Decides.{nat_tests}
 use Rattle.std.proofs.lemmas.List.{get_or_past}
 use Rattle.std.proofs.lemmas.List.Elements.{All-nil}
 use Rattle.scan_values.specs.DataType.{DataType}
-use Rattle.scan_values.specs.Selections.{is_among}
 use Rattle.scan_expr.specs.declared.request.ScanRequest.{ScanRequest}
 use Rattle.scan_segments.specs.Source.{SourceState}
 use Rattle.scan_segments.specs.Cache.{CacheState}
 use Rattle.scan_segments.specs.declared.segment.SegmentKey.{SegmentKey}
 use Rattle.scan_opener.specs.Opener.{OpenerState}
 use Rattle.scan_drive.specs.Drivings.{PollsEnd, GivesBefore}
+use Rattle.scan_drive.specs.Line.{GivesSome}
 use Rattle.scan_drive.specs.Moves as drive_moves
 use Rattle.scan_drive.specs.Moves.{IsNamed, tell}
 use Rattle.scan_drive.specs.Trades.{CacheAgrees, FilesTrade}
@@ -21,30 +20,22 @@ use Rattle.scan_drive.specs.Traffic.{asked_since, CacheMoves}
 use Rattle.scan_drive.specs.declared.files.ScanFile.{ScanFile}
 use Rattle.scan_file.specs.FileAsks.{FileAsk}
 use Rattle.scan_file.specs.FileRows.{row_items}
-use Rattle.scan_multi.specs.Answer.{ToldFile, answer}
+use Rattle.scan_multi.specs.Answer.{answer}
 use Rattle.scan_multi.specs.Asked.{AsksFor}
-use Rattle.scan_multi.specs.Before.{GoesOn}
+use Rattle.scan_multi.specs.Before.{IsBelow}
 use Rattle.scan_multi.specs.Late.{SomeAreFew, WasPolled, ArePolledLate}
 use Rattle.scan_multi.specs.Lawful.{told_file, told, Tells, IsLawful, IsIdle}
 use Rattle.scan_multi.specs.Moves.{EachMoves, AsksNamed, EachAsksNamed}
 use Rattle.scan_multi.specs.Named.{named}
-use Rattle.scan_multi.proofs.Chunking.{reached}
-use Rattle.scan_multi.proofs.Reached.{some_few}
+use Rattle.scan_multi.proofs.Chunking.{reached, reached_some}
 use Rattle.scan_multi.proofs.Meaning.{Means}
+use Rattle.scan_multi.proofs.Orders.{among_at}
 use Rattle.scan_multi.proofs.Polling.{Polls, asked_state, opens_keep}
 use Rattle.scan_multi.proofs.Telling.{IsLawful', tale_is, tell_is, lawful_drive, content, still-tells}
 
 -- the ids that came since
 pub asked-is : (ids : List ℕ) (s t : SourceState) → t.asked ≡ s.asked ++ ids → asked_since s t ≡ ids
 asked-is ids s t e = ap (drop (length s.asked)) e ∙ drop-append_seam s.asked ids
-
-among-at : (ids : List ℕ) (i e : ℕ) → i < length ids → is_among ids (get_or ids i e) ≡ true
-among-at [] i e lt = absurd (omega arith)
-among-at (x ∷ ids) zero e lt = let on : (x == x) ≡ true = grind (arith, nat_tests) in rw on refl
-among-at (x ∷ ids) (suc i) e lt = go (x == get_or ids i e) (among-at ids i e (omega arith)) where
-  go : (b : Bool) → is_among ids (get_or ids i e) ≡ true → (b || is_among ids (get_or ids i e)) ≡ true
-  go true h = refl
-  go false h = h
 
 none-since : (s : SourceState) → asked_since s s ≡ []
 none-since s = asked-is [] s s (sym (append-nil s.asked))
@@ -69,7 +60,7 @@ module _ {O S : Type 0} (opener : O → OpenerState) (source : S → SourceState
       go (inl lt) = idle' k f (let n = m.len in omega (arith, n, lt)) ∙ sym (idle k f lt)
       go (inr ge) = ap (λ (z : ScanFile O S). (source z.source).live) (sym (past-old k f ge))
 
-    pub each_moves : PollsEnd (asked_state opener a) source row_items q.limit workers c old new → All (IsIdle opener source) old → All (IsIdle opener source) new → EachMoves opener source old new
+    pub each_moves : PollsEnd (asked_state opener a) source row_items q.limit q.ordered workers c old new → All (IsIdle opener source) old → All (IsIdle opener source) new → EachMoves opener source old new
     each_moves p idle idle' k f =
         let at = m.at k f in
         let keeps = opens_keep opener a (get_or old k f).opener (get_or new k f).opener at.opens in
@@ -105,23 +96,19 @@ module _ {O S : Type 0} (opener : O → OpenerState) (source : S → SourceState
         go (inl lt) =
             subst (All (Contains (named d q (told_file opener source (get_or old k f)).given (told_file opener source (get_or old k f)).store)))
             (sym (asked-is at.source_moves.ids (source (get_or old k f).source) (source (get_or new k f).source) at.source_moves.asked))
-            (λ i e there. named-one (get_or old k f) (get_or at.source_moves.ids i e) (l.tells k f lt) (at.source_moves.may (get_or at.source_moves.ids i e) (among-at at.source_moves.ids i e there) (lawful_drive opener source a old c l)))
+            (λ i e there. named-one (get_or old k f) (get_or at.source_moves.ids i e) (l.tells k f lt) (at.source_moves.may (get_or at.source_moves.ids i e) (among_at at.source_moves.ids i e there) (lawful_drive opener source a old c l)))
         go (inr ge) =
             subst (λ (z : ScanFile O S). AsksNamed opener source d q (get_or old k f) z) (past-old k f ge)
             (subst (All (Contains (named d q (told_file opener source (get_or old k f)).given (told_file opener source (get_or old k f)).store)))
             (sym (none-since (source (get_or old k f).source))) (All-nil (Contains (named d q (told_file opener source (get_or old k f)).given (told_file opener source (get_or old k f)).store))))
 
       -- ---- how late openers are polled
-      pub polled_late : PollsEnd (asked_state opener a) source row_items q.limit workers c old new → 0 < workers → ArePolledLate opener source workers d q c old new
-      polled_late p some = record {
-        first = λ i j f lt there w. p.first i j f lt there w;
-        ordered = λ o l k f w. (goes-on l k f w).below;
-        unordered = λ o l k f w. few l k f w;
-      } where
-        goes-on : IsLawful opener source old c → (k : ℕ) (f : ScanFile O S) → WasPolled opener source workers d q c old new k f → GoesOn q.limit (answer d q (take (k + 1 - workers) (told opener source old)))
-        goes-on l k f w =
-            let late = p.late (lawful_drive opener source a old c l) k f w in
-            reached d q a asks (told opener source old) (k + 1 - workers) (subst (λ z. GivesBefore row_items q.limit z (k + 1 - workers)) (tale_is opener source a old l.tells) late)
+      pub polled_late : PollsEnd (asked_state opener a) source row_items q.limit q.ordered workers c old new → ArePolledLate opener source workers d q c old new
+      polled_late p = record { first = λ i j f lt there w. p.first i j f lt there w; ordered = λ o l k f w. goes-on o l k f w; unordered = λ o l k f w. few o l k f w } where
+        goes-on : q.ordered ≡ true → IsLawful opener source old c → (k : ℕ) (f : ScanFile O S) → WasPolled opener source workers d q c old new k f → IsBelow q.limit (length (answer d q (take (k + 1 - workers) (told opener source old))))
+        goes-on o l k f w =
+            let late = p.late o (lawful_drive opener source a old c l) k f w in
+            (reached d q a asks (told opener source old) (k + 1 - workers) (subst (λ z. GivesBefore row_items q.limit z (k + 1 - workers)) (tale_is opener source a old l.tells) late)).below
 
         there-is : (k : ℕ) (f : ScanFile O S) → WasPolled opener source workers d q c old new k f → (k < length old) ⊎ (length old ≤ k) → k < length old
         there-is k f w (inl lt) = lt
@@ -129,12 +116,13 @@ module _ {O S : Type 0} (opener : O → OpenerState) (source : S → SourceState
             let e : (opener (get_or old k f).opener).polled ≡ (opener (get_or new k f).opener).polled = ap (λ (z : ScanFile O S). (opener z.opener).polled) (past-old k f ge) in
             absurd (omega (arith, e, w))
 
-        few : IsLawful opener source old c → (k : ℕ) (f : ScanFile O S) → WasPolled opener source workers d q c old new k f → SomeAreFew d q (take (k + 1) (told opener source old)) (k + 1 - workers)
-        few l k f w =
+        few : q.ordered ≡ false → IsLawful opener source old c → (k : ℕ) (f : ScanFile O S) → WasPolled opener source workers d q c old new k f → SomeAreFew d q (take (k + 1) (told opener source old)) (k + 1 - workers)
+        few o l k f w =
             let lt : k < length old = there-is k f w (cases_lt k (length old)) in
-            let files : List ToldFile = told opener source old in
-            let n : length files ≡ length old = told-long old in
-            some_few d q files (k + 1 - workers) (k + 1) (omega (arith, some)) (omega (arith, lt, n)) (goes-on l k f w).below
+            let n : length (told opener source old) ≡ length old = told-long old in
+            let some = p.some o (lawful_drive opener source a old c l) k f w in
+            reached_some d q a asks (told opener source old) k (k + 1 - workers) (omega (arith, lt, n))
+            (subst (λ z. GivesSome row_items q.limit z k (k + 1 - workers)) (tale_is opener source a old l.tells) some)
 
     -- ---- lawful objects
     pub lawful_after : FilesTrade source old new c c' → CacheMoves source old new c c' → IsLawful opener source old c → IsLawful opener source new c'

@@ -117,6 +117,7 @@ module _ {O S : Type 0} (opener : O → OpenerState) (source : S → SourceState
         items = subst (λ z. IsGiven q.ordered z (answer d q (told opener source files)) []) (sym zero-rows) (none-given q.ordered (answer d q (told opener source files)));
       };
       chunks = λ l. none-split q.ordered (told opener source files) d q;
+      whole = λ un e. let bad : ◌≡◌ {A = Option ℕ} (Some 0) None = sym zero-rows ∙ e in cc;
       read = λ e. let bad : ◌≡◌ {A = Option ℕ} (Some 0) None = sym zero-rows ∙ e in cc;
       puts = λ e. let bad : ◌≡◌ {A = Option ℕ} (Some 0) None = sym zero-rows ∙ e in cc;
       report = record {

@@ -1,5 +1,5 @@
 -- Each row that a drive over files gives has the dtype of the projection.
-use Rattle.std.proofs.Common.{◌≡◌, ◌+◌, ℕ, Bool, true, false, List, [], ◌∷◌, ◌++◌, flat_map, map, Option, Some, None, refl, sym, ap, subst}
+use Rattle.std.proofs.Common.{◌≡◌, ◌+◌, ℕ, zero, suc, Bool, true, false, List, [], ◌∷◌, ◌++◌, flat_map, map, take, Option, Some, None, refl, sym, ap, subst, ◌∙◌}
 use Rattle.std.proofs.lemmas.Grind.{flat_map-append}
 use Rattle.std.specs.declared.ops.Range.{Range}
 use Rattle.scan_values.specs.DataType.{DataType}
@@ -9,6 +9,7 @@ use Rattle.scan_segments.specs.Source.{Store}
 use Rattle.scan_layout.specs.Layout.{Layout}
 use Rattle.scan_opener.specs.Opener.{Given, skip, layout_of}
 use Rattle.scan_drive.specs.Files as drive
+use Rattle.scan_drive.proofs.Cutting.{first_rows}
 use Rattle.scan_file.specs.FileAsks.{FileAsk, given_dtype}
 use Rattle.scan_file.specs.FileRows.{unless_lost}
 use Rattle.scan_file.specs.Openings.{layout_fault, part_unless}
@@ -32,6 +33,17 @@ pub typed_behind : (t : DataType) (xs ys : List Row) → AreOf t (xs ++ ys) → 
 typed_behind t [] ys h = h
 typed_behind t (x ∷ xs) ys h = typed_behind t xs ys h.1
 
+-- the first rows
+typed_first : (t : DataType) (n : ℕ) (xs : List Row) → AreOf t xs → AreOf t (take n xs)
+typed_first t zero xs h = tt
+typed_first t (suc n) [] h = tt
+typed_first t (suc n) (x ∷ xs) h = (h.0, typed_first t n xs h.1)
+
+-- the rows of groups, as far as a limit allows
+pub limited_typed : (t : DataType) (whole : List (drive.Group drive.Item)) → AreOf t (drive.flattened whole) → (limit : Option ℕ) (gs : List (drive.Group drive.Item)) → gs ≡ drive.limited limit whole → AreOf t (drive.flattened gs)
+limited_typed t whole h None gs e = subst (λ z. AreOf t (drive.flattened z)) (sym e) h
+limited_typed t whole h (Some n) gs e = subst (AreOf t) (sym (ap drive.flattened e ∙ first_rows n whole)) (typed_first t n (drive.flattened whole) h)
+
 -- rows of a split
 abbrev pub ItemsTyped : DataType → List drive.Item → Type 0
 ItemsTyped t [] = Unit {0}
@@ -45,7 +57,7 @@ grouped_typed : (t : DataType) (file : ℕ) (xs : List drive.Item) → ItemsType
 grouped_typed t file [] h = tt
 grouped_typed t file (x ∷ xs) h = typed_append t (map {B = Row} (λ y. (file, y)) (x ∷ xs)) [] (placed_typed t file (x ∷ xs) h) tt
 
-groups_typed : (t : DataType) (gs hs : List (drive.Group drive.Item)) → AreOf t (drive.flattened gs) → AreOf t (drive.flattened hs) → AreOf t (drive.flattened (gs ++ hs))
+pub groups_typed : (t : DataType) (gs hs : List (drive.Group drive.Item)) → AreOf t (drive.flattened gs) → AreOf t (drive.flattened hs) → AreOf t (drive.flattened (gs ++ hs))
 groups_typed t gs hs h k = subst (AreOf t) (sym (flat_map-append drive.placed gs hs)) (typed_append t (drive.flattened gs) (drive.flattened hs) h k)
 
 module _ (a : FileAsk) where
@@ -66,7 +78,8 @@ module _ (a : FileAsk) where
       groups_typed (given_dtype a) (drive.grouped file (split_rows a l store (picks a l r))) (flat_map (drive.grouped file) (map (λ q. split_rows a l store (picks a l q)) rs))
       (grouped_typed (given_dtype a) file (split_rows a l store (picks a l r)) (split_typed l store (picks a l r))) (ranges_typed file l store rs)
 
-  part_typed : (file : ℕ) (store : Store) (g : Given) → AreOf (given_dtype a) (drive.flattened (drive.part_over file (opened.part_of a g) store))
+  -- each row of a file has the dtype of what is given
+  pub part_typed : (file : ℕ) (store : Store) (g : Given) → AreOf (given_dtype a) (drive.flattened (drive.part_over file (opened.part_of a g) store))
   part_typed file store skip = tt
   part_typed file store (layout_of l) = go (layout_fault a l)
     where

@@ -1,5 +1,5 @@
 -- What a scan does and answers, from what the drive over its files does and answers.
-use Rattle.std.proofs.Common.{◌≡◌, ℕ, ◌<◌, List, Bool, true, false, sym, ap, ◌∙◌, subst, length, get_or, map}
+use Rattle.std.proofs.Common.{◌≡◌, ℕ, ◌<◌, List, sym, subst, length, get_or, map}
 use Rattle.std.specs.Prelude.{None, IfSome, All}
 use Rattle.scan_values.specs.DataType.{DataType}
 use Rattle.scan_expr.specs.declared.request.ScanRequest.{ScanRequest}
@@ -10,7 +10,7 @@ use Rattle.scan_opener.specs.Opener.{OpenerState, Given, skip, layout_of}
 use Rattle.scan_drive.specs.Chunks.{HasRow}
 use Rattle.scan_drive.specs.Chunks as drive_chunks
 use Rattle.scan_drive.specs.Drivings.{PollsEnd, StopsDrive, WasAdmitted}
-use Rattle.scan_drive.specs.Files as drive
+use Rattle.scan_drive.specs.Line.{IsAnswered}
 use Rattle.scan_drive.specs.Trades.{FilesTrade}
 use Rattle.scan_drive.specs.Traffic.{asked_keys, ended_since, CacheMoves, IsReport, LooksUpFirst, PutsWhatItAsked}
 use Rattle.scan_drive.specs.declared.delivery.Chunk.{Chunk}
@@ -22,34 +22,26 @@ use Rattle.scan_file.specs.FileRows.{RowsData, row_items}
 use Rattle.scan_file.specs.Openings.{GivesSplits}
 use Rattle.scan_file.specs.declared.fault.FileFault.{FileFault}
 use Rattle.scan_file.specs.declared.split.FileSplit.{FileSplit}
-use Rattle.scan_multi.specs.Answer.{Item, ToldFile, answer}
 use Rattle.scan_multi.specs.Asked.{AsksFor, tale_of}
 use Rattle.scan_multi.specs.Causes.{HasCause}
 use Rattle.scan_multi.specs.Checks.{IsGood}
 use Rattle.scan_multi.specs.Lawful.{told, IsLawful, IsIdle, Gives}
-use Rattle.scan_multi.specs.Output.{IsGiven, given, limited}
 use Rattle.scan_multi.specs.Placed.{chunk_of, IsEven, placed}
 use Rattle.scan_multi.specs.Request.{first_request_fault}
 use Rattle.scan_multi.specs.Scans.{IsScan, IsRefusedFor, ScanMoves}
 use Rattle.scan_multi.specs.declared.scan.fault.ScanFault.{ScanFault}
 use Rattle.scan_multi.specs.declared.scan.fault.ScanFault.TheVariants as fault
 use Rattle.scan_multi.proofs.Causing.{causes}
-use Rattle.scan_multi.proofs.Chosen.{first_chosen}
-use Rattle.scan_multi.proofs.Chunking.{given_first, typed_chunks}
+use Rattle.scan_multi.proofs.Chunking.{items_given, typed_chunks}
 use Rattle.scan_multi.proofs.Complete.{complete}
 use Rattle.scan_multi.proofs.Faults.{faultless_good}
 use Rattle.scan_multi.proofs.Goods.{weaker}
 use Rattle.scan_multi.proofs.Meaning.{Means}
 use Rattle.scan_multi.proofs.Moving.{DriveMoves, each_moves, asks_named, polled_late, lawful_after}
 use Rattle.scan_multi.proofs.Polling.{Polls, asked_state, refused_by, admitted_by, splits_given}
-use Rattle.scan_multi.proofs.Requesting.{some_workers, none_plain}
-use Rattle.scan_multi.proofs.SplitChunks.{chunks_split}
+use Rattle.scan_multi.proofs.Requesting.{none_plain}
+use Rattle.scan_multi.proofs.SplitChunks.{chunks_split, chunks_whole}
 use Rattle.scan_multi.proofs.Telling.{IsLawful', tale, tale_is, lawful_drive}
-
--- in order or not, the first items of the answer are given
-choice_of : (d : DataType) (q : ScanRequest) (files : List ToldFile) (ordered : Bool) (items : List Item) → items ≡ limited q.limit (answer d q files) → IsGiven ordered q.limit (answer d q files) items
-choice_of d q files true items e = e
-choice_of d q files false items e = first_chosen d q files items e
 
 module _ {O S : Type 0} (opener : O → OpenerState) (source : S → SourceState) (workers : ℕ) (d : DataType) (q : ScanRequest) (a : FileAsk) (asks : AsksFor d q a) (means : Means d q a)
     (c c' : CacheState SegmentKey) (old new : List (ScanFile O S)) (none : first_request_fault workers d q ≡ None) where
@@ -57,12 +49,12 @@ module _ {O S : Type 0} (opener : O → OpenerState) (source : S → SourceState
   no-fault P = subst (λ o. IfSome o P) (sym none) tt
 
   -- ---- whatever is answered
-  pub scan_moved : DriveMoves opener source workers d q a asks c c' old new → PollsEnd (asked_state opener a) source row_items q.limit workers c old new
+  pub scan_moved : DriveMoves opener source workers d q a asks c c' old new → PollsEnd (asked_state opener a) source row_items q.limit q.ordered workers c old new
       → FilesTrade source old new c c' → CacheMoves source old new c c' → IfSome (ended_since c c') (LooksUpFirst source old new)
       → All (IsIdle opener source) old → All (IsIdle opener source) new → ScanMoves opener source workers d q old new c c'
   scan_moved m p t e l idle idle' = record {
     moves = each_moves opener source workers d q a asks c c' old new m p idle idle';
-    late = polled_late opener source workers d q a asks c c' old new m means p (some_workers workers d q none);
+    late = polled_late opener source workers d q a asks c c' old new m means p;
     count = m.len;
     idle = idle';
     named = asks_named opener source workers d q a asks c c' old new m means;
@@ -85,7 +77,7 @@ module _ {O S : Type 0} (opener : O → OpenerState) (source : S → SourceState
   refused_memory = refused-late fault.NoMemory tt
 
   pub refused_drive : (e : RoundFault FileFault)
-      → StopsDrive (asked_state opener a) (Polls opener a) (refused_by opener a) (admitted_by opener a) source row_items q.limit c old new e → IsRefusedFor opener source workers d q old new c c' (placed e)
+      → StopsDrive (asked_state opener a) (Polls opener a) (refused_by opener a) (admitted_by opener a) source row_items q.limit q.ordered c old new e → IsRefusedFor opener source workers d q old new c c' (placed e)
   refused_drive e h = refused-late (placed e) (causes opener source workers d q a asks means c old new none e h)
 
   -- ---- an answer
@@ -96,12 +88,9 @@ module _ {O S : Type 0} (opener : O → OpenerState) (source : S → SourceState
   good-at : (f g : ScanFile O S) → WasAdmitted (asked_state opener a) (Polls opener a) (admitted_by opener a) f g → Gives opener source (IsGood d q) f
   good-at f g (ws, w) = weaker (opener f.opener).gives (GivesSplits a ws) (IsGood d q) (goods ws) (splits_given opener a f.opener g.opener ws w)
 
-  module _ (chunks : List (Chunk RowsData)) (is : IsLawful' opener source a old c → drive_chunks.given row_items chunks ≡ drive.limited q.limit (drive.answer (tale opener source a old))) where
-    told-is : IsLawful opener source old c → drive_chunks.given row_items chunks ≡ drive.limited q.limit (drive.answer (map (tale_of a) (told opener source old)))
-    told-is l = is (lawful_drive opener source a old c l) ∙ ap (λ ts. drive.limited q.limit (drive.answer ts)) (tale_is opener source a old l.tells)
-
-    items-are : IsLawful opener source old c → IsGiven q.ordered q.limit (answer d q (told opener source old)) (given (map chunk_of chunks))
-    items-are l = choice_of d q (told opener source old) q.ordered (given (map chunk_of chunks)) (given_first d q a asks (told opener source old) chunks (told-is l))
+  module _ (chunks : List (Chunk RowsData)) (is : IsLawful' opener source a old c → IsAnswered q.ordered q.limit (tale opener source a old) (drive_chunks.given row_items chunks)) where
+    told-is : IsLawful opener source old c → IsAnswered q.ordered q.limit (map (tale_of a) (told opener source old)) (drive_chunks.given row_items chunks)
+    told-is l = subst (λ ts. IsAnswered q.ordered q.limit ts (drive_chunks.given row_items chunks)) (tale_is opener source a old l.tells) (is (lawful_drive opener source a old c l))
 
     pub scan_given : (report : ScanReport) → All (HasRow row_items) chunks → All IsEven (map chunk_of chunks)
         → (q.limit ≡ None → (k : ℕ) (f : ScanFile O S) → k < length old → WasAdmitted (asked_state opener a) (Polls opener a) (admitted_by opener a) (get_or old k f) (get_or new k f))
@@ -110,8 +99,12 @@ module _ {O S : Type 0} (opener : O → OpenerState) (source : S → SourceState
         → IsScan opener source workers d q old new c c' (record { chunks = map chunk_of chunks; report = report })
     scan_given report some even opened puts counts = record {
       types = none;
-      admits = λ l. record { chunks = typed_chunks d q a asks (told opener source old) chunks (told-is l) some even; items = items-are l };
-      chunks = λ l. chunks_split d q a asks (told opener source old) chunks (told-is l) some q.ordered;
+      admits = λ l. record {
+        chunks = typed_chunks d q a asks (told opener source old) q.ordered chunks (told-is l) some even;
+        items = items_given d q a asks (told opener source old) q.ordered chunks (told-is l);
+      };
+      chunks = λ l. chunks_split d q a asks (told opener source old) q.ordered chunks (told-is l) some;
+      whole = λ un all l. chunks_whole d q a asks (told opener source old) q.ordered q.limit chunks un all (told-is l) some;
       read = λ e k f lt. good-at (get_or old k f) (get_or new k f) (opened e k f lt);
       puts = puts;
       report = counts;

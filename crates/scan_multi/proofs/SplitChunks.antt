@@ -1,5 +1,5 @@
 -- The chunks of a scan are split where its files are.
-use Rattle.std.proofs.Common.{◌≡◌, ◌≢◌, Bool, List, [], ◌∷◌, ◌++◌, map, refl, sym, ap, ◌∙◌}
+use Rattle.std.proofs.Common.{◌≡◌, ◌≢◌, ℕ, Bool, true, false, true≢false, List, [], ◌∷◌, ◌++◌, IsPermutation, Option, None, Some, map, refl, sym, ap, subst, ◌∙◌}
 use Rattle.std.specs.Prelude.{All}
 use Rattle.std.proofs.lemmas.List.Elements.{All-head, All-tail}
 use Rattle.scan_values.specs.DataType.{DataType}
@@ -7,14 +7,16 @@ use Rattle.scan_expr.specs.declared.request.ScanRequest.{ScanRequest}
 use Rattle.scan_drive.specs.Chunks.{HasRow}
 use Rattle.scan_drive.specs.Chunks as drive_chunks
 use Rattle.scan_drive.specs.Files as drive
+use Rattle.scan_drive.specs.Line.{IsAnswered}
 use Rattle.scan_drive.specs.declared.delivery.Chunk.{Chunk}
 use Rattle.scan_file.specs.FileAsks.{FileAsk}
 use Rattle.scan_file.specs.FileRows.{RowsData, row_items}
-use Rattle.scan_multi.specs.Answer.{ToldFile}
+use Rattle.scan_multi.specs.Answer.{ToldFile, answer}
 use Rattle.scan_multi.specs.Asked.{AsksFor, tale_of}
-use Rattle.scan_multi.specs.Chunks.{AreSplits}
+use Rattle.scan_multi.specs.Chunks.{AreSplits, IsFrontOf, cut}
 use Rattle.scan_multi.specs.Output.{chunk_items}
 use Rattle.scan_multi.specs.Placed.{chunk_of}
+use Rattle.scan_multi.proofs.Arranged.{fronts_given, groups_given}
 use Rattle.scan_multi.proofs.Chunking.{chunks_clean, chunks_items, rows_items}
 use Rattle.scan_multi.proofs.Cuts.{given_splits, group_items}
 
@@ -32,8 +34,24 @@ group_by_group (c ∷ cs) some =
     let groups : drive_chunks.given row_items (c ∷ cs) ≡ (c.file, row_items c.rows) ∷ drive_chunks.given row_items cs = ap (λ gs. gs ++ drive_chunks.given row_items cs) (one_group c (row_items c.rows) row) in
     (λ z. sym (rows_items c.file (c.rows).values.dtype (c.rows).numbers (c.rows).values.items) z ∷ rest z) ∙ sym (ap (map group_items) groups)
 
--- chunks of the first rows of the answer are split where the files are
-pub chunks_split : (d : DataType) (q : ScanRequest) (a : FileAsk) → AsksFor d q a → (files : List ToldFile) (chunks : List (Chunk RowsData))
-    → drive_chunks.given row_items chunks ≡ drive.limited q.limit (drive.answer (map (tale_of a) files)) → All (HasRow row_items) chunks → (ordered : Bool) → AreSplits ordered d q files (map chunk_of chunks)
-chunks_split d q a asks files chunks is some ordered =
-    given_splits d q a asks files ordered q.limit (drive_chunks.given row_items chunks) (map chunk_of chunks) is (chunks_clean chunks) (group_by_group chunks some) (sym (chunks_items chunks))
+module _ (d : DataType) (q : ScanRequest) (a : FileAsk) (asks : AsksFor d q a) (files : List ToldFile) where
+  -- chunks of what a drive gives are split where the files are
+  pub chunks_split : (ordered : Bool) (chunks : List (Chunk RowsData)) → IsAnswered ordered q.limit (map (tale_of a) files) (drive_chunks.given row_items chunks) → All (HasRow row_items) chunks
+      → AreSplits ordered d q files (map chunk_of chunks)
+  chunks_split true chunks is some =
+      given_splits d q a asks files q.limit (drive_chunks.given row_items chunks) (map chunk_of chunks) is (chunks_clean chunks) (group_by_group chunks some) (sym (chunks_items chunks))
+  chunks_split false chunks is some =
+      subst (All (IsFrontOf (cut d q files (answer d q files)))) (sym (group_by_group chunks some))
+      (fronts_given d q a asks files q.limit (drive_chunks.given row_items chunks) is (chunks_clean chunks))
+
+  -- without an order and a limit they are the groups of the answer, each once
+  pub chunks_whole : (ordered : Bool) (limit : Option ℕ) (chunks : List (Chunk RowsData)) → ordered ≡ false → limit ≡ None → IsAnswered ordered limit (map (tale_of a) files) (drive_chunks.given row_items chunks)
+      → All (HasRow row_items) chunks → IsPermutation (map chunk_items (map chunk_of chunks)) (cut d q files (answer d q files))
+  chunks_whole true limit chunks un none is some = absurd (true≢false un)
+  chunks_whole false (Some n) chunks un none is some = absurd (some-not n none)
+    where
+      some-not : (n : ℕ) → ◌≡◌ {A = Option ℕ} (Some n) None → ⊥
+      some-not n e = cc
+  chunks_whole false None chunks un none is some =
+      subst (λ z. IsPermutation z (cut d q files (answer d q files))) (sym (group_by_group chunks some))
+      (groups_given d q a asks files (drive_chunks.given row_items chunks) is (chunks_clean chunks))

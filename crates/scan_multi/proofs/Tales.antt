@@ -13,11 +13,11 @@ use Rattle.scan_opener.specs.Opener.{Given, skip, layout_of}
 use Rattle.scan_drive.specs.Files as drive
 use Rattle.scan_drive.proofs.Cutting.{first_rows}
 use Rattle.scan_file.specs.FileAsks.{FileAsk}
-use Rattle.scan_file.specs.Openings.{layout_fault, lost_part, part_unless}
+use Rattle.scan_file.specs.Openings.{layout_fault, part_unless}
 use Rattle.scan_file.specs.Openings as opened
 use Rattle.scan_file.specs.Parts.{layout_part, picks, read_ranges, split_rows}
 use Rattle.scan_file.specs.declared.fault.FileFault.{FileFault}
-use Rattle.scan_multi.specs.Answer.{ToldFile, answer, answer_from, is_good, part_of, row_items}
+use Rattle.scan_multi.specs.Answer.{Item, ToldFile, answer, answer_from, is_good, part_of, row_items}
 use Rattle.scan_multi.specs.Asked.{AgreesTo, AreClean, AsksFor, ask_of, items_from, tale_of}
 use Rattle.scan_multi.specs.Output.{limited}
 use Rattle.scan_multi.proofs.Agreeing.{agrees_all, agrees_append, agrees_take}
@@ -31,7 +31,7 @@ flattened_grouped : (file : ℕ) (xs : List drive.Item) → drive.flattened (dri
 flattened_grouped file [] = refl
 flattened_grouped file (x ∷ xs) = append-nil (map (λ (y : drive.Item). (file, y)) (x ∷ xs))
 
-flattened_append : (gs hs : List (drive.Group drive.Item)) → drive.flattened (gs ++ hs) ≡ drive.flattened gs ++ drive.flattened hs
+pub flattened_append : (gs hs : List (drive.Group drive.Item)) → drive.flattened (gs ++ hs) ≡ drive.flattened gs ++ drive.flattened hs
 flattened_append gs hs = flat_map-append drive.placed gs hs
 
 module _ (d : DataType) (request : ScanRequest) (asks : AsksFor d request (ask_of d request)) where
@@ -61,7 +61,7 @@ module _ (d : DataType) (request : ScanRequest) (asks : AsksFor d request (ask_o
         subst (AgreesTo (drive.flattened (drive.part_over file (layout_part (ask_of d request) l) store))) (sym whole) (ranges_agree (read_ranges (ask_of d request) l))
 
   -- what a drive gives of a file
-  file_agrees : (file : ℕ) (f : ToldFile) → AgreesTo (drive.flattened (drive.part_groups file (tale_of (ask_of d request) f))) (part_of d request file f.store f.given)
+  pub file_agrees : (file : ℕ) (f : ToldFile) → AgreesTo (drive.flattened (drive.part_groups file (tale_of (ask_of d request) f))) (part_of d request file f.store f.given)
   file_agrees file f = go f.given
     where
       go : (g : Given) → AgreesTo (drive.flattened (drive.part_over file (opened.part_of (ask_of d request) g) f.store)) (part_of d request file f.store g)
@@ -80,6 +80,14 @@ module _ (d : DataType) (request : ScanRequest) (asks : AsksFor d request (ask_o
       (agrees_append (drive.flattened (drive.part_groups place (tale_of (ask_of d request) f))) (drive.flattened (drive.answer_from (place + 1) (map (tale_of (ask_of d request)) files)))
       (part_of d request place f.store f.given) (answer_from d request (place + 1) files) (file_agrees place f) (files_agree files (place + 1)))
 
+-- of groups that agree to items, the first that are clean are the first items
+pub limited_agree : (whole : List (drive.Group drive.Item)) (ms : List Item) → AgreesTo (drive.flattened whole) ms → (limit : Option ℕ) (gs : List (drive.Group drive.Item)) → gs ≡ drive.limited limit whole → AreClean (drive.flattened gs)
+    → items_from (drive.flattened gs) ≡ limited limit ms
+limited_agree whole ms h None gs e clean = agrees_all (drive.flattened gs) ms (subst (λ z. AgreesTo (drive.flattened z) ms) (sym e) h) clean
+limited_agree whole ms h (Some n) gs e clean =
+    let rows : drive.flattened gs ≡ take n (drive.flattened whole) = ap drive.flattened e ∙ first_rows n whole in
+    ap items_from rows ∙ agrees_take n (drive.flattened whole) ms h (subst AreClean rows clean)
+
 module _ (d : DataType) (request : ScanRequest) (a : FileAsk) (asks : AsksFor d request a) where
   -- what a drive gives of files is their answer, up to the first row that is not clean
   pub answers_agree : (files : List ToldFile) → AgreesTo (drive.flattened (drive.answer (map (tale_of a) files))) (answer d request files)
@@ -88,8 +96,4 @@ module _ (d : DataType) (request : ScanRequest) (a : FileAsk) (asks : AsksFor d 
   -- clean groups of a drive, as far as the limit allows, are the items that the limit allows
   pub given_limited : (files : List ToldFile) (limit : Option ℕ) (gs : List (drive.Group drive.Item)) → gs ≡ drive.limited limit (drive.answer (map (tale_of a) files)) → AreClean (drive.flattened gs)
       → items_from (drive.flattened gs) ≡ limited limit (answer d request files)
-  given_limited files None gs e clean =
-      agrees_all (drive.flattened gs) (answer d request files) (subst (λ z. AgreesTo (drive.flattened z) (answer d request files)) (sym e) (answers_agree files)) clean
-  given_limited files (Some n) gs e clean =
-      let rows : drive.flattened gs ≡ take n (drive.flattened (drive.answer (map (tale_of a) files))) = ap drive.flattened e ∙ first_rows n (drive.answer (map (tale_of a) files)) in
-      ap items_from rows ∙ agrees_take n (drive.flattened (drive.answer (map (tale_of a) files))) (answer d request files) (answers_agree files) (subst AreClean rows clean)
+  given_limited files limit gs e clean = limited_agree (drive.answer (map (tale_of a) files)) (answer d request files) (answers_agree files) limit gs e clean

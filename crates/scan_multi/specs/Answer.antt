@@ -65,6 +65,7 @@ is_within (Some range) rows = nat_le range.end rows
 abbrev pub is_good : DataType → ScanRequest → Layout → Bool
 is_good d request l = is_none (first_fault l d) && is_within request.row_range (rows_of l)
 
+-- the items that a row of a file gives: one or none
 abbrev pub row_items : DataType → ScanRequest → ℕ → Layout → Store → ℕ → List Item
 row_items d request file l store i = map (λ v. record { file = file; row = i; value = v }) (item_of d request i (row_value l store i))
 
@@ -81,5 +82,6 @@ abbrev pub answer_from : DataType → ScanRequest → ℕ → List ToldFile → 
 answer_from d request place [] = []
 answer_from d request place (f ∷ fs) = part_of d request place f.store f.given ++ answer_from d request (place + 1) fs
 
+-- the row-by-row answer: the rows of all files, in their order
 abbrev pub answer : DataType → ScanRequest → List ToldFile → List Item
 answer d request files = answer_from d request 0 files

@@ -35,9 +35,11 @@ clean_value m = cond (is_clean m) (Some (read_marked m)) None
 abbrev pub Row : Type 0
 Row = ℕ × drive.Item
 
+-- the item of the answer that a row of a drive is
 abbrev pub item_from : Row → Item
 item_from x = record { file = x.0; row = x.1.0; value = clean_value x.1.1.1 }
 
+-- the items that rows of a drive are
 abbrev pub items_from : List Row → List Item
 items_from = map item_from
 
@@ -47,6 +49,7 @@ AreClean [] = Unit {0}
 AreClean (x ∷ xs) = (is_clean x.1.1.1 ≡ true) × AreClean xs
 
 -- ---- up to the first row that is not clean
+-- items begin with this one, and this holds of the others
 abbrev pub Starts : Item → (List Item → Type 0) → List Item → Type 0
 Starts item P [] = ⊥
 Starts item P (m ∷ ms) = (m ≡ item) × P ms

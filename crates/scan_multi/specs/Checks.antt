@@ -33,6 +33,7 @@ abbrev pub EndsPast : DataType → ScanRequest → Given → Type 0
 EndsPast d request skip = ⊥
 EndsPast d request (layout_of l) = (first_fault l d ≡ None) × (is_within request.row_range (rows_of l) ≡ false)
 
+-- how many rows an opener gives
 abbrev pub rows_given : Given → ℕ
 rows_given skip = 0
 rows_given (layout_of l) = rows_of l

@@ -14,6 +14,7 @@ use Rattle.scan_multi.specs.Output.{ChunkData, chunk_items, given}
 abbrev pub splits_of : DataType → ScanRequest → Layout → List ℕ
 splits_of d request l = edges l (field_masks d request) (range_from request.row_range) (range_to request.row_range (rows_of l))
 
+-- where the rows of what an opener gives are split: nowhere, where it skips
 abbrev pub splits_in : DataType → ScanRequest → Given → List ℕ
 splits_in d request skip = []
 splits_in d request (layout_of l) = splits_of d request l
@@ -32,6 +33,7 @@ join_first same x [] = (x ∷ []) ∷ []
 join_first same x ([] ∷ groups) = (x ∷ []) ∷ groups
 join_first same x ((y ∷ ys) ∷ groups) = if same x y then (x ∷ y ∷ ys) ∷ groups else (x ∷ []) ∷ (y ∷ ys) ∷ groups
 
+-- neighbours that are alike, together
 abbrev pub grouped : (Item → Item → Bool) → List Item → List (List Item)
 grouped same [] = []
 grouped same (x ∷ xs) = join_first same x (grouped same xs)

@@ -9,9 +9,11 @@ use Rattle.scan_multi.specs.Traffic.{KeepsContent}
 use Rattle.scan_drive.specs.declared.files.ScanFile.{ScanFile}
 
 module _ {O S : Type 0} (opener : O → OpenerState) (source : S → SourceState) where
+  -- what the opener and the source of a file tell
   abbrev pub told_file : ScanFile O S → ToldFile
   told_file f = record { given = unwrap_or (opener f.opener).gives skip; store = unwrap_or (source f.source).holds (λ id. None) }
 
+  -- what those of each file tell
   abbrev pub told : List (ScanFile O S) → List ToldFile
   told files = map told_file files
 

@@ -26,6 +26,7 @@ masks_of length_alone = [] ∷ []
 masks_of (fields names) = map (λ n. n ∷ []) names
 masks_of (at name k) = map (λ mask. name ∷ mask) (masks_of k)
 
+-- the same names in the same order
 abbrev pub same_mask : MaskPath → MaskPath → Bool
 same_mask [] [] = true
 same_mask (m ∷ ms) (n ∷ ns) = bytes_eq m n && same_mask ms ns
@@ -40,13 +41,16 @@ distinct_masks (m ∷ ms) = m ∷ filter (λ n. not (same_mask m n)) (distinct_m
 abbrev pub expressions : ScanRequest → List Expr
 expressions request = request.projection ∷ filter_conjuncts request.filter
 
+-- the paths of the fields that a request reads, each once
 abbrev pub field_masks : DataType → ScanRequest → List MaskPath
 field_masks d request = distinct_masks (flat_map masks_of (flat_map (λ e. uses d e whole) (expressions request)))
 
+-- the first row of a range
 abbrev pub range_from : Option (Range ℕ) → ℕ
 range_from None = 0
 range_from (Some range) = range.start
 
+-- the row at which a range ends, within so many rows
 abbrev pub range_to : Option (Range ℕ) → ℕ → ℕ
 range_to None rows = rows
 range_to (Some range) rows = min range.end rows
@@ -70,6 +74,7 @@ unfoldable pub places_in : DataType → ScanRequest → Layout → Store → Lis
 places_in d request l store =
     filter (λ p. needed_by d (expressions request) p.path) (flat_map (λ span. touched l store span.0 span.1) (read_spans d request l))
 
+-- each number once, in order of first appearance
 abbrev pub distinct : List ℕ → List ℕ
 distinct [] = []
 distinct (n ∷ ns) = n ∷ filter (λ k. not (k == n)) (distinct ns)

@@ -15,20 +15,24 @@ pub record ChunkData : Type 0 where
   pub rows : List ℕ
   pub values : ArrayData
 
+-- how a chunk is kept
 abbrev pub chunk_code : Coded ChunkData
 chunk_code =
     code_by (ℕ × (List ℕ × ArrayData)) (coded× coded_ℕ (coded× (coded_list coded_ℕ) array_code)) (λ c. (c.file, (c.rows, c.values))) (λ p. record { file = p.0; rows = p.1.0; values = p.1.1 }) (λ _. refl)
 
+-- the chunks of a scan, and its report
 pub record OutputData : Type 0 where
   pub chunks : List ChunkData
   pub report : ScanReport
 
+-- how they are kept
 abbrev pub output_code : Coded OutputData
 output_code =
     code_by (List ChunkData × (ℕ × (ℕ × (ℕ × ℕ)))) (coded× (coded_list chunk_code) (coded× coded_ℕ (coded× coded_ℕ (coded× coded_ℕ coded_ℕ))))
     (λ o. (o.chunks, (o.report.wants, (o.report.hits, (o.report.shared, o.report.asks)))))
     (λ p. record { chunks = p.0; report = record { wants = p.1.0; hits = p.1.1.0; shared = p.1.1.1.0; asks = p.1.1.1.1 } }) (λ _. refl)
 
+-- the rows that a chunk gives
 abbrev pub chunk_items : ChunkData → List Item
 chunk_items chunk = map (λ r. record { file = chunk.file; row = r.0; value = Some r.1 }) (zip chunk.rows chunk.values.items)
 
@@ -47,6 +51,7 @@ abbrev pub limited : Option ℕ → List Item → List Item
 limited None items = items
 limited (Some n) items = take n items
 
+-- the file of an item, and its row
 abbrev pub place_of : Item → ℕ × ℕ
 place_of item = (item.file, item.row)
 

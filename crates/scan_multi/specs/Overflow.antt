@@ -15,6 +15,7 @@ use Rattle.scan_opener.specs.Opener.{Given, skip, layout_of}
 use Rattle.scan_multi.specs.Answer.{is_good}
 use Rattle.scan_multi.specs.Named.{read_spans}
 
+-- a value of a conjunct is true
 abbrev pub is_true : Marked → Bool
 is_true lost = false
 is_true null = false

@@ -13,11 +13,13 @@ use Rattle.scan_multi.specs.declared.scan.fault.RangeFault.TheVariants.{Reversed
 use Rattle.scan_multi.specs.declared.scan.fault.ScanFault.{ScanFault}
 use Rattle.scan_multi.specs.declared.scan.fault.ScanFault.TheVariants as fault
 
+-- each row is selected
 abbrev pub is_all : Selection → Bool
 is_all All = true
 is_all (IncludeByIndex rows) = false
 is_all (ExcludeByIndex rows) = false
 
+-- partitions are not restricted
 abbrev pub has_no_partitions : ScanRequest → Bool
 has_no_partitions request = is_none request.partition_range && is_all request.partition_selection
 
@@ -26,10 +28,12 @@ abbrev pub is_forward : Option (Range ℕ) → Bool
 is_forward None = true
 is_forward (Some range) = nat_le range.start range.end
 
+-- this fault, unless the test passes
 abbrev pub unless : Bool → ScanFault → Option ScanFault
 unless true f = None
 unless false f = Some f
 
+-- the first fault of two
 abbrev pub or_else : Option ScanFault → Option ScanFault → Option ScanFault
 or_else None later = later
 or_else (Some f) later = Some f
@@ -39,6 +43,7 @@ abbrev pub bound_fault : BindFault → ScanFault
 bound_fault bind.NoMemory = fault.NoMemory
 bound_fault f = fault.Bind f
 
+-- a fault of typing, as one of a scan
 abbrev pub of_bind : Fault → Option ScanFault
 of_bind None = None
 of_bind (Some f) = Some (fault.Bind f)

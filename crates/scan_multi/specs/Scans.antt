@@ -1,5 +1,5 @@
 -- What a scan of files does: what an answer of it means, why it is refused, and what it leaves.
-use Rattle.std.specs.Prelude.{◌≡◌, ◌≢◌, ℕ, List, None, IfSome, All, length}
+use Rattle.std.specs.Prelude.{◌≡◌, ◌≢◌, ℕ, List, false, None, IfSome, All, IsPermutation, length, map}
 use Rattle.scan_values.specs.DataType.{DataType}
 use Rattle.scan_expr.specs.declared.request.ScanRequest.{ScanRequest}
 use Rattle.scan_segments.specs.Source.{SourceState}
@@ -9,11 +9,11 @@ use Rattle.scan_opener.specs.Opener.{OpenerState}
 use Rattle.scan_multi.specs.Answer.{answer}
 use Rattle.scan_multi.specs.Causes.{HasCause}
 use Rattle.scan_multi.specs.Checks.{IsGood}
-use Rattle.scan_multi.specs.Chunks.{AreSplits}
+use Rattle.scan_multi.specs.Chunks.{AreSplits, cut}
 use Rattle.scan_multi.specs.Late.{ArePolledLate}
 use Rattle.scan_multi.specs.Lawful.{told, IsLawful, IsIdle, Gives}
 use Rattle.scan_multi.specs.Moves.{EachMoves, EachAsksNamed}
-use Rattle.scan_multi.specs.Output.{OutputData, Admits}
+use Rattle.scan_multi.specs.Output.{OutputData, Admits, chunk_items}
 use Rattle.scan_multi.specs.Request.{first_plain_fault, first_request_fault}
 use Rattle.scan_drive.specs.Traffic.{ended_since, asked_keys, CacheMoves, IsReport, LooksUpFirst, PutsWhatItAsked}
 use Rattle.scan_multi.specs.Valid.{IsValid, NoneFailed}
@@ -32,6 +32,9 @@ module _ {O S : Type 0} (opener : O → OpenerState) (source : S → SourceState
     pub admits : IsLawful opener source old cache → Admits d request (answer d request (told opener source old)) out.chunks
     -- over lawful objects: chunks split by split
     pub chunks : IsLawful opener source old cache → AreSplits request.ordered d request (told opener source old) out.chunks
+    -- in an unordered scan without a limit, over lawful objects: the chunks are the groups of the answer, each once
+    pub whole : request.ordered ≡ false → request.limit ≡ None → IsLawful opener source old cache
+        → IsPermutation (map chunk_items out.chunks) (cut d request (told opener source old) (answer d request (told opener source old)))
     -- without a limit: each file is skipped or of a good layout, as far as its opener tells
     pub read : request.limit ≡ None → All (Gives opener source (IsGood d request)) old
     -- without a limit, where the cache tells its events: no key was put more often than it was asked for, and what came was put

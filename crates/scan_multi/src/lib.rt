@@ -1,10 +1,8 @@
 //! The top call over files: a scan of their rows under a request.
 #![tactic(auto)]
 
-mod gate;
 mod scan;
 
-pub use gate::{Gate, NoGate};
 pub use scan::{RangeFault, ScanChunk, ScanFault, ScanOutput, scan_files};
-pub use scan_drive::{ScanFile, ScanReport};
+pub use scan_drive::{Gate, NoGate, ScanFile, ScanReport};
 pub use scan_opener::{BoxedFactory, LayoutReaderFactory, MemoryOpener, Opening};

@@ -4,11 +4,10 @@ ghost use Rattle.scan_drive.specs.Chunks.{HasRoom};
 ghost use Rattle.scan_multi.specs.Lawful.{IsIdle};
 ghost use Rattle.scan_multi.specs.Scans.{IsScan, IsRefusedFor, ScanMoves};
 
-use crate::gate::Gate;
 use crate::scan::fault::{ScanFault, placed};
 use crate::scan::output::{ScanOutput, chunks_of};
 use crate::scan::request::check_request;
-use scan_drive::{ScanFile, drive_files};
+use scan_drive::{Gate, ScanFile, drive_files};
 use scan_expr::ScanRequest;
 use scan_opener::LayoutReaderFactory;
 use scan_segments::{KeyedSegmentCache, SegmentSource};
@@ -27,34 +26,40 @@ fn has_room(limit: Option<u64>) -> bool
     }
 }
 
-/// Scans files: their rows in a range and a selection at which a filter is true, in the order of the files and of their
-/// rows, up to a limit, and of each the value of a projection. An unordered request is served in the same order.
+/// Scans files: their rows in a range and a selection at which a filter is true, up to a limit, and of each the value
+/// of a projection. An ordered request is served in the order of the files and of their rows. An unordered one is
+/// served as files open, so that a file that is slow to open does not hold back those behind it: it is promised any
+/// rows of the answer, as many as the limit allows and none twice, chunk by chunk.
 ///
 /// The request is checked first. A limit of 0 asks for nothing, and no file is touched. Else openers are polled: those
-/// of as many files as there are workers, from the first file on whose rows are not all given. Each layout that one
-/// gives is checked. A file that is skipped has no rows. The rows of a file are read split by split, of those splits
-/// that have a selected row: one conjunct of the filter after the other, and then the projection at the rows that are
-/// left. Four splits for each worker are read at once, all on the calling thread.
+/// of the first files whose rows are not all given, as many as there are workers. Each layout that one gives is
+/// checked. A file that is skipped has no rows. The rows of a file are read split by split, of those splits that have a
+/// selected row: one conjunct of the filter after the other, and then the projection at the rows that are left. Four
+/// splits for each worker are read at once. Those of them that wait for nothing are polled in one phase, divided in equal
+/// parts among at most as many threads as there are workers, which are joined; each worker passes the gate before its
+/// first split of a phase. Where a thread can't be made the caller polls its part. Openers, sources and the cache are
+/// called by the caller alone.
 ///
 /// What a split reads of a segment is wanted when it is needed. Each want is looked up in the cache first, by a lookup
 /// of its own that is polled to its end. What is not there is asked of the file's source, once for all wants that come
 /// while it is live, and what comes is put into the cache. A fault of the cache is a miss, and no answer of a put
-/// changes what the scan gives. No request is live after any answer. The gate is not called yet.
+/// changes what the scan gives. No request is live after any answer.
 ///
 /// # Errors
 /// `Concurrency` where there are no workers, `Partitions` where the request restricts them, `RowRange(Reversed)` where
 /// the range starts after its end, and `Bind` where the projection or the filter does not type over the dtype: exactly
 /// the first of these in this order, before any file is touched. Want of memory may come in place of `Bind` alone.
 ///
-/// Each other fault is of a file, and comes only by its cause; over lawful objects only once all rows of the files
-/// before it were given, fewer than the limit. `Opener` and `Source`: the count of faults of that opener or source rose
-/// in this call, and the segment was asked in it. `DTypeMismatch`: the opener gives a layout of another dtype. `Layout`:
-/// it gives one of the dtype that is not well-formed, and this is its first fault. `RowRange(Past)`: the range ends past
-/// the rows of one that is. `TooManyRows`: with its rows there are more than a u64 counts. No segment of the file was
-/// asked before these four. `Corrupt`: a file of that source name was asked for the segment in this call, or the cache
-/// kept it before; over lawful objects it may be asked, and it is missing or damaged. `Overflow`: over lawful objects an
-/// expression overflows at a row that is read. `NoMemory` may come in place of any answer but the first three faults; it
-/// alone comes of a valid scan of lawful objects where no count of faults rose.
+/// Each other fault is of a file, and comes only by its cause; in an ordered scan of lawful objects only once all rows
+/// of the files before it were given, fewer than the limit. `Opener` and `Source`: the count of faults of that opener
+/// or source rose in this call, and the segment was asked in it. `DTypeMismatch`: the opener gives a layout of another
+/// dtype. `Layout`: it gives one of the dtype that is not well-formed, and this is its first fault. `RowRange(Past)`:
+/// the range ends past the rows of one that is. `TooManyRows`: with its rows, and with those of the files that were
+/// read before it, there are more than a u64 counts. No segment of the file was asked before these four. `Corrupt`: a
+/// file of that source name was asked for the segment in this call, or the cache kept it before; over lawful objects it
+/// may be asked, and it is missing or damaged. `Overflow`: over lawful objects an expression overflows at a row that is
+/// read. `NoMemory` may come in place of any answer but the first three faults; it alone comes of a valid scan of
+/// lawful objects where no count of faults rose.
 #[tactic(none)]
 pub fn scan_files<
     R: Threads + Sync,
@@ -84,7 +89,17 @@ pub fn scan_files<
     if !has_room(request.limit) {
         return Ok(ScanOutput::empty(alloc));
     }
-    match drive_files(alloc, &ask, files, cache, workers, request.limit) {
+    match drive_files(
+        rt,
+        alloc,
+        gate,
+        &ask,
+        files,
+        cache,
+        workers,
+        request.limit,
+        request.ordered,
+    ) {
         Ok(output) => Ok(ScanOutput {
             chunks: chunks_of(alloc, output.chunks)?,
             report: output.report,

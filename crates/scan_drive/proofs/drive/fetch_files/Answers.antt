@@ -82,7 +82,7 @@ returns-in_err-fetch-clause-trades g c =
     (files_set source files k x y (cache c.loop-k.cache) (cache c.fetch.new.cache) klt c.index_mut-file.ensures.value refl c.fetch.ensures.source.holds c.fetch.ensures.trades)
 
 pub fetch-requires-clause-links : goal.fetch-requires-clause-links
-fetch-requires-clause-links g c =
+fetch-requires-clause-links g c κs lives =
     let inv = c.loop-k.invariant in
     let k = c.loop-k.k in
     let slots : List (Slot g.row.W.Denot g.row.W-Rows.Denot) = c.loop-k.slots.items in

@@ -1,23 +1,32 @@
-use Rattle.std.proofs.Common.{◌≡◌, ◌∙◌, ℕ, List, Option, length, ap, refl, subst, arith}
-use Rattle.std.proofs.lemmas.List.{length-map}
-use Rattle.scan_drive.specs.Before.{SoundInOrder, StopsBefore}
-use Rattle.scan_drive.specs.Drives.{NoneOf}
+use Rattle.std.proofs.Common.{◌≡◌, ◌<◌, ◌∙◌, ℕ, List, length, get_or, ap, refl, sym, subst, arith}
+use Rattle.std.specs.List.Sorted.{SwapsInRange}
+use Rattle.std.specs.Prelude.{All, IfOk, IfErr, IfSome, OnOk, None, true}
+use Rattle.scan_drive.specs.Accounts.{RunEnds}
+use Rattle.scan_drive.specs.Before.{StopsBefore}
+use Rattle.scan_drive.specs.Chunks.{given, HasRoom}
+use Rattle.scan_drive.specs.Drives.{IsIdle}
+use Rattle.scan_drive.specs.Drivings.{WasAdmitted, PollsEnd, StopsDrive}
 use Rattle.scan_drive.specs.Ends.{limit_in}
 use Rattle.scan_drive.specs.Files.{answer, limited}
-use Rattle.scan_drive.specs.Moves.{tell, tells}
-use Rattle.scan_drive.specs.Polls.{PollsOn}
-use Rattle.scan_drive.specs.Rounds.{IsLawful, Sound}
+use Rattle.scan_drive.specs.Forward.{LinePolls}
+use Rattle.scan_drive.specs.Grounds.{At}
+use Rattle.scan_drive.specs.Line.{exchanged, restored}
+use Rattle.scan_drive.specs.Moves.{EachMoves, tells}
+use Rattle.scan_drive.specs.Rounds.{IsLawful}
 use Rattle.scan_drive.specs.Runnings.{Starts}
-use Rattle.scan_drive.specs.Trades.{CacheAgrees}
+use Rattle.scan_drive.specs.Trades.{FilesTrade}
+use Rattle.scan_drive.specs.Traffic.{asked_keys, ended_since, CacheMoves, IsReport, LooksUpFirst, PutsWhatItAsked}
 use Rattle.scan_drive.specs.declared.files.ScanFile.{ScanFile}
 use Rattle.scan_drive.specs.declared.round.Drive.{Drive}
-use Rattle.scan_drive.proofs.Moving.{moves_none, each_then, each_under, each_sources}
-use Rattle.scan_drive.proofs.Ordering.{rises_none}
+use Rattle.scan_drive.proofs.Driven.{line_rest, moves_back, out_then, out_report, out_some, out_answer, out_fault}
+use Rattle.scan_drive.proofs.DrivenBack.{back_report, back_puts}
+use Rattle.scan_drive.proofs.Exchanging.{length_exchanged, length_restored}
+use Rattle.scan_drive.proofs.ExchangedBack.{back_trade, back_idle, back_each}
+use Rattle.scan_drive.proofs.LinePolls.{polls_back}
+use Rattle.scan_drive.proofs.Moving.{moves_none}
 use Rattle.scan_drive.proofs.Reckoning.{SameNames, ends_cache, ends_lookups}
-use Rattle.scan_drive.proofs.Starting.{starts_grounded, starts_stands, starts_linked, starts_sound, starts_limit, starts_rows, closed_trade, ledger_all, driven_report, driven_puts, polls_self}
-use Rattle.scan_drive.proofs.Stopping.{stops_drive}
-use Rattle.scan_drive.proofs.Tracing.{ground_closed, admitted_closed}
-use Rattle.scan_drive.proofs.Tracking.{on_rest, polls_end}
+use Rattle.scan_drive.proofs.Starting.{starts_limit, closed_trade, ledger_all, polls_self}
+use Rattle.scan_drive.proofs.Tracing.{admitted_closed}
 use Rattle.scan_drive.proofs.Trading.{files_self, files_then}
 use Rattle.scan_drive.proofs.driving.drive_files.Goals as goal
 
@@ -29,8 +38,7 @@ returns-in_default-clause-moves g c =
     let cache = g.C.KeyedSegmentCache.cache in
     let a : List (ScanFile g.row.O.Denot g.row.S.Denot) = c.args.files.now.items in
     let c0 = cache c.args.cache.now in
-    let law = IsLawful state source a c0 in
-    moves_none state polls source law a
+    moves_none state polls source (IsLawful state source a c0) a
 
 pub returns-in_default-clause-trades : goal.returns-in_default-clause-trades
 returns-in_default-clause-trades g c =
@@ -65,7 +73,8 @@ returns-in_default-clause-polls g c =
     let a : List (ScanFile g.row.O.Denot g.row.S.Denot) = c.args.files.now.items in
     let c0 = cache c.args.cache.now in
     let limit = c.args.limit in
-    polls_self state source items limit c.args.workers c0 a
+    let ordered = c.args.ordered in
+    polls_self state source items limit ordered c.args.workers c0 a
 
 pub returns-in_default-start-clause-moves : goal.returns-in_default-start-clause-moves
 returns-in_default-start-clause-moves g c =
@@ -75,8 +84,7 @@ returns-in_default-start-clause-moves g c =
     let cache = g.C.KeyedSegmentCache.cache in
     let a : List (ScanFile g.row.O.Denot g.row.S.Denot) = c.args.files.now.items in
     let c0 = cache c.args.cache.now in
-    let law = IsLawful state source a c0 in
-    moves_none state polls source law a
+    moves_none state polls source (IsLawful state source a c0) a
 
 pub returns-in_default-start-clause-trades : goal.returns-in_default-start-clause-trades
 returns-in_default-start-clause-trades g c =
@@ -111,162 +119,72 @@ returns-in_default-start-clause-polls g c =
     let a : List (ScanFile g.row.O.Denot g.row.S.Denot) = c.args.files.now.items in
     let c0 = cache c.args.cache.now in
     let limit = c.args.limit in
-    polls_self state source items limit c.args.workers c0 a
+    let ordered = c.args.ordered in
+    polls_self state source items limit ordered c.args.workers c0 a
 
-pub run_rounds-done-requires-clause-stands : goal.run_rounds-done-requires-clause-stands
-run_rounds-done-requires-clause-stands g c =
+pub run_rounds-done-requires-clause-starts : goal.run_rounds-done-requires-clause-starts
+run_rounds-done-requires-clause-starts g c κs lives =
     let a : List (ScanFile g.row.O.Denot g.row.S.Denot) = c.args.files.now.items in
+    let limit = c.args.limit in
     let d0 : Drive g.row.W.Denot g.row.W-Rows.Denot g.row.F.Denot = c.in-Ok-start.drive in
     let n = length a in
-    let limit = c.args.limit in
     let count : c.len.result ≡ n = omega (arith, c.len.ensures) in
     let starts : Starts n limit d0 = subst (λ k. Starts k limit d0) count c.in-Ok-start.ensures in
-    starts_stands n limit d0 starts c.requires.limit
+    subst (λ l. Starts n l d0) (sym starts.left) starts
 
-pub run_rounds-done-requires-clause-links : goal.run_rounds-done-requires-clause-links
-run_rounds-done-requires-clause-links g c =
-    let source = g.S.SegmentSource.state in
+pub run_rounds-done-requires-clause-room : goal.run_rounds-done-requires-clause-room
+run_rounds-done-requires-clause-room g c κs lives =
     let a : List (ScanFile g.row.O.Denot g.row.S.Denot) = c.args.files.now.items in
+    let limit = c.args.limit in
     let d0 : Drive g.row.W.Denot g.row.W-Rows.Denot g.row.F.Denot = c.in-Ok-start.drive in
     let n = length a in
-    let limit = c.args.limit in
     let count : c.len.result ≡ n = omega (arith, c.len.ensures) in
     let starts : Starts n limit d0 = subst (λ k. Starts k limit d0) count c.in-Ok-start.ensures in
-    starts_linked n limit d0 starts source a c.in-Ok.desks.items c.requires.idle c.in-Ok.ensures
+    subst HasRoom (sym starts.left) c.requires.limit
 
-pub returns-in-Ok-done-clause-moves : goal.returns-in-Ok-done-clause-moves
-returns-in-Ok-done-clause-moves g c =
-    let state = g.X.SplitOpener.state c.args.context.now in
-    let polls = g.X.SplitOpener.polls in
-    let source = g.S.SegmentSource.state in
-    let cache = g.C.KeyedSegmentCache.cache in
-    let split = g.W.SplitWork.split in
-    let comes = g.W.SplitWork.comes in
-    let items = g.W.SplitWork.items in
+pub put_back-requires : goal.put_back-requires
+put_back-requires g c =
     let a : List (ScanFile g.row.O.Denot g.row.S.Denot) = c.args.files.now.items in
     let b : List (ScanFile g.row.O.Denot g.row.S.Denot) = c.run_rounds-done.new.files.items in
     let e : List (ScanFile g.row.O.Denot g.row.S.Denot) = c.close_all.new.files.items in
-    let d0 : Drive g.row.W.Denot g.row.W-Rows.Denot g.row.F.Denot = c.in-Ok-start.drive in
-    let c0 = cache c.args.cache.now in
-    let n = length a in
-    let limit = c.args.limit in
-    let count : c.len.result ≡ n = omega (arith, c.len.ensures) in
-    let starts : Starts n limit d0 = subst (λ k. Starts k limit d0) count c.in-Ok-start.ensures in
+    let log = c.run_rounds-done.new.exchanges.items in
     let r = c.run_rounds-done.ensures in
     let close = c.close_all.ensures in
-    let tale = tells state source a in
-    let If = CacheAgrees source a c0 × Sound split comes items tale d0 in
-    let law = IsLawful state source a c0 in
-    let sound : Sound split comes items tale d0 = starts_sound n limit d0 starts split comes items tale (length-map a (tell state source)) in
-    let moves = each_then state polls source law a b e (each_under state polls source If law (λ h. (h.cache, sound)) a b r.moves)
-    (each_sources state polls source law NoneOf b e close.moves (λ k id f may h. absurd may)) in
-    moves
+    let long_b : length b ≡ length a = r.moves.len ∙ length_exchanged log a in
+    let long : length e ≡ length a = close.moves.len ∙ long_b in
+    subst (λ m. SwapsInRange m log) (sym long) r.places
 
-pub returns-in-Ok-done-clause-trades : goal.returns-in-Ok-done-clause-trades
-returns-in-Ok-done-clause-trades g c =
-    let source = g.S.SegmentSource.state in
-    let cache = g.C.KeyedSegmentCache.cache in
+pub give_output-requires-clause-places : goal.give_output-requires-clause-places
+give_output-requires-clause-places g c κs lives =
     let a : List (ScanFile g.row.O.Denot g.row.S.Denot) = c.args.files.now.items in
     let b : List (ScanFile g.row.O.Denot g.row.S.Denot) = c.run_rounds-done.new.files.items in
     let e : List (ScanFile g.row.O.Denot g.row.S.Denot) = c.close_all.new.files.items in
-    let c0 = cache c.args.cache.now in
-    let c1 = cache c.run_rounds-done.new.cache in
+    let log = c.run_rounds-done.new.exchanges.items in
     let r = c.run_rounds-done.ensures in
     let close = c.close_all.ensures in
-    let trades = files_then source a b e c0 c1 c1 r.trades (closed_trade source b e c1 close.moves (close.ledger c1)) in
-    trades
+    let long_b : length b ≡ length a = r.moves.len ∙ length_exchanged log a in
+    let long : length e ≡ length a = close.moves.len ∙ long_b in
+    let z : List (ScanFile g.row.O.Denot g.row.S.Denot) = restored log e in
+    let back : c.put_back.new.files.items ≡ z = c.put_back.ensures in
+    let l = c.len-2.ensures in
+    let k = length_restored log e in
+    let same = ap length back in
+    subst (λ m. SwapsInRange m log) (omega (arith, l, k, same, long, c.put_back.new.files.ok.0)) r.places
 
-pub returns-in-Ok-done-clause-cache : goal.returns-in-Ok-done-clause-cache
-returns-in-Ok-done-clause-cache g c =
-    let state = g.X.SplitOpener.state c.args.context.now in
-    let polls = g.X.SplitOpener.polls in
+pub returns-clause-idle : goal.returns-clause-idle
+returns-clause-idle g c =
     let source = g.S.SegmentSource.state in
-    let cache = g.C.KeyedSegmentCache.cache in
-    let split = g.W.SplitWork.split in
-    let comes = g.W.SplitWork.comes in
-    let items = g.W.SplitWork.items in
     let a : List (ScanFile g.row.O.Denot g.row.S.Denot) = c.args.files.now.items in
     let b : List (ScanFile g.row.O.Denot g.row.S.Denot) = c.run_rounds-done.new.files.items in
     let e : List (ScanFile g.row.O.Denot g.row.S.Denot) = c.close_all.new.files.items in
-    let d0 : Drive g.row.W.Denot g.row.W-Rows.Denot g.row.F.Denot = c.in-Ok-start.drive in
-    let c0 = cache c.args.cache.now in
-    let c1 = cache c.run_rounds-done.new.cache in
-    let n = length a in
-    let limit = c.args.limit in
-    let count : c.len.result ≡ n = omega (arith, c.len.ensures) in
-    let starts : Starts n limit d0 = subst (λ k. Starts k limit d0) count c.in-Ok-start.ensures in
+    let log = c.run_rounds-done.new.exchanges.items in
     let r = c.run_rounds-done.ensures in
     let close = c.close_all.ensures in
-    let tale = tells state source a in
-    let If = CacheAgrees source a c0 × Sound split comes items tale d0 in
-    let law = IsLawful state source a c0 in
-    let sound : Sound split comes items tale d0 = starts_sound n limit d0 starts split comes items tale (length-map a (tell state source)) in
-    let moves = each_then state polls source law a b e (each_under state polls source If law (λ h. (h.cache, sound)) a b r.moves)
-    (each_sources state polls source law NoneOf b e close.moves (λ k id f may h. absurd may)) in
-    let trades = files_then source a b e c0 c1 c1 r.trades (closed_trade source b e c1 close.moves (close.ledger c1)) in
-    let names : SameNames source a e = λ k f. (moves.at k f).name in
-    let ledger = ledger_all source a e c0 c1 c.requires.idle trades in
-    ends_cache source a e c0 c1 names ledger
-
-pub returns-in-Ok-done-clause-lookups : goal.returns-in-Ok-done-clause-lookups
-returns-in-Ok-done-clause-lookups g c =
-    let state = g.X.SplitOpener.state c.args.context.now in
-    let polls = g.X.SplitOpener.polls in
-    let source = g.S.SegmentSource.state in
-    let cache = g.C.KeyedSegmentCache.cache in
-    let split = g.W.SplitWork.split in
-    let comes = g.W.SplitWork.comes in
-    let items = g.W.SplitWork.items in
-    let a : List (ScanFile g.row.O.Denot g.row.S.Denot) = c.args.files.now.items in
-    let b : List (ScanFile g.row.O.Denot g.row.S.Denot) = c.run_rounds-done.new.files.items in
-    let e : List (ScanFile g.row.O.Denot g.row.S.Denot) = c.close_all.new.files.items in
-    let d0 : Drive g.row.W.Denot g.row.W-Rows.Denot g.row.F.Denot = c.in-Ok-start.drive in
-    let c0 = cache c.args.cache.now in
-    let c1 = cache c.run_rounds-done.new.cache in
-    let n = length a in
-    let limit = c.args.limit in
-    let count : c.len.result ≡ n = omega (arith, c.len.ensures) in
-    let starts : Starts n limit d0 = subst (λ k. Starts k limit d0) count c.in-Ok-start.ensures in
-    let r = c.run_rounds-done.ensures in
-    let close = c.close_all.ensures in
-    let tale = tells state source a in
-    let If = CacheAgrees source a c0 × Sound split comes items tale d0 in
-    let law = IsLawful state source a c0 in
-    let sound : Sound split comes items tale d0 = starts_sound n limit d0 starts split comes items tale (length-map a (tell state source)) in
-    let moves = each_then state polls source law a b e (each_under state polls source If law (λ h. (h.cache, sound)) a b r.moves)
-    (each_sources state polls source law NoneOf b e close.moves (λ k id f may h. absurd may)) in
-    let trades = files_then source a b e c0 c1 c1 r.trades (closed_trade source b e c1 close.moves (close.ledger c1)) in
-    let names : SameNames source a e = λ k f. (moves.at k f).name in
-    let ledger = ledger_all source a e c0 c1 c.requires.idle trades in
-    ends_lookups source a e c0 c1 names ledger
-
-pub returns-in-Ok-done-clause-polls : goal.returns-in-Ok-done-clause-polls
-returns-in-Ok-done-clause-polls g c =
-    let state = g.X.SplitOpener.state c.args.context.now in
-    let source = g.S.SegmentSource.state in
-    let cache = g.C.KeyedSegmentCache.cache in
-    let split = g.W.SplitWork.split in
-    let comes = g.W.SplitWork.comes in
-    let items = g.W.SplitWork.items in
-    let a : List (ScanFile g.row.O.Denot g.row.S.Denot) = c.args.files.now.items in
-    let b : List (ScanFile g.row.O.Denot g.row.S.Denot) = c.run_rounds-done.new.files.items in
-    let e : List (ScanFile g.row.O.Denot g.row.S.Denot) = c.close_all.new.files.items in
-    let d0 : Drive g.row.W.Denot g.row.W-Rows.Denot g.row.F.Denot = c.in-Ok-start.drive in
-    let c0 = cache c.args.cache.now in
-    let n = length a in
-    let limit = c.args.limit in
-    let count : c.len.result ≡ n = omega (arith, c.len.ensures) in
-    let starts : Starts n limit d0 = subst (λ k. Starts k limit d0) count c.in-Ok-start.ensures in
-    let r = c.run_rounds-done.ensures in
-    let close = c.close_all.ensures in
-    let tale = tells state source a in
-    let sound : Sound split comes items tale d0 = starts_sound n limit d0 starts split comes items tale (length-map a (tell state source)) in
-    let limit_is = starts_limit n limit d0 starts split comes items in
-    let order = rises_none d0.first d0.active.turns.items d0.active.slots.items starts.turns in
-    let Late = CacheAgrees source a c0 × SoundInOrder split comes items tale d0 in
-    polls_end state source items c.args.workers limit c0 Late d0.phases.items a e starts.shut (λ h. (h.cache, (h.tell, sound, order)))
-    (subst (λ (l : Option ℕ). PollsOn state items c.args.workers l tale Late d0.phases.items a e) limit_is
-    (on_rest state items c.args.workers (limit_in split comes items d0) tale Late d0.phases.items a b e close.moves.opener r.polls))
+    let long_b : length b ≡ length a = r.moves.len ∙ length_exchanged log a in
+    let long : length e ≡ length a = close.moves.len ∙ long_b in
+    let z : List (ScanFile g.row.O.Denot g.row.S.Denot) = restored log e in
+    let back : c.put_back.new.files.items ≡ z = c.put_back.ensures in
+    subst (λ (xs : List (ScanFile g.row.O.Denot g.row.S.Denot)). All (IsIdle source) xs) (sym back) (back_idle log a r.places e long source close.idle)
 
 pub returns-clause-moves : goal.returns-clause-moves
 returns-clause-moves g c =
@@ -274,41 +192,37 @@ returns-clause-moves g c =
     let polls = g.X.SplitOpener.polls in
     let source = g.S.SegmentSource.state in
     let cache = g.C.KeyedSegmentCache.cache in
-    let split = g.W.SplitWork.split in
-    let comes = g.W.SplitWork.comes in
     let items = g.W.SplitWork.items in
     let a : List (ScanFile g.row.O.Denot g.row.S.Denot) = c.args.files.now.items in
+    let c0 = cache c.args.cache.now in
     let b : List (ScanFile g.row.O.Denot g.row.S.Denot) = c.run_rounds-done.new.files.items in
     let e : List (ScanFile g.row.O.Denot g.row.S.Denot) = c.close_all.new.files.items in
-    let d0 : Drive g.row.W.Denot g.row.W-Rows.Denot g.row.F.Denot = c.in-Ok-start.drive in
-    let c0 = cache c.args.cache.now in
-    let n = length a in
-    let limit = c.args.limit in
-    let count : c.len.result ≡ n = omega (arith, c.len.ensures) in
-    let starts : Starts n limit d0 = subst (λ k. Starts k limit d0) count c.in-Ok-start.ensures in
+    let log = c.run_rounds-done.new.exchanges.items in
     let r = c.run_rounds-done.ensures in
     let close = c.close_all.ensures in
-    let tale = tells state source a in
-    let If = CacheAgrees source a c0 × Sound split comes items tale d0 in
-    let law = IsLawful state source a c0 in
-    let sound : Sound split comes items tale d0 = starts_sound n limit d0 starts split comes items tale (length-map a (tell state source)) in
-    let moves = each_then state polls source law a b e (each_under state polls source If law (λ h. (h.cache, sound)) a b r.moves)
-    (each_sources state polls source law NoneOf b e close.moves (λ k id f may h. absurd may)) in
-    moves
+    let z : List (ScanFile g.row.O.Denot g.row.S.Denot) = restored log e in
+    let back : c.put_back.new.files.items ≡ z = c.put_back.ensures in
+    let moves : EachMoves state polls source (IsLawful state source a c0) a z = moves_back state source items polls c0 log a b e r.places r.moves close.moves in
+    subst (λ (xs : List (ScanFile g.row.O.Denot g.row.S.Denot)). EachMoves state polls source (IsLawful state source a c0) a xs) (sym back) (moves)
 
 pub returns-clause-trades : goal.returns-clause-trades
 returns-clause-trades g c =
     let source = g.S.SegmentSource.state in
     let cache = g.C.KeyedSegmentCache.cache in
     let a : List (ScanFile g.row.O.Denot g.row.S.Denot) = c.args.files.now.items in
+    let c0 = cache c.args.cache.now in
     let b : List (ScanFile g.row.O.Denot g.row.S.Denot) = c.run_rounds-done.new.files.items in
     let e : List (ScanFile g.row.O.Denot g.row.S.Denot) = c.close_all.new.files.items in
-    let c0 = cache c.args.cache.now in
     let c1 = cache c.run_rounds-done.new.cache in
+    let log = c.run_rounds-done.new.exchanges.items in
     let r = c.run_rounds-done.ensures in
     let close = c.close_all.ensures in
-    let trades = files_then source a b e c0 c1 c1 r.trades (closed_trade source b e c1 close.moves (close.ledger c1)) in
-    trades
+    let long_b : length b ≡ length a = r.moves.len ∙ length_exchanged log a in
+    let long : length e ≡ length a = close.moves.len ∙ long_b in
+    let z : List (ScanFile g.row.O.Denot g.row.S.Denot) = restored log e in
+    let back : c.put_back.new.files.items ≡ z = c.put_back.ensures in
+    let trades : FilesTrade source a z c0 c1 = back_trade log a r.places e long source c0 c1 (files_then source (exchanged log a) b e c0 c1 c1 r.trades (closed_trade source b e c1 close.moves (close.ledger c1))) in
+    subst (λ (xs : List (ScanFile g.row.O.Denot g.row.S.Denot)). FilesTrade source a xs c0 c1) (sym back) (trades)
 
 pub returns-clause-cache : goal.returns-clause-cache
 returns-clause-cache g c =
@@ -316,31 +230,24 @@ returns-clause-cache g c =
     let polls = g.X.SplitOpener.polls in
     let source = g.S.SegmentSource.state in
     let cache = g.C.KeyedSegmentCache.cache in
-    let split = g.W.SplitWork.split in
-    let comes = g.W.SplitWork.comes in
     let items = g.W.SplitWork.items in
     let a : List (ScanFile g.row.O.Denot g.row.S.Denot) = c.args.files.now.items in
+    let c0 = cache c.args.cache.now in
     let b : List (ScanFile g.row.O.Denot g.row.S.Denot) = c.run_rounds-done.new.files.items in
     let e : List (ScanFile g.row.O.Denot g.row.S.Denot) = c.close_all.new.files.items in
-    let d0 : Drive g.row.W.Denot g.row.W-Rows.Denot g.row.F.Denot = c.in-Ok-start.drive in
-    let c0 = cache c.args.cache.now in
     let c1 = cache c.run_rounds-done.new.cache in
-    let n = length a in
-    let limit = c.args.limit in
-    let count : c.len.result ≡ n = omega (arith, c.len.ensures) in
-    let starts : Starts n limit d0 = subst (λ k. Starts k limit d0) count c.in-Ok-start.ensures in
+    let log = c.run_rounds-done.new.exchanges.items in
     let r = c.run_rounds-done.ensures in
     let close = c.close_all.ensures in
-    let tale = tells state source a in
-    let If = CacheAgrees source a c0 × Sound split comes items tale d0 in
-    let law = IsLawful state source a c0 in
-    let sound : Sound split comes items tale d0 = starts_sound n limit d0 starts split comes items tale (length-map a (tell state source)) in
-    let moves = each_then state polls source law a b e (each_under state polls source If law (λ h. (h.cache, sound)) a b r.moves)
-    (each_sources state polls source law NoneOf b e close.moves (λ k id f may h. absurd may)) in
-    let trades = files_then source a b e c0 c1 c1 r.trades (closed_trade source b e c1 close.moves (close.ledger c1)) in
-    let names : SameNames source a e = λ k f. (moves.at k f).name in
-    let ledger = ledger_all source a e c0 c1 c.requires.idle trades in
-    ends_cache source a e c0 c1 names ledger
+    let long_b : length b ≡ length a = r.moves.len ∙ length_exchanged log a in
+    let long : length e ≡ length a = close.moves.len ∙ long_b in
+    let z : List (ScanFile g.row.O.Denot g.row.S.Denot) = restored log e in
+    let back : c.put_back.new.files.items ≡ z = c.put_back.ensures in
+    let moves : EachMoves state polls source (IsLawful state source a c0) a z = moves_back state source items polls c0 log a b e r.places r.moves close.moves in
+    let trades : FilesTrade source a z c0 c1 = back_trade log a r.places e long source c0 c1 (files_then source (exchanged log a) b e c0 c1 c1 r.trades (closed_trade source b e c1 close.moves (close.ledger c1))) in
+    let names : SameNames source a z = λ k f. (moves.at k f).name in
+    let ledger = ledger_all source a z c0 c1 c.requires.idle trades in
+    subst (λ (xs : List (ScanFile g.row.O.Denot g.row.S.Denot)). CacheMoves source a xs c0 c1) (sym back) (ends_cache source a z c0 c1 names ledger)
 
 pub returns-clause-lookups : goal.returns-clause-lookups
 returns-clause-lookups g c =
@@ -348,168 +255,178 @@ returns-clause-lookups g c =
     let polls = g.X.SplitOpener.polls in
     let source = g.S.SegmentSource.state in
     let cache = g.C.KeyedSegmentCache.cache in
-    let split = g.W.SplitWork.split in
-    let comes = g.W.SplitWork.comes in
     let items = g.W.SplitWork.items in
     let a : List (ScanFile g.row.O.Denot g.row.S.Denot) = c.args.files.now.items in
+    let c0 = cache c.args.cache.now in
     let b : List (ScanFile g.row.O.Denot g.row.S.Denot) = c.run_rounds-done.new.files.items in
     let e : List (ScanFile g.row.O.Denot g.row.S.Denot) = c.close_all.new.files.items in
-    let d0 : Drive g.row.W.Denot g.row.W-Rows.Denot g.row.F.Denot = c.in-Ok-start.drive in
-    let c0 = cache c.args.cache.now in
     let c1 = cache c.run_rounds-done.new.cache in
-    let n = length a in
-    let limit = c.args.limit in
-    let count : c.len.result ≡ n = omega (arith, c.len.ensures) in
-    let starts : Starts n limit d0 = subst (λ k. Starts k limit d0) count c.in-Ok-start.ensures in
+    let log = c.run_rounds-done.new.exchanges.items in
     let r = c.run_rounds-done.ensures in
     let close = c.close_all.ensures in
-    let tale = tells state source a in
-    let If = CacheAgrees source a c0 × Sound split comes items tale d0 in
-    let law = IsLawful state source a c0 in
-    let sound : Sound split comes items tale d0 = starts_sound n limit d0 starts split comes items tale (length-map a (tell state source)) in
-    let moves = each_then state polls source law a b e (each_under state polls source If law (λ h. (h.cache, sound)) a b r.moves)
-    (each_sources state polls source law NoneOf b e close.moves (λ k id f may h. absurd may)) in
-    let trades = files_then source a b e c0 c1 c1 r.trades (closed_trade source b e c1 close.moves (close.ledger c1)) in
-    let names : SameNames source a e = λ k f. (moves.at k f).name in
-    let ledger = ledger_all source a e c0 c1 c.requires.idle trades in
-    ends_lookups source a e c0 c1 names ledger
+    let long_b : length b ≡ length a = r.moves.len ∙ length_exchanged log a in
+    let long : length e ≡ length a = close.moves.len ∙ long_b in
+    let z : List (ScanFile g.row.O.Denot g.row.S.Denot) = restored log e in
+    let back : c.put_back.new.files.items ≡ z = c.put_back.ensures in
+    let moves : EachMoves state polls source (IsLawful state source a c0) a z = moves_back state source items polls c0 log a b e r.places r.moves close.moves in
+    let trades : FilesTrade source a z c0 c1 = back_trade log a r.places e long source c0 c1 (files_then source (exchanged log a) b e c0 c1 c1 r.trades (closed_trade source b e c1 close.moves (close.ledger c1))) in
+    let names : SameNames source a z = λ k f. (moves.at k f).name in
+    let ledger = ledger_all source a z c0 c1 c.requires.idle trades in
+    subst (λ (xs : List (ScanFile g.row.O.Denot g.row.S.Denot)). IfSome (ended_since c0 c1) (LooksUpFirst source a xs)) (sym back) (ends_lookups source a z c0 c1 names ledger)
 
 pub returns-clause-polls : goal.returns-clause-polls
 returns-clause-polls g c =
     let state = g.X.SplitOpener.state c.args.context.now in
     let source = g.S.SegmentSource.state in
     let cache = g.C.KeyedSegmentCache.cache in
-    let split = g.W.SplitWork.split in
-    let comes = g.W.SplitWork.comes in
     let items = g.W.SplitWork.items in
     let a : List (ScanFile g.row.O.Denot g.row.S.Denot) = c.args.files.now.items in
+    let c0 = cache c.args.cache.now in
+    let limit = c.args.limit in
+    let ordered = c.args.ordered in
     let b : List (ScanFile g.row.O.Denot g.row.S.Denot) = c.run_rounds-done.new.files.items in
     let e : List (ScanFile g.row.O.Denot g.row.S.Denot) = c.close_all.new.files.items in
     let d0 : Drive g.row.W.Denot g.row.W-Rows.Denot g.row.F.Denot = c.in-Ok-start.drive in
-    let c0 = cache c.args.cache.now in
+    let log = c.run_rounds-done.new.exchanges.items in
     let n = length a in
-    let limit = c.args.limit in
     let count : c.len.result ≡ n = omega (arith, c.len.ensures) in
     let starts : Starts n limit d0 = subst (λ k. Starts k limit d0) count c.in-Ok-start.ensures in
     let r = c.run_rounds-done.ensures in
     let close = c.close_all.ensures in
-    let tale = tells state source a in
-    let sound : Sound split comes items tale d0 = starts_sound n limit d0 starts split comes items tale (length-map a (tell state source)) in
-    let limit_is = starts_limit n limit d0 starts split comes items in
-    let order = rises_none d0.first d0.active.turns.items d0.active.slots.items starts.turns in
-    let Late = CacheAgrees source a c0 × SoundInOrder split comes items tale d0 in
-    polls_end state source items c.args.workers limit c0 Late d0.phases.items a e starts.shut (λ h. (h.cache, (h.tell, sound, order)))
-    (subst (λ (l : Option ℕ). PollsOn state items c.args.workers l tale Late d0.phases.items a e) limit_is
-    (on_rest state items c.args.workers (limit_in split comes items d0) tale Late d0.phases.items a b e close.moves.opener r.polls))
+    let long_b : length b ≡ length a = r.moves.len ∙ length_exchanged log a in
+    let long : length e ≡ length a = close.moves.len ∙ long_b in
+    let z : List (ScanFile g.row.O.Denot g.row.S.Denot) = restored log e in
+    let back : c.put_back.new.files.items ≡ z = c.put_back.ensures in
+    subst (λ (xs : List (ScanFile g.row.O.Denot g.row.S.Denot)). PollsEnd state source items limit ordered c.args.workers c0 a xs) (sym back)
+    (polls_back state source items ordered c.args.workers limit c0 log a e long r.places r.order (line_rest state source items ordered c.args.workers limit c0 a log b e close.moves.opener
+    (subst (λ o. LinePolls state source items ordered c.args.workers o c0 a log b) starts.left r.polls)))
 
-pub returns-in-Ok-done-clause-report : goal.returns-in-Ok-done-clause-report
-returns-in-Ok-done-clause-report g c =
+pub returns-clause-some : goal.returns-clause-some
+returns-clause-some g c =
+    let items = g.W.SplitWork.items in
+    let d1 : Drive g.row.W.Denot g.row.W-Rows.Denot g.row.F.Denot = c.run_rounds-done.new.drive in
+    let log = c.run_rounds-done.new.exchanges.items in
+    let r = c.run_rounds-done.ensures in
+    let done = c.run_rounds-done.result in
+    let out = c.give_output.result in
+    let gives = c.give_output.ensures in
+    out_some d1.chunks.items d1.report log done out items gives.ok r.some
+
+pub returns-clause-answer : goal.returns-clause-answer
+returns-clause-answer g c =
+    let state = g.X.SplitOpener.state c.args.context.now in
+    let source = g.S.SegmentSource.state in
+    let cache = g.C.KeyedSegmentCache.cache in
+    let items = g.W.SplitWork.items in
+    let a : List (ScanFile g.row.O.Denot g.row.S.Denot) = c.args.files.now.items in
+    let c0 = cache c.args.cache.now in
+    let limit = c.args.limit in
+    let ordered = c.args.ordered in
+    let d0 : Drive g.row.W.Denot g.row.W-Rows.Denot g.row.F.Denot = c.in-Ok-start.drive in
+    let d1 : Drive g.row.W.Denot g.row.W-Rows.Denot g.row.F.Denot = c.run_rounds-done.new.drive in
+    let log = c.run_rounds-done.new.exchanges.items in
+    let n = length a in
+    let count : c.len.result ≡ n = omega (arith, c.len.ensures) in
+    let starts : Starts n limit d0 = subst (λ k. Starts k limit d0) count c.in-Ok-start.ensures in
+    let r = c.run_rounds-done.ensures in
+    let done = c.run_rounds-done.result in
+    let out = c.give_output.result in
+    let gives = c.give_output.ensures in
+    out_answer d1.chunks.items d1.report log done out state source items limit ordered c0 a r.order r.places gives.ok (subst (λ o. OnOk done (IsLawful state source (exchanged log a) c0 → given items d1.chunks.items ≡ limited o (answer (tells state source (exchanged log a))))) starts.left
+    r.done)
+
+pub returns-clause-report : goal.returns-clause-report
+returns-clause-report g c =
     let source = g.S.SegmentSource.state in
     let cache = g.C.KeyedSegmentCache.cache in
     let split = g.W.SplitWork.split in
     let comes = g.W.SplitWork.comes in
     let items = g.W.SplitWork.items in
     let a : List (ScanFile g.row.O.Denot g.row.S.Denot) = c.args.files.now.items in
+    let c0 = cache c.args.cache.now in
+    let limit = c.args.limit in
     let b : List (ScanFile g.row.O.Denot g.row.S.Denot) = c.run_rounds-done.new.files.items in
     let e : List (ScanFile g.row.O.Denot g.row.S.Denot) = c.close_all.new.files.items in
     let d0 : Drive g.row.W.Denot g.row.W-Rows.Denot g.row.F.Denot = c.in-Ok-start.drive in
     let d1 : Drive g.row.W.Denot g.row.W-Rows.Denot g.row.F.Denot = c.run_rounds-done.new.drive in
-    let c0 = cache c.args.cache.now in
     let c1 = cache c.run_rounds-done.new.cache in
     let desks = c.run_rounds-done.new.desks.items in
+    let log = c.run_rounds-done.new.exchanges.items in
     let n = length a in
-    let limit = c.args.limit in
     let count : c.len.result ≡ n = omega (arith, c.len.ensures) in
     let starts : Starts n limit d0 = subst (λ k. Starts k limit d0) count c.in-Ok-start.ensures in
     let r = c.run_rounds-done.ensures in
     let close = c.close_all.ensures in
-    driven_report source (limit_in split comes items d0) a b e desks c0 c1 d0 d1 c.requires.idle (λ k f. (r.moves.at k f).name) starts.report c.in-Ok-done.ensures.balance r.moves.len close.moves
+    let z : List (ScanFile g.row.O.Denot g.row.S.Denot) = restored log e in
+    let back : c.put_back.new.files.items ≡ z = c.put_back.ensures in
+    let done = c.run_rounds-done.result in
+    let out = c.give_output.result in
+    let gives = c.give_output.ensures in
+    subst (λ (xs : List (ScanFile g.row.O.Denot g.row.S.Denot)). IfOk out (λ o. IsReport (length (asked_keys source a xs)) (ended_since c0 c1) o.report)) (sym back)
+    (out_report d1.chunks.items d1.report log done out (RunEnds source (limit_in split comes items d0) (exchanged log a) b desks c0 c1 d0 d1) (λ p. IsReport (length (asked_keys source a z)) (ended_since c0 c1) p) gives.ok r.balance
+    (λ k. back_report source log a r.places (limit_in split comes items d0) b e desks c0 c1 d0 d1 c.requires.idle (λ k f. (r.moves.at k f).name) starts.report k r.moves.len close.moves))
 
-pub returns-in-Ok-done-clause-puts : goal.returns-in-Ok-done-clause-puts
-returns-in-Ok-done-clause-puts g c none =
-    let state = g.X.SplitOpener.state c.args.context.now in
-    let polls = g.X.SplitOpener.polls in
+pub returns-clause-puts : goal.returns-clause-puts
+returns-clause-puts g c =
     let source = g.S.SegmentSource.state in
     let cache = g.C.KeyedSegmentCache.cache in
     let split = g.W.SplitWork.split in
     let comes = g.W.SplitWork.comes in
     let items = g.W.SplitWork.items in
     let a : List (ScanFile g.row.O.Denot g.row.S.Denot) = c.args.files.now.items in
+    let c0 = cache c.args.cache.now in
+    let limit = c.args.limit in
     let b : List (ScanFile g.row.O.Denot g.row.S.Denot) = c.run_rounds-done.new.files.items in
     let e : List (ScanFile g.row.O.Denot g.row.S.Denot) = c.close_all.new.files.items in
     let d0 : Drive g.row.W.Denot g.row.W-Rows.Denot g.row.F.Denot = c.in-Ok-start.drive in
     let d1 : Drive g.row.W.Denot g.row.W-Rows.Denot g.row.F.Denot = c.run_rounds-done.new.drive in
-    let c0 = cache c.args.cache.now in
     let c1 = cache c.run_rounds-done.new.cache in
     let desks = c.run_rounds-done.new.desks.items in
+    let log = c.run_rounds-done.new.exchanges.items in
     let n = length a in
-    let limit = c.args.limit in
     let count : c.len.result ≡ n = omega (arith, c.len.ensures) in
     let starts : Starts n limit d0 = subst (λ k. Starts k limit d0) count c.in-Ok-start.ensures in
     let r = c.run_rounds-done.ensures in
     let close = c.close_all.ensures in
-    let tale = tells state source a in
-    let If = CacheAgrees source a c0 × Sound split comes items tale d0 in
-    let law = IsLawful state source a c0 in
-    let sound : Sound split comes items tale d0 = starts_sound n limit d0 starts split comes items tale (length-map a (tell state source)) in
-    let limit_is = starts_limit n limit d0 starts split comes items in
-    let moves = each_then state polls source law a b e (each_under state polls source If law (λ h. (h.cache, sound)) a b r.moves)
-    (each_sources state polls source law NoneOf b e close.moves (λ k id f may h. absurd may)) in
-    let names : SameNames source a e = λ k f. (moves.at k f).name in
-    driven_puts source (limit_in split comes items d0) a b e desks c0 c1 d0 d1 c.requires.idle (λ k f. (r.moves.at k f).name) starts.report c.in-Ok-done.ensures.balance r.moves.len close.moves
-    names r.agree close.awaited close.balance close.idle (limit_is ∙ none)
+    let z : List (ScanFile g.row.O.Denot g.row.S.Denot) = restored log e in
+    let back : c.put_back.new.files.items ≡ z = c.put_back.ensures in
+    let done = c.run_rounds-done.result in
+    let out = c.give_output.result in
+    let gives = c.give_output.ensures in
+    let lim = starts_limit n limit d0 starts split comes items in
+    subst (λ (xs : List (ScanFile g.row.O.Denot g.row.S.Denot)). IfOk out (λ o. limit ≡ None → IfSome (ended_since c0 c1) (PutsWhatItAsked source a xs c0 c1))) (sym back)
+    (out_then d1.chunks.items d1.report log done out (RunEnds source (limit_in split comes items d0) (exchanged log a) b desks c0 c1 d0 d1) (limit ≡ None → IfSome (ended_since c0 c1) (PutsWhatItAsked source a z c0 c1)) gives.ok r.balance
+    (λ k none. back_puts source log a r.places (limit_in split comes items d0) b e desks c0 c1 d0 d1 c.requires.idle (λ k f. (r.moves.at k f).name) starts.report k r.moves.len close.moves r.agree close.awaited close.balance close.idle (lim ∙ none)))
 
-pub returns-in-Ok-done-clause-answer : goal.returns-in-Ok-done-clause-answer
-returns-in-Ok-done-clause-answer g c h =
-    let state = g.X.SplitOpener.state c.args.context.now in
-    let source = g.S.SegmentSource.state in
-    let split = g.W.SplitWork.split in
-    let comes = g.W.SplitWork.comes in
-    let items = g.W.SplitWork.items in
-    let a : List (ScanFile g.row.O.Denot g.row.S.Denot) = c.args.files.now.items in
-    let d0 : Drive g.row.W.Denot g.row.W-Rows.Denot g.row.F.Denot = c.in-Ok-start.drive in
-    let n = length a in
-    let limit = c.args.limit in
-    let count : c.len.result ≡ n = omega (arith, c.len.ensures) in
-    let starts : Starts n limit d0 = subst (λ k. Starts k limit d0) count c.in-Ok-start.ensures in
-    let tale = tells state source a in
-    let sound : Sound split comes items tale d0 = starts_sound n limit d0 starts split comes items tale (length-map a (tell state source)) in
-    let limit_is = starts_limit n limit d0 starts split comes items in
-    c.in-Ok-done.ensures.done h.cache h.tell sound ∙ ap (λ l. limited l (answer tale)) limit_is
-
-pub returns-in-Ok-done-clause-some : goal.returns-in-Ok-done-clause-some
-returns-in-Ok-done-clause-some g c =
-    let items = g.W.SplitWork.items in
-    let a : List (ScanFile g.row.O.Denot g.row.S.Denot) = c.args.files.now.items in
-    let d0 : Drive g.row.W.Denot g.row.W-Rows.Denot g.row.F.Denot = c.in-Ok-start.drive in
-    let n = length a in
-    let limit = c.args.limit in
-    let count : c.len.result ≡ n = omega (arith, c.len.ensures) in
-    let starts : Starts n limit d0 = subst (λ k. Starts k limit d0) count c.in-Ok-start.ensures in
-    c.in-Ok-done.ensures.some (starts_rows n limit d0 starts items)
-
-pub returns-in-Ok-done-clause-opened : goal.returns-in-Ok-done-clause-opened
-returns-in-Ok-done-clause-opened g c none k f lt =
+pub returns-clause-opened : goal.returns-clause-opened
+returns-clause-opened g c =
     let state = g.X.SplitOpener.state c.args.context.now in
     let polls = g.X.SplitOpener.polls in
     let admits = g.X.SplitOpener.admits c.args.context.now in
     let source = g.S.SegmentSource.state in
-    let cache = g.C.KeyedSegmentCache.cache in
-    let split = g.W.SplitWork.split in
-    let comes = g.W.SplitWork.comes in
-    let items = g.W.SplitWork.items in
     let a : List (ScanFile g.row.O.Denot g.row.S.Denot) = c.args.files.now.items in
+    let limit = c.args.limit in
     let b : List (ScanFile g.row.O.Denot g.row.S.Denot) = c.run_rounds-done.new.files.items in
     let e : List (ScanFile g.row.O.Denot g.row.S.Denot) = c.close_all.new.files.items in
     let d0 : Drive g.row.W.Denot g.row.W-Rows.Denot g.row.F.Denot = c.in-Ok-start.drive in
-    let c0 = cache c.args.cache.now in
+    let d1 : Drive g.row.W.Denot g.row.W-Rows.Denot g.row.F.Denot = c.run_rounds-done.new.drive in
+    let log = c.run_rounds-done.new.exchanges.items in
     let n = length a in
-    let limit = c.args.limit in
     let count : c.len.result ≡ n = omega (arith, c.len.ensures) in
     let starts : Starts n limit d0 = subst (λ k. Starts k limit d0) count c.in-Ok-start.ensures in
-    let grounded = starts_grounded n limit d0 starts state polls admits source split comes items a c0 c.requires.idle refl in
+    let r = c.run_rounds-done.ensures in
     let close = c.close_all.ensures in
-    admitted_closed state polls admits source a k b e close.moves (c.in-Ok-done.ensures.opened a c0 grounded (starts.left ∙ none) k lt) f
+    let long_b : length b ≡ length a = r.moves.len ∙ length_exchanged log a in
+    let long : length e ≡ length a = close.moves.len ∙ long_b in
+    let z : List (ScanFile g.row.O.Denot g.row.S.Denot) = restored log e in
+    let back : c.put_back.new.files.items ≡ z = c.put_back.ensures in
+    let done = c.run_rounds-done.result in
+    let out = c.give_output.result in
+    let gives = c.give_output.ensures in
+    subst (λ (xs : List (ScanFile g.row.O.Denot g.row.S.Denot)). IfOk out (λ o. limit ≡ None → (k : ℕ) (f : ScanFile g.row.O.Denot g.row.S.Denot) → k < length a → WasAdmitted state polls admits (get_or a k f) (get_or xs k f))) (sym back)
+    (out_then d1.chunks.items d1.report log done out (d0.left ≡ None → (k : ℕ) → k < length a → At (exchanged log a) b (WasAdmitted state polls admits) k)
+    (limit ≡ None → (k : ℕ) (f : ScanFile g.row.O.Denot g.row.S.Denot) → k < length a → WasAdmitted state polls admits (get_or a k f) (get_or z k f)) gives.ok r.opened
+    (λ o none k f lt. back_each log a r.places e long (WasAdmitted state polls admits) (λ j h less. admitted_closed state polls admits source (exchanged log a) j b e close.moves (o (starts.left ∙ none) j (let l = length_exchanged log a in omega (arith, l, less))) h) k f lt))
 
 pub returns-clause-fault : goal.returns-clause-fault
 returns-clause-fault g c =
@@ -523,22 +440,25 @@ returns-clause-fault g c =
     let comes = g.W.SplitWork.comes in
     let items = g.W.SplitWork.items in
     let a : List (ScanFile g.row.O.Denot g.row.S.Denot) = c.args.files.now.items in
+    let c0 = cache c.args.cache.now in
+    let limit = c.args.limit in
+    let ordered = c.args.ordered in
     let b : List (ScanFile g.row.O.Denot g.row.S.Denot) = c.run_rounds-done.new.files.items in
     let e : List (ScanFile g.row.O.Denot g.row.S.Denot) = c.close_all.new.files.items in
     let d0 : Drive g.row.W.Denot g.row.W-Rows.Denot g.row.F.Denot = c.in-Ok-start.drive in
     let d1 : Drive g.row.W.Denot g.row.W-Rows.Denot g.row.F.Denot = c.run_rounds-done.new.drive in
-    let c0 = cache c.args.cache.now in
+    let log = c.run_rounds-done.new.exchanges.items in
     let n = length a in
-    let limit = c.args.limit in
     let count : c.len.result ≡ n = omega (arith, c.len.ensures) in
     let starts : Starts n limit d0 = subst (λ k. Starts k limit d0) count c.in-Ok-start.ensures in
-    let grounded = starts_grounded n limit d0 starts state polls admits source split comes items a c0 c.requires.idle refl in
+    let r = c.run_rounds-done.ensures in
     let close = c.close_all.ensures in
-    let tale = tells state source a in
-    let sound : Sound split comes items tale d0 = starts_sound n limit d0 starts split comes items tale (length-map a (tell state source)) in
-    let limit_is = starts_limit n limit d0 starts split comes items in
-    let order = rises_none d0.first d0.active.turns.items d0.active.slots.items starts.turns in
-    let fault = c.in-Err.fault in
-    stops_drive state polls refuses admits source split comes items limit c0 a b e d0 d1 starts.shut close.moves.opener sound fault
-    (λ h. subst (λ (l : Option ℕ). StopsBefore items l tale fault) limit_is (c.in-Err.ensures.before h.cache (h.tell, sound, order)))
-    (ground_closed state polls admits source a c0 b e fault close.moves (c.in-Err.ensures.ends a c0 grounded)) c.in-Err.ensures.fault
+    let long_b : length b ≡ length a = r.moves.len ∙ length_exchanged log a in
+    let z : List (ScanFile g.row.O.Denot g.row.S.Denot) = restored log e in
+    let back : c.put_back.new.files.items ≡ z = c.put_back.ensures in
+    let done = c.run_rounds-done.result in
+    let out = c.give_output.result in
+    let gives = c.give_output.ensures in
+    subst (λ (xs : List (ScanFile g.row.O.Denot g.row.S.Denot)). IfErr out (StopsDrive state polls refuses admits source items limit ordered c0 a xs)) (sym back)
+    (out_fault d1.chunks.items d1.report log done out state polls refuses admits source split comes items limit ordered c0 a b e d0 d1 starts r.order r.places long_b close.moves gives.err r.fault
+    (subst (λ o. IfErr done (λ x. ordered ≡ true → IsLawful state source a c0 → StopsBefore items o (tells state source a) x)) starts.left r.before) r.ends)

@@ -9,7 +9,7 @@ use Rattle.scan_drive.proofs.Admitting.{opens_none, opens_set, rows_set}
 use Rattle.scan_drive.proofs.Asking.{moves_self}
 use Rattle.scan_drive.proofs.Moving.{moves_none, moves_set, sources_set, told_now, unopened_set_by, rest_set, phases_set_one, why_set, wait_set}
 use Rattle.scan_drive.proofs.Resting.{set_again}
-use Rattle.scan_drive.proofs.Tracking.{stand_fit, polled_below, fit_set, polled_set, stand_set, rest_set as still_set, rest_done}
+use Rattle.scan_drive.proofs.Tracking.{stand_fit, polled_below, fit_set, grows_set, polled_set, stand_set, rest_set as still_set, rest_done}
 use Rattle.scan_drive.proofs.files.open_files.Goals as goal
 
 pub loop-i-init : goal.loop-i-init
@@ -28,6 +28,7 @@ loop-i-init g c = record {
   ok = λ h. h;
   within = λ k from past. from;
   rest = λ k f h. refl;
+  grows = λ k f. omega arith;
   polled = λ start h. (h, polled_below (g.X.SplitOpener.state c.args.context.now) start c.args.files.now.items c.args.phases.now.items c.args.first h c.requires.below);
 }
 
@@ -74,6 +75,7 @@ loop-i-preserved g c =
       ok = phases_set_one g.W.SplitWork.split g.W.SplitWork.comes (tells state source old) c.args.phases.now.items ps i p q (tell state source x) inv.ok plt w told c.in_ok-opened.ensures.keeps;
       within = λ k from past. omega (arith, past);
       rest = still_set c.args.first i old now y c.loop-i.auto.i inv.rest;
+      grows = grows_set state old now i x y p lt v c.open_file.ensures.once inv.grows;
       polled = λ start h. (let s = inv.polled start h in (
         stand_set state start now ps i x y p q lt v plt w c.open_file.ensures.once s.0 c.in_ok-opened.opened s.1 c.in_ok-opened.ensures.opened c.in_ok-opened.ensures.waits,
         polled_set state start now ps i x y p q lt v plt w c.open_file.ensures.once s.0 s.1,
@@ -130,3 +132,19 @@ returns-clause-rest g c = rest_done c.args.first c.loop-i.i c.args.last c.args.f
 
 pub returns-clause-polled : goal.returns-clause-polled
 returns-clause-polled g c start h = (c.loop-i.invariant.polled start h).0
+
+pub returns-in_err-opened-clause-grows : goal.returns-in_err-opened-clause-grows
+returns-in_err-opened-clause-grows g c =
+    let state = g.X.SplitOpener.state c.args.context.now in
+    let inv = c.loop-i.invariant in
+    let i = c.loop-i.i in
+    let old : List (ScanFile g.row.O.Denot g.row.S.Denot) = c.args.files.now.items in
+    let now : List (ScanFile g.row.O.Denot g.row.S.Denot) = c.loop-i.files.items in
+    let x : ScanFile g.row.O.Denot g.row.S.Denot = c.index_mut-file.result.now in
+    let y : ScanFile g.row.O.Denot g.row.S.Denot = record x { opener = c.open_file.new.opener } in
+    let p : Phase g.row.W.Denot g.row.F.Denot = c.index_mut-phase.result.now in
+    let n : length now ≡ length old = inv.moves.len in
+    grows_set state old now i x y p (omega (arith, n, c.requires.within)) c.index_mut-file.ensures.value c.open_file.ensures.once inv.grows
+
+pub returns-clause-grows : goal.returns-clause-grows
+returns-clause-grows g c = c.loop-i.invariant.grows

@@ -3,7 +3,7 @@ use Rattle.scan_drive.specs.Filling.{OpensBy}
 use Rattle.scan_drive.specs.Moves.{EachMoves, KeepsSources, KeepsRest, KeepsPhases, HoldsWhy, AllWait, tells}
 use Rattle.scan_drive.specs.Openers.{as_number}
 use Rattle.scan_drive.specs.Phases.{phase_at, unopened, AllRowsOk}
-use Rattle.scan_drive.specs.Polls.{OpenersRest, AllPolled, PollsStand}
+use Rattle.scan_drive.specs.Polls.{OpenersRest, AllPolled, PollsGrow, PollsStand}
 use Rattle.scan_drive.specs.declared.files.ScanFile.{ScanFile}
 use Rattle.scan_drive.proofs.files.open_files.Given as goal
 
@@ -23,6 +23,7 @@ invariant-loop-i g l = record {
   ok : KeepsPhases g.W.SplitWork.split g.W.SplitWork.comes (tells (g.X.SplitOpener.state l.fn.context) g.S.SegmentSource.state l.fn.files.items) l.fn.phases.items l.phases.items;
   within : (k : ℕ) → l.first ≤ k → l.last ≤ k → l.i ≤ k;
   rest : OpenersRest l.first l.i l.fn.files.items l.files.items;
+  grows : PollsGrow (g.X.SplitOpener.state l.fn.context) l.fn.files.items l.files.items;
   polled : (start : List (ScanFile g.row.O.Denot g.row.S.Denot)) → PollsStand (g.X.SplitOpener.state l.fn.context) start l.fn.files.items l.fn.phases.items →
       PollsStand (g.X.SplitOpener.state l.fn.context) start l.files.items l.phases.items × AllPolled (g.X.SplitOpener.state l.fn.context) l.i start l.files.items;
 }

@@ -17,11 +17,11 @@ pub finished-done-requires : goal.finished-done-requires
 finished-done-requires g c = (c.args.drive.now.active.free.items, c.requires.stands.ready.seated)
 
 pub activate-requires-clause-below : goal.activate-requires-clause-below
-activate-requires-clause-below g c k lt =
+activate-requires-clause-below g c κs lives k lt =
     subst (λ (p : Phase g.row.W.Denot g.row.F.Denot). Rattle.scan_drive.specs.Phases.IsSpent p) (sym (c.open_files.ensures.below k lt)) (c.requires.stands.below k lt)
 
 pub activate-requires-clause-seated : goal.activate-requires-clause-seated
-activate-requires-clause-seated g c = c.requires.stands.ready.seated
+activate-requires-clause-seated g c κs lives = c.requires.stands.ready.seated
 
 pub returns-clause-stands : goal.returns-clause-stands
 returns-clause-stands g c =
@@ -65,7 +65,7 @@ returns-clause-halts g c =
     halts_seats g.W.SplitWork.split c.args.drive.now.first c.in_ok-drive.field-0 c.args.drive.now.active c.activate.new.active c.open_files.new.phases.items c.activate.new.phases.items c.in_ok-drive.ensures.seats
 
 pub open_files-requires-clause-below : goal.open_files-requires-clause-below
-open_files-requires-clause-below g c = c.requires.stands.below
+open_files-requires-clause-below g c κs lives = c.requires.stands.below
 
 pub returns-clause-order : goal.returns-clause-order
 returns-clause-order g c h = c.in_ok-drive.ensures.seats.order 0 h
@@ -76,6 +76,7 @@ returns-clause-polled g c start h =
 
 pub returns-clause-polls : goal.returns-clause-polls
 returns-clause-polls g c = record {
+  grows = c.open_files.ensures.grows;
   fit = c.open_files.ensures.fit;
   late = λ h start l.
       (let d : Drive g.row.W.Denot g.row.W-Rows.Denot g.row.F.Denot = c.args.drive.now in
@@ -86,6 +87,7 @@ returns-clause-polls g c = record {
 
 pub returns-in_err-opened-clause-polls : goal.returns-in_err-opened-clause-polls
 returns-in_err-opened-clause-polls g c = record {
+  grows = c.open_files.ensures.grows;
   fit = c.open_files.ensures.fit;
   late = λ h start l.
       (let d : Drive g.row.W.Denot g.row.W-Rows.Denot g.row.F.Denot = c.args.drive.now in
@@ -96,6 +98,7 @@ returns-in_err-opened-clause-polls g c = record {
 
 pub returns-in_err-drive-clause-polls : goal.returns-in_err-drive-clause-polls
 returns-in_err-drive-clause-polls g c = record {
+  grows = c.open_files.ensures.grows;
   fit = c.open_files.ensures.fit;
   late = λ h start l.
       (let d : Drive g.row.W.Denot g.row.W-Rows.Denot g.row.F.Denot = c.args.drive.now in

@@ -13,7 +13,7 @@ use Rattle.scan_drive.proofs.Standing.{keeps_each, ready_mid, ready_new, asking_
 use Rattle.scan_drive.proofs.round.give_out.Goals as goal
 
 pub deliver-requires-clause-seated : goal.deliver-requires-clause-seated
-deliver-requires-clause-seated g c =
+deliver-requires-clause-seated g c κs lives =
     let split = g.W.SplitWork.split in
     let comes = g.W.SplitWork.comes in
     let items = g.W.SplitWork.items in

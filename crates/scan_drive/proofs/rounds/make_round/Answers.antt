@@ -180,14 +180,14 @@ returns-in-Err-settle-clause-fault g c =
     let limit : limit_in split comes items d1 ≡ limit_in split comes items d0 = limit_same split comes items d0 d1 b.rest.0 b.rest.1 in
     record { mid = d1; limit = limit; why = k.why; held = held_by d1 c.in-Err-settle.fault c.in-Err-settle.ensures.settles; sound = k.sound; stops = λ h. c.in-Err-settle.ensures.fault tale (k.sound h) }
 
-pub settle-requires : goal.settle-requires
-settle-requires g c =
+pub settle-requires-clause-stands : goal.settle-requires-clause-stands
+settle-requires-clause-stands g c κs lives =
     let files0 : List (ScanFile g.row.O.Denot g.row.S.Denot) = c.args.files.now.items in
     let k = c.in-Ok.ensures in
     (length files0, k.stands)
 
 pub serve-requires-clause-agree : goal.serve-requires-clause-agree
-serve-requires-clause-agree g c =
+serve-requires-clause-agree g c κs lives =
     let state = g.X.SplitOpener.state c.args.context.now in
     let polls = g.X.SplitOpener.polls in
     let source = g.S.SegmentSource.state in
@@ -198,7 +198,7 @@ serve-requires-clause-agree g c =
     agree_kept state polls source files0 files1 desks0 b.moves.len b.sources c.requires.agree
 
 pub serve-requires-clause-seated : goal.serve-requires-clause-seated
-serve-requires-clause-seated g c =
+serve-requires-clause-seated g c κs lives =
     let files0 : List (ScanFile g.row.O.Denot g.row.S.Denot) = c.args.files.now.items in
     let k = c.in-Ok.ensures in
     let d2 : Drive g.row.W.Denot g.row.W-Rows.Denot g.row.F.Denot = c.settle.new.drive in
@@ -207,7 +207,7 @@ serve-requires-clause-seated g c =
     (d2.active.free.items, stands.ready.seated)
 
 pub serve-requires-clause-within : goal.serve-requires-clause-within
-serve-requires-clause-within g c =
+serve-requires-clause-within g c κs lives =
     let files0 : List (ScanFile g.row.O.Denot g.row.S.Denot) = c.args.files.now.items in
     let b = c.bring_in.ensures in
     let k = c.in-Ok.ensures in
@@ -217,19 +217,19 @@ serve-requires-clause-within g c =
     subst (λ n. FilesWithin n d2.active.slots.items) (sym b.moves.len) stands.ready.within
 
 pub serve-requires-clause-once : goal.serve-requires-clause-once
-serve-requires-clause-once g c =
+serve-requires-clause-once g c κs lives =
     let s = rw c.in-Ok-Some.field-0-is at c.in-Ok-Some.ensures.waits in
     s.once
 
 pub serve-requires-clause-links : goal.serve-requires-clause-links
-serve-requires-clause-links g c =
+serve-requires-clause-links g c κs lives =
     let desks0 = c.args.desks.now.items in
     let k = c.in-Ok.ensures in
     let s = rw c.in-Ok-Some.field-0-is at c.in-Ok-Some.ensures.waits in
     s.links desks0 (k.links desks0 c.requires.links)
 
 pub serve-requires-clause-asks : goal.serve-requires-clause-asks
-serve-requires-clause-asks g c =
+serve-requires-clause-asks g c κs lives =
     let s = rw c.in-Ok-Some.field-0-is at c.in-Ok-Some.ensures.waits in
     s.asks
 

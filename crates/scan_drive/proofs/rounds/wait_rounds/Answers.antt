@@ -256,11 +256,11 @@ returns-in-Err-clause-fault g c =
     stops_round state polls refuses source split comes items P Q a b e k1 c0 d0 d1 d2 c.in-Err.fault inv.moves r.moves inv.goes c.in-Err.ensures.fault
 
 pub make_round-requires-clause-stands : goal.make_round-requires-clause-stands
-make_round-requires-clause-stands g c =
+make_round-requires-clause-stands g c κs lives =
     subst (λ n. Stands n c.rounds.drive) (sym c.rounds.invariant.moves.len) c.rounds.invariant.goes.stands
 
 pub make_round-requires-clause-links : goal.make_round-requires-clause-links
-make_round-requires-clause-links g c =
+make_round-requires-clause-links g c κs lives =
     c.rounds.invariant.goes.links
 
 pub returns-in-Ok-Opened-clause-grounds : goal.returns-in-Ok-Opened-clause-grounds

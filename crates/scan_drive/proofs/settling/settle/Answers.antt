@@ -45,7 +45,7 @@ returns-in-Done-clause-done g c e0 tale all s =
     let w = c.in-Ok-Some.ensures in
     let more = rw is at w.gives in
     let none = c.is_idle.ensures.none c.if-not-is_idle.false in
-    done_all split comes items tale e (sound_more split comes items tale d e more (w.ok tale) refl refl s) none c.requires.1.below c.in-Done.ensures.1 all ∙ ap (λ l. limited l (answer tale)) more.counts.limit
+    done_all split comes items tale e (sound_more split comes items tale d e more (w.ok tale) refl refl s) none c.requires.stands.1.below c.in-Done.ensures.1 all ∙ ap (λ l. limited l (answer tale)) more.counts.limit
 
 pub returns-in-TooMany-clause-fault : goal.returns-in-TooMany-clause-fault
 returns-in-TooMany-clause-fault g c tale s =
@@ -118,7 +118,7 @@ returns-in-Done-clause-out g c e0 free =
     let is = c.in-Ok-Some.field-0-is in
     let w = c.in-Ok-Some.ensures in
     let none = c.is_idle.ensures.none c.if-not-is_idle.false in
-    let seats = (rw is at w.ready) c.requires.0 c.requires.1.ready in
+    let seats = (rw is at w.ready) c.requires.stands.0 c.requires.stands.1.ready in
     runs_out c.in-Ok-Some.asking.items d.active.slots.items c.give_out.new.active.slots.items (λ place. seats.seated.empty place (ap (λ ts. is_among ts place) none)) (rw is at w.halts) (rw is at w.links)
 
 pub returns-in-Ok-None-clause-out : goal.returns-in-Ok-None-clause-out
@@ -130,14 +130,14 @@ returns-in-Ok-None-clause-out g c e0 free =
 pub returns-in-Err-clause-before : goal.returns-in-Err-clause-before
 returns-in-Err-clause-before g c tale s =
     let d : Drive g.row.W.Denot g.row.W-Rows.Denot g.row.F.Denot = c.args.drive.now in
-    split_before g.W.SplitWork.split g.W.SplitWork.comes g.W.SplitWork.items tale d c.give_out.new.active c.give_out.new.chunks.items c.give_out.new.left c.in-Err.fault s.0 s.1 c.requires.1.below s.2 c.in-Err.ensures.fault
+    split_before g.W.SplitWork.split g.W.SplitWork.comes g.W.SplitWork.items tale d c.give_out.new.active c.give_out.new.chunks.items c.give_out.new.left c.in-Err.fault s.0 s.1 c.requires.stands.1.below s.2 c.in-Err.ensures.fault
 
 pub returns-in-TooMany-clause-before : goal.returns-in-TooMany-clause-before
 returns-in-TooMany-clause-before g c tale s =
     let d : Drive g.row.W.Denot g.row.W-Rows.Denot g.row.F.Denot = c.args.drive.now in
-    gives_idle g.W.SplitWork.split g.W.SplitWork.comes g.W.SplitWork.items tale d c.give_out.new.active c.give_out.new.chunks.items c.give_out.new.left s.0 s.1 c.requires.1.below (rw c.in-Ok-Some.field-0-is at c.in-Ok-Some.ensures.gives) (c.is_idle.ensures.none c.if-not-is_idle.false)
+    gives_idle g.W.SplitWork.split g.W.SplitWork.comes g.W.SplitWork.items tale d c.give_out.new.active c.give_out.new.chunks.items c.give_out.new.left s.0 s.1 c.requires.stands.1.below (rw c.in-Ok-Some.field-0-is at c.in-Ok-Some.ensures.gives) (c.is_idle.ensures.none c.if-not-is_idle.false)
 
 pub returns-in-Refused-clause-before : goal.returns-in-Refused-clause-before
 returns-in-Refused-clause-before g c tale s =
     let d : Drive g.row.W.Denot g.row.W-Rows.Denot g.row.F.Denot = c.args.drive.now in
-    gives_idle g.W.SplitWork.split g.W.SplitWork.comes g.W.SplitWork.items tale d c.give_out.new.active c.give_out.new.chunks.items c.give_out.new.left s.0 s.1 c.requires.1.below (rw c.in-Ok-Some.field-0-is at c.in-Ok-Some.ensures.gives) (c.is_idle.ensures.none c.if-not-is_idle.false)
+    gives_idle g.W.SplitWork.split g.W.SplitWork.comes g.W.SplitWork.items tale d c.give_out.new.active c.give_out.new.chunks.items c.give_out.new.left s.0 s.1 c.requires.stands.1.below (rw c.in-Ok-Some.field-0-is at c.in-Ok-Some.ensures.gives) (c.is_idle.ensures.none c.if-not-is_idle.false)

@@ -102,7 +102,7 @@ index_mut-slot-requires g c =
     omega (arith, lt, c.asking.slots.ok)
 
 pub want_slot-requires-clause-agree : goal.want_slot-requires-clause-agree
-want_slot-requires-clause-agree g c =
+want_slot-requires-clause-agree g c κs lives =
     let source = g.S.SegmentSource.state in
     let inv = c.asking.invariant in
     let place = c.in-Some.place in
@@ -127,7 +127,7 @@ want_slot-requires-clause-agree g c =
     agree_at source files desks k c.index_mut-file.result.now c.index_mut-desk.result.now inv.agree klt c.index_mut-file.ensures.value c.index_mut-desk.ensures.value
 
 pub want_slot-requires-clause-new : goal.want_slot-requires-clause-new
-want_slot-requires-clause-new g c =
+want_slot-requires-clause-new g c κs lives =
     let source = g.S.SegmentSource.state in
     let inv = c.asking.invariant in
     let place = c.in-Some.place in
@@ -152,7 +152,7 @@ want_slot-requires-clause-new g c =
     but_new (place ∷ rest) desks slots k c.index_mut-desk.result.now place (subst (λ (xs : List ℕ). Rattle.scan_drive.specs.Asks.EachLinkedBut xs desks slots) c.in-Some.ensures.items inv.links) dlt c.index_mut-desk.ensures.value m
 
 pub want_slot-requires-clause-waiting : goal.want_slot-requires-clause-waiting
-want_slot-requires-clause-waiting g c =
+want_slot-requires-clause-waiting g c κs lives =
     let source = g.S.SegmentSource.state in
     let inv = c.asking.invariant in
     let place = c.in-Some.place in

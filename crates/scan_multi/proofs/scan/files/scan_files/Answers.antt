@@ -1,6 +1,8 @@
+use denote.Param.Send.{sendable}
 use Rattle.std.proofs.Common.{List, sym, subst}
 use Rattle.std.specs.Prelude.{All}
 use Rattle.std.proofs.lemmas.Result.{err_from_is_err_and}
+use Rattle.scan_file.proofs.FilesSent.{FileRows-send, FileSplit-send}
 use Rattle.scan_multi.specs.Output.{ChunkData, OutputData}
 use Rattle.scan_multi.specs.Placed.{IsEven}
 use Rattle.scan_multi.specs.Scans.{IsScan, IsRefusedFor}
@@ -42,14 +44,20 @@ returns-then-not-has_room-clause-moves g c =
     moves_still g.O.LayoutReaderFactory.opener g.S.SegmentSource.state c.args.files.now.items (g.C.KeyedSegmentCache.cache c.args.cache.now) c.args.workers c.args.dtype.now c.args.request.now c.requires
 
 -- ---- the drive
+pub drive_files-requires-send-W : goal.drive_files-requires-send-W
+drive_files-requires-send-W g c κs = let a = FileSplit-send in search sendable depth 20
+
+pub drive_files-requires-send-W-Rows : goal.drive_files-requires-send-W-Rows
+drive_files-requires-send-W-Rows g c κs = let a = FileRows-send in search sendable depth 20
+
 pub drive_files-requires-clause-workers : goal.drive_files-requires-clause-workers
-drive_files-requires-clause-workers g c = some_workers c.args.workers c.args.dtype.now c.args.request.now c.in_ok-ask.ensures.ok.no_fault
+drive_files-requires-clause-workers g c κs lives = some_workers c.args.workers c.args.dtype.now c.args.request.now c.in_ok-ask.ensures.ok.no_fault
 
 pub drive_files-requires-clause-idle : goal.drive_files-requires-clause-idle
-drive_files-requires-clause-idle g c = c.requires
+drive_files-requires-clause-idle g c κs lives = c.requires
 
 pub drive_files-requires-clause-limit : goal.drive_files-requires-clause-limit
-drive_files-requires-clause-limit g c = c.has_room.ensures.some c.if-not-has_room.false
+drive_files-requires-clause-limit g c κs lives = c.has_room.ensures.some c.if-not-has_room.false
 
 -- ---- want of memory for the chunks
 pub returns-in_err-chunks_of-in-Ok-clause-ok : goal.returns-in_err-chunks_of-in-Ok-clause-ok

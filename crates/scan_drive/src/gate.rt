@@ -1,4 +1,4 @@
-//! What a worker passes before it works.
+//! What a worker passes before it works. An own type: the Rust has none.
 
 /// Passed by each worker before its first split of a phase. The workers of a scan are numbered from 1.
 pub trait Gate: Sync {

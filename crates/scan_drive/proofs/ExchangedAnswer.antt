@@ -1,0 +1,185 @@
+-- The answer of a scan of files that stand at other places, by the files.
+use Rattle.std.proofs.Common.{◌≡◌, ◌⊎◌, ℕ, zero, suc, ◌+◌, ◌-◌, ◌<◌, ◌≤◌, List, [], ◌∷◌, ◌++◌, length, map, take, get_or, Bool, true, false, not, ◌&&◌, ◌||◌, eqb, All, Option, Some, None, IsPermutation, inl, inr, refl, sym, ap, ◌∙◌, subst, arith}
+use Rattle.std.specs.List.{flat_map, range_with_len}
+use Rattle.std.specs.List.Sorted.{SwapsInRange}
+use Rattle.std.proofs.lemmas.Bool.Decides.{nat_tests}
+use Rattle.std.proofs.lemmas.List.{length-map, take_all, same_lists}
+use Rattle.std.proofs.lemmas.List.FromFn.{length-range_with_len, get_or-range_with_len}
+use Rattle.std.proofs.lemmas.List.Sorted.{IsPermutation-sym}
+use Rattle.scan_values.specs.Selections.{is_among}
+use Rattle.scan_splits.specs.Wanted.{no_repeats}
+use Rattle.scan_drive.specs.Chunks.{given, HasRow, Fits}
+use Rattle.scan_drive.specs.Drivings.{GivesBefore}
+use Rattle.scan_drive.specs.Files.{Group, grouped, Told, told_at, untold, part_groups, answer, answer_from, count, cut, limited}
+use Rattle.scan_drive.specs.Line.{exchange, exchanged, placed_by, relabelled, renamed, answer_in, IsAnyOrder, GivesSome}
+use Rattle.scan_drive.specs.declared.delivery.Chunk.{Chunk}
+use Rattle.scan_drive.proofs.Handing.{le_or_lt}
+use Rattle.scan_drive.proofs.Exchanging.{exchange_twice, exchanged_at, length_exchanged, placed_below, placed_behind, permutation_exchanged}
+use Rattle.scan_drive.proofs.ExchangedGroups.{relabel_append, relabel_grouped, relabel_part}
+
+-- ---- numbers of files
+pub placed_once : (ss : List (ℕ × ℕ)) (x y : ℕ) → placed_by ss x ≡ placed_by ss y → x ≡ y
+placed_once [] x y e = e
+placed_once (s ∷ ss) x y e = placed_once ss x y (sym (exchange_twice s.0 s.1 (placed_by ss x)) ∙ ap (exchange s.0 s.1) e ∙ exchange_twice s.0 s.1 (placed_by ss y))
+
+-- the order list has the file of each place
+pub order_at : (ss : List (ℕ × ℕ)) (n k d : ℕ) → SwapsInRange n ss → k < n → get_or (exchanged ss (range_with_len 0 n)) k d ≡ placed_by ss k
+order_at ss n k d r lt =
+    exchanged_at ss (range_with_len 0 n) k d (subst (λ m. SwapsInRange m ss) (sym (length-range_with_len 0 n)) r)
+    ∙ get_or-range_with_len 0 n (placed_by ss k) d (placed_below n ss k r lt)
+    ∙ (let z : 0 + placed_by ss k ≡ placed_by ss k = omega arith in z)
+
+at_range : (f : ℕ → ℕ) (a n k d : ℕ) → k < n → get_or (map f (range_with_len a n)) k d ≡ f (a + k)
+at_range f a zero k d lt = absurd (omega arith)
+at_range f a (suc n) zero d lt = ap f (let z : a ≡ a + 0 = omega arith in z)
+at_range f a (suc n) (suc k) d lt = at_range f (a + 1) n k d (omega arith) ∙ ap f (let z : a + 1 + k ≡ a + suc k = omega arith in z)
+
+pub order_is : (ss : List (ℕ × ℕ)) (n : ℕ) → SwapsInRange n ss → exchanged ss (range_with_len 0 n) ≡ map (placed_by ss) (range_with_len 0 n)
+order_is ss n r =
+    same_lists (exchanged ss (range_with_len 0 n)) (map (placed_by ss) (range_with_len 0 n)) (length_exchanged ss (range_with_len 0 n) ∙ sym (length-map (range_with_len 0 n) (placed_by ss))) (λ k d lt.
+    let long : length (exchanged ss (range_with_len 0 n)) ≡ n = length_exchanged ss (range_with_len 0 n) ∙ length-range_with_len 0 n in
+    let below : k < n = omega arith in
+    order_at ss n k d r below ∙ sym (at_range (placed_by ss) 0 n k d below ∙ ap (placed_by ss) (let z : 0 + k ≡ k = omega arith in z)))
+
+pub order_permutes : (ss : List (ℕ × ℕ)) (n : ℕ) → SwapsInRange n ss → IsPermutation (map (placed_by ss) (range_with_len 0 n)) (range_with_len 0 n)
+order_permutes ss n r =
+    subst (λ xs. IsPermutation xs (range_with_len 0 n)) (order_is ss n r)
+    (IsPermutation-sym (range_with_len 0 n) (exchanged ss (range_with_len 0 n)) (permutation_exchanged ss (range_with_len 0 n) (subst (λ m. SwapsInRange m ss) (sym (length-range_with_len 0 n)) r)))
+
+-- ---- groups by place, and by file
+module _ {I : Type 0} where
+  nothing : (place n : ℕ) → [] ≡ answer_from {I = I} place (take n [])
+  nothing place zero = refl
+  nothing place (suc n) = refl
+
+  -- the groups of the first files, by their places
+  answer_by : (tale : ℕ → Told I) (place n : ℕ) (ts : List (Told I)) → ((k : ℕ) → told_at ts k ≡ tale (place + k)) → answer_from place (take n ts) ≡ flat_map (λ k. part_groups k (tale k)) (range_with_len place n)
+  answer_by tale place zero ts h = refl
+  answer_by tale place (suc n) [] h =
+      let z : place + 0 ≡ place = omega arith in
+      let e : untold ≡ tale place = h 0 ∙ ap tale z in
+      let later = answer_by tale (place + 1) n [] (λ k. h (suc k) ∙ ap tale (let y : place + suc k ≡ place + 1 + k = omega arith in y)) in
+      nothing (place + 1) n ∙ later ∙ ap (λ t. part_groups place t ++ flat_map (λ k. part_groups k (tale k)) (range_with_len (place + 1) n)) e
+  answer_by tale place (suc n) (t ∷ ts) h =
+      let z : place + 0 ≡ place = omega arith in
+      let e : t ≡ tale place = h 0 ∙ ap tale z in
+      let later = answer_by tale (place + 1) n ts (λ k. h (suc k) ∙ ap tale (let y : place + suc k ≡ place + 1 + k = omega arith in y)) in
+      λ i. part_groups place (e i) ++ later i
+
+  pub answer_places : (tale : List (Told I)) (n : ℕ) → answer (take n tale) ≡ answer_in (range_with_len 0 n) tale
+  answer_places tale n = answer_by (told_at tale) 0 n tale (λ k. ap (told_at tale) (let z : k ≡ 0 + k = omega arith in z))
+
+  relabel_places : (f : ℕ → ℕ) (tale tale' : List (Told I)) (ks : List ℕ) → ((k : ℕ) → told_at tale' k ≡ told_at tale (f k)) → map (relabelled f) (answer_in ks tale') ≡ answer_in (map f ks) tale
+  relabel_places f tale tale' [] h = refl
+  relabel_places f tale tale' (k ∷ ks) h =
+      let here : map (relabelled f) (part_groups k (told_at tale' k)) ≡ part_groups (f k) (told_at tale (f k)) = relabel_part f k (told_at tale' k).part (told_at tale' k).store ∙ ap (part_groups (f k)) (h k) in
+      let later = relabel_places f tale tale' ks h in
+      relabel_append f (part_groups k (told_at tale' k)) (answer_in ks tale') ∙ (λ i. here i ++ later i)
+
+  module _ (ss : List (ℕ × ℕ)) (tale : List (Told I)) (r : SwapsInRange (length tale) ss) where
+    -- what the first places have, by the files there
+    pub relabel_front : (n : ℕ) → map (relabelled (placed_by ss)) (answer (take n (exchanged ss tale))) ≡ answer_in (map (placed_by ss) (range_with_len 0 n)) tale
+    relabel_front n =
+        ap (map (relabelled (placed_by ss))) (answer_places (exchanged ss tale) n)
+        ∙ relabel_places (placed_by ss) tale (exchanged ss tale) (range_with_len 0 n) (λ k. exchanged_at ss tale k untold r)
+
+    pub answer_relabel : map (relabelled (placed_by ss)) (answer (exchanged ss tale)) ≡ answer_in (map (placed_by ss) (range_with_len 0 (length tale))) tale
+    answer_relabel =
+        let l = length_exchanged ss tale in
+        ap (λ ts. map (relabelled (placed_by ss)) (answer ts)) (sym (take_all (length tale) (exchanged ss tale) (omega arith))) ∙ relabel_front (length tale)
+
+-- ---- groups up to a limit
+module _ {I : Type 0} (f : ℕ → ℕ) where
+  pub count_relabel : (gs : List (Group I)) → count (map (relabelled f) gs) ≡ count gs
+  count_relabel [] = refl
+  count_relabel (g ∷ gs) = ap (λ n. length g.1 + n) (count_relabel gs)
+
+  cut_relabel : (n : ℕ) (gs : List (Group I)) → map (relabelled f) (cut n gs) ≡ cut n (map (relabelled f) gs)
+  cut_relabel n [] = refl
+  cut_relabel n (g ∷ gs) =
+      let here = relabel_grouped f g.0 (take n g.1) in
+      let later = cut_relabel (n - length g.1) gs in
+      relabel_append f (grouped g.0 (take n g.1)) (cut (n - length g.1) gs) ∙ (λ i. here i ++ later i)
+
+  pub limited_relabel : (limit : Option ℕ) (gs : List (Group I)) → map (relabelled f) (limited limit gs) ≡ limited limit (map (relabelled f) gs)
+  limited_relabel None gs = refl
+  limited_relabel (Some n) gs = cut_relabel n gs
+
+-- ---- chunks
+module _ {R I : Type 0} (items : R → List I) (f : ℕ → ℕ) where
+  pub given_renamed : (chunks : List (Chunk R)) → given items (map (renamed f) chunks) ≡ map (relabelled f) (given items chunks)
+  given_renamed [] = refl
+  given_renamed (c ∷ cs) =
+      let here = sym (relabel_grouped f c.file (items c.rows)) in
+      let later = given_renamed cs in
+      (λ i. here i ++ later i) ∙ sym (relabel_append f (grouped c.file (items c.rows)) (given items cs))
+
+  pub rows_renamed : (chunks : List (Chunk R)) → All (HasRow items) chunks → All (HasRow items) (map (renamed f) chunks)
+  rows_renamed [] h k d lt = absurd (omega arith)
+  rows_renamed (c ∷ cs) h zero d lt = h 0 c (omega arith)
+  rows_renamed (c ∷ cs) h (suc k) d lt = rows_renamed cs (λ n x nt. h (suc n) x (omega arith)) k d (omega arith)
+
+-- ---- what is given in the order of places, by the files
+module _ {R I : Type 0} (items : R → List I) (limit : Option ℕ) (tale : List (Told I)) where
+  pub any_order : (ss : List (ℕ × ℕ)) (gs : List (Group I)) → SwapsInRange (length tale) ss → gs ≡ limited limit (answer (exchanged ss tale)) → IsAnyOrder limit tale (map (relabelled (placed_by ss)) gs)
+  any_order ss gs r e = record {
+    order = map (placed_by ss) (range_with_len 0 (length tale));
+    all = order_permutes ss (length tale) r;
+    groups = ap (map (relabelled (placed_by ss))) e ∙ limited_relabel (placed_by ss) limit (answer (exchanged ss tale)) ∙ ap (limited limit) (answer_relabel ss tale r);
+  }
+
+  -- the same of chunks
+  pub any_order_given : (ss : List (ℕ × ℕ)) (chunks : List (Chunk R)) → SwapsInRange (length tale) ss → given items chunks ≡ limited limit (answer (exchanged ss tale)) → IsAnyOrder limit tale (given items (map (renamed (placed_by ss)) chunks))
+  any_order_given ss chunks r e = subst (IsAnyOrder limit tale) (sym (given_renamed items (placed_by ss) chunks)) (any_order ss (given items chunks) r e)
+
+-- ---- so many files up to a place
+among_cases : (x : ℕ) (xs : List ℕ) (y : ℕ) → is_among (x ∷ xs) y ≡ true → (x ≡ y) ⊎ (is_among xs y ≡ true)
+among_cases x xs y h = go (eqb x y) refl h
+  where
+    go : (b : Bool) → eqb x y ≡ b → (b || is_among xs y) ≡ true → (x ≡ y) ⊎ (is_among xs y ≡ true)
+    go true e h = inl (grind (arith, nat_tests))
+    go false e h = inr h
+
+-- each of the numbers of a range is in it
+map_range_within : (P : ℕ → Type 0) (f : ℕ → ℕ) (a n : ℕ) → ((k : ℕ) → a ≤ k → k < a + n → P (f k)) → (p : ℕ) → is_among (map f (range_with_len a n)) p ≡ true → P p
+map_range_within P f a zero h p on = absurd cc
+map_range_within P f a (suc n) h p on = go (among_cases (f a) (map f (range_with_len (a + 1) n)) p on) (map_range_within P f (a + 1) n (λ k le lt. h k (omega arith) (omega arith)) p)
+  where
+    go : (f a ≡ p) ⊎ (is_among (map f (range_with_len (a + 1) n)) p ≡ true) → (is_among (map f (range_with_len (a + 1) n)) p ≡ true → P p) → P p
+    go (inl e) later = subst P e (h a (omega arith) (omega arith))
+    go (inr m) later = later m
+
+map_range_once : (f : ℕ → ℕ) (a n : ℕ) → ((x y : ℕ) → f x ≡ f y → x ≡ y) → no_repeats (map f (range_with_len a n)) ≡ true
+map_range_once f a zero h = refl
+map_range_once f a (suc n) h = go (is_among (map f (range_with_len (a + 1) n)) (f a)) refl (map_range_once f (a + 1) n h)
+  where
+    go : (b : Bool) → is_among (map f (range_with_len (a + 1) n)) (f a) ≡ b → no_repeats (map f (range_with_len (a + 1) n)) ≡ true → (not b && no_repeats (map f (range_with_len (a + 1) n))) ≡ true
+    go true e later = absurd (map_range_within (λ p. p ≡ f a → ⊥) f (a + 1) n (λ k le lt same. (let z : k ≡ a = h k a same in omega arith)) (f a) e refl)
+    go false e later = later
+
+module _ {R I : Type 0} (items : R → List I) (limit : Option ℕ) (tale : List (Told I)) (log : List (ℕ × ℕ)) (m k n : ℕ) where
+  abbrev f : ℕ → ℕ
+  f = placed_by log
+
+  near : SwapsInRange m log → m ≤ k → n ≤ k → (q : ℕ) → q < 0 + n → f q ≤ k
+  near w past le q lt = go (le_or_lt m q)
+    where
+      go : (m ≤ q) ⊎ (q < m) → f q ≤ k
+      go (inl behind) = let z = placed_behind m log q w behind in omega (arith, z, lt, le)
+      go (inr before) = let z = placed_below m log q w before in omega (arith, z, past)
+
+  pub gives_some : SwapsInRange (length tale) log → SwapsInRange m log → m ≤ k → n ≤ k → GivesBefore items limit (exchanged log tale) n → GivesSome items limit tale k n
+  gives_some r w past le g = record {
+    places = map f (range_with_len 0 n);
+    once = map_range_once f 0 n (placed_once log);
+    within = map_range_within (λ p. p ≤ k) f 0 n (λ q from lt. near w past le q lt);
+    as_many = length-map (range_with_len 0 n) f ∙ length-range_with_len 0 n;
+    chunks = map (renamed f) g.chunks;
+    more = map (relabelled f) g.more;
+    groups =
+        given_renamed items f g.chunks
+        ∙ ap (map (relabelled f)) g.groups
+        ∙ relabel_append f (answer (take n (exchanged log tale))) g.more
+        ∙ ap (λ gs. gs ++ map (relabelled f) g.more) (relabel_front log tale r n);
+    room = subst (λ c. Fits c limit) (sym (ap count (given_renamed items f g.chunks) ∙ count_relabel f (given items g.chunks))) g.room;
+  }

@@ -1,0 +1,9 @@
+//! Tests of the workers of a scan: two of them are at work at once, and their number changes no answer.
+#![tactic(auto)]
+
+#[cfg(test)]
+mod files;
+#[cfg(test)]
+mod gates;
+#[cfg(test)]
+mod phases;
