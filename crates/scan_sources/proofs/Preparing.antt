@@ -41,3 +41,17 @@ same_scan state r q m s h = record {
 pub prepared_scan : {R M : Type 0} (state : R → ReaderState) (r : R) (q : BoundScanRequest) (m : M) (b : BuilderData R M) (s : ScanData M)
     → b ≡ over_reader r q m → IsPrepared (state b.reader) b s → IsScanOfRequest (state r) q s
 prepared_scan {R} {M} state r q m b s is h = same_scan (state r) r q m s (subst (λ (z : BuilderData R M). IsPrepared (state z.reader) z s) is h)
+
+-- without a limit it is the same
+pub without_limit : {M : Type 0} (state : ReaderState) (q : BoundScanRequest) (s : ScanData M) → IsScanOfRequest state q s → IsScanOfRequest state q (record s { limit = None })
+without_limit state q s h = record {
+  plans = h.plans;
+  rows = h.rows;
+  boundaries = h.boundaries;
+  range = h.range;
+  selection = h.selection;
+  limit = refl;
+  ordered = h.ordered;
+  concurrency = h.concurrency;
+  step = h.step;
+}

@@ -50,9 +50,13 @@ abbrev pub estimate : Bool → ℕ → Precision ℕ
 estimate true n = Inexact n
 estimate false n = Exact n
 
--- of the selected rows of a part as many as its limit; exact where there is no filter
+-- of the selected rows of a part as many as its limit
+abbrev pub selected_count : {M : Type 0} → ReaderSplit M → ℕ
+selected_count p = cut_by p.limit (row_count p.scan.selection p.range)
+
+-- so many; exactly so where there is no filter
 abbrev pub split_count : {M : Type 0} → ReaderSplit M → Precision ℕ
-split_count p = estimate (has_filter p.scan.plans) (cut_by p.limit (row_count p.scan.selection p.range))
+split_count p = estimate (has_filter p.scan.plans) (selected_count p)
 
 -- a stream of the rows of a part, of which nothing has been read: with its own limit, or with its seat of a shared one
 abbrev pub IsStreamBy : {M : Type 0} → ScanData M → Range ℕ → Option SeatState → StreamData M → Type 0

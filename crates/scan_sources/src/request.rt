@@ -15,11 +15,11 @@ use std::alloc::Global;
 use std::ops::Range;
 
 /// A scan that makes nothing else of its arrays.
-pub(crate) type Plain = RepeatedScan<Identity<()>>;
+pub type Plain = RepeatedScan<Identity<()>>;
 
 /// What is read of rows, by expressions over their dtype. Partitions play no part.
 #[derive(Drop)]
-pub(crate) struct BoundScanRequest {
+pub struct BoundScanRequest {
     pub projection: BoundExpression,
     pub filter: Option<BoundExpression>,
     pub row_range: Option<Range<u64>>,
@@ -96,6 +96,24 @@ impl BoundScanRequest {
             return self.limit;
         }
         None
+    }
+
+    /// A copy that equals this one.
+    pub fn try_clone(&self, alloc: Global) -> Result<BoundScanRequest, NoMemory>
+        ensures { IfOk result (λ q. q ≡ self.now) }
+    {
+        let filter = match &self.filter {
+            Some(filter) => Some(filter.try_clone(alloc)?),
+            None => None,
+        };
+        Ok(BoundScanRequest {
+            projection: self.projection.try_clone(alloc)?,
+            filter,
+            row_range: copy_of(&self.row_range),
+            selection: self.selection.try_clone(alloc)?,
+            ordered: self.ordered,
+            limit: self.limit,
+        })
     }
 
     /// Its scan over a reader's rows, but for the limit.
@@ -218,8 +236,18 @@ fn bind_one(alloc: Global, expr: &Expression, dtype: &DType) -> Result<BoundExpr
     }
 }
 
+/// The same range.
+fn copy_of(range: &Option<Range<u64>>) -> Option<Range<u64>>
+    ensures { result ≡ range.now }
+{
+    match range {
+        Some(range) => Some(range.start..range.end),
+        None => None,
+    }
+}
+
 /// A range, or all of so many rows.
-pub(crate) fn range_or_all(range: &Option<Range<u64>>, rows: u64) -> Range<u64>
+pub fn range_or_all(range: &Option<Range<u64>>, rows: u64) -> Range<u64>
     ensures { result ≡ range_or_all range.now rows }
 {
     match range {

@@ -7,7 +7,7 @@ ghost use Rattle.scan_sources.specs.Splits.{own_limit};
 use crate::empty::Empty;
 use crate::precision::Precision;
 use crate::request::Plain;
-use crate::shared::{SharedLimit, claims_of};
+use crate::shared_limit::{SharedLimit, claims_of};
 use crate::split::LayoutReaderSplit;
 use scan_values::{DType, NoMemory};
 use std::alloc::Global;

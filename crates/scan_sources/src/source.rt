@@ -12,7 +12,7 @@ use crate::fault::SourceFault;
 use crate::precision::Precision;
 use crate::request::{BoundScanRequest, is_past, range_or_all};
 use crate::scan::{LayoutReaderScan, LayoutScan};
-use crate::shared::shared;
+use crate::shared_limit::shared;
 use scan_expr::ScanRequest;
 use scan_readers::LayoutReader;
 use scan_values::{DType, NoMemory};

@@ -1,7 +1,8 @@
 //! Parts of scans of one reader. After the Rust's `scan::layout`.
-ghost use Rattle.std.specs.Prelude.{◌≡◌, IfOk, None};
+ghost use Rattle.std.specs.Prelude.{◌≡◌, IfOk, None, is_some};
 ghost use Rattle.scan_core.specs.Setup.{Refuses};
-ghost use Rattle.scan_sources.specs.Splits.{IsSplit, IsStreamOfSplit, estimate, reader_split, split_count};
+ghost use Rattle.scan_streams.specs.Plans.{has_filter};
+ghost use Rattle.scan_sources.specs.Splits.{IsSplit, IsStreamOfSplit, estimate, reader_split, selected_count, split_count};
 ghost use Rattle.scan_sources.specs.declared.precision.Precision.TheVariants as precision;
 
 use crate::precision::Precision;
@@ -36,7 +37,7 @@ impl Model for LayoutReaderSplit {
 
 impl LayoutReaderSplit {
     /// A part of a scan, with the limit that it got.
-    pub(crate) fn new(
+    pub fn new(
         scan: Plain,
         row_range: Range<u64>,
         limit: Option<u64>,
@@ -78,8 +79,29 @@ impl LayoutReaderSplit {
     pub fn row_count(&self) -> Precision<u64>
         ensures { result ≡ split_count self.now }
     {
+        estimate(self.has_filter(), self.selected_count())
+    }
+
+    /// The number of its selected rows, up to its limit.
+    pub fn selected_count(&self) -> u64
+        ensures { result ≡ selected_count self.now }
+    {
         let selected = self.scan.selection().row_count_in_range(&self.row_range);
-        estimate(self.scan.has_filter(), cut_by(self.limit, selected))
+        cut_by(self.limit, selected)
+    }
+
+    /// Whether a filter decides which of these it gives.
+    pub fn has_filter(&self) -> bool
+        ensures { result ≡ has_filter self.now.scan.plans }
+    {
+        self.scan.has_filter()
+    }
+
+    /// Whether it shares its limit with other parts.
+    pub fn is_shared(&self) -> bool
+        ensures { result ≡ is_some self.now.seat }
+    {
+        self.claims.is_some()
     }
 
     /// Nothing is known of the number of its bytes.
@@ -113,7 +135,7 @@ impl LayoutReaderSplit {
 }
 
 /// A number of rows, which a filter may lessen.
-pub(crate) fn estimate(filtered: bool, rows: u64) -> Precision<u64>
+pub fn estimate(filtered: bool, rows: u64) -> Precision<u64>
     ensures { result ≡ estimate filtered rows }
 {
     if filtered {

@@ -13,7 +13,7 @@ use std::sync::Arc;
 
 /// A limit that parts share, and the seat of which theirs are split off. Contracts see the seat.
 #[derive(Drop)]
-pub(crate) struct SharedLimit {
+pub struct SharedLimit {
     limit: Arc<RowLimit>,
     rows: u64,
     seat: LimitSeat,
@@ -55,7 +55,7 @@ impl SharedLimit {
 }
 
 /// A limit that is shared, or none.
-pub(crate) fn shared(alloc: Global, limit: Option<u64>) -> Result<Option<SharedLimit>, NoMemory>
+pub fn shared(alloc: Global, limit: Option<u64>) -> Result<Option<SharedLimit>, NoMemory>
     ensures { IfOk result (λ s. IsOwnSeat limit s) }
 {
     match limit {
@@ -65,10 +65,7 @@ pub(crate) fn shared(alloc: Global, limit: Option<u64>) -> Result<Option<SharedL
 }
 
 /// What a part may claim of a limit that is shared, up to so many rows.
-pub(crate) fn claims_of(
-    limit: &mut Option<SharedLimit>,
-    room: u64,
-) -> Result<Option<Claims>, NoMemory>
+pub fn claims_of(limit: &mut Option<SharedLimit>, room: u64) -> Result<Option<Claims>, NoMemory>
     requires { HasRoom limit.old room }
     ensures { PartsWith room limit.old limit.new result }
 {

@@ -1,0 +1,8 @@
+pub mod Counting
+pub mod Finding
+pub mod Going
+pub mod Moving
+pub mod Parting
+pub mod Standing
+pub mod Starting
+pub mod Stepping

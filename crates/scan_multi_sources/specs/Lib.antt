@@ -1,0 +1,13 @@
+pub mod ChildView
+pub mod Children
+pub mod FileFaults
+pub mod FileView
+pub mod Files
+pub mod Known
+pub mod MultiScans
+pub mod Numbers
+pub mod Opens
+pub mod Partitions
+pub mod Polls
+pub mod Sources
+pub mod Starts
