@@ -4,3 +4,10 @@ pub mod Fronts
 pub mod Printing
 pub mod Stopping
 pub mod Running
+pub mod Numbers
+pub mod Cutting
+pub mod Valuing
+pub mod Mapping
+pub mod Wording
+pub mod Totalling
+pub mod Generating

@@ -17,6 +17,7 @@ pub record TookBytes (n : ℕ) (old new : InputState) (buf : List ℕ) : Type 0 
   pub ends : new.ends ≡ old.ends
   pub faults : old.faults ≤ new.faults
 
+-- the input was at its end
 pub record AtEnd (old new : InputState) : Type 0 where
   pub left : new.left ≡ old.left
   pub empty : IfSome old.left (λ bytes. bytes ≡ [])
@@ -24,6 +25,7 @@ pub record AtEnd (old new : InputState) : Type 0 where
   pub ends : RaisedBy 1 old.ends new.ends
   pub faults : old.faults ≤ new.faults
 
+-- the read failed, and took nothing
 pub record ReadFailed (old new : InputState) : Type 0 where
   pub left : new.left ≡ old.left
   pub taken : new.taken ≡ old.taken
@@ -31,6 +33,7 @@ pub record ReadFailed (old new : InputState) : Type 0 where
   pub faults : old.faults ≤ new.faults
   pub rose : Rose old.faults new.faults
 
+-- what an answer of a read says
 abbrev pub IsRead : InputState → InputState → List ℕ → InputRead → Type 0
 IsRead old new buf (input.Bytes n) = TookBytes n old new buf
 IsRead old new buf input.End = AtEnd old new
@@ -44,11 +47,13 @@ pub record Wrote (n : ℕ) (bytes : List ℕ) (old new : OutputState) : Type 0 w
   pub faults : old.faults ≤ new.faults
   pub short : old.short ≤ new.short
 
+-- nothing was written
 pub record WroteNothing (old new : OutputState) : Type 0 where
   pub written : new.written ≡ old.written
   pub faults : old.faults ≤ new.faults
   pub short : old.short ≤ new.short
 
+-- what an answer of a write says
 abbrev pub IsWritten : List ℕ → OutputState → OutputState → OutputWrite → Type 0
 IsWritten bytes old new (output.Took n) = Wrote n bytes old new
 IsWritten bytes old new output.Failed = WroteNothing old new × Rose old.faults new.faults

@@ -3,6 +3,7 @@ use Rattle.std.specs.Prelude.{◌≡◌}
 use Rattle.scan_manifest.specs.declared.manifest.Manifest.{Manifest}
 use Rattle.scan_run.specs.declared.run.Asked.{Asked}
 
+-- the dtype, the request and the workers of a manifest
 pub record IsAsked (m : Manifest) (a : Asked) : Type 0 where
   pub dtype : m.dtype ≡ a.dtype
   pub request : m.request ≡ a.request

@@ -2,6 +2,7 @@
 use Rattle.std.specs.Prelude.{ℕ, List, Option}
 use Rattle.scan_segments.specs.Faults.{Rose}
 
+-- what an input is, as far as contracts see it
 pub record InputState : Type 0 where
   -- the bytes still to come, where it tells
   pub left : Option (List ℕ)
@@ -10,6 +11,7 @@ pub record InputState : Type 0 where
   pub ends : ℕ
   pub faults : ℕ
 
+-- what an output is, as far as contracts see it
 pub record OutputState : Type 0 where
   -- the bytes that it took, where it tells
   pub written : Option (List ℕ)

@@ -10,3 +10,9 @@ pub mod Printed
 pub mod FileOf
 pub mod Stops
 pub mod AskedOf
+pub mod Words
+pub mod Generated
+pub mod GeneratedBytes
+pub mod GeneratedFiles
+pub mod Totals
+pub mod GeneratedLine

@@ -48,10 +48,12 @@ abbrev mutual
   value_text (list_val vs) d = codes "[" ++ (elements_text true vs (element_in d) ++ codes "]")
   value_text (struct_val vs) d = codes "{" ++ (fields_text true vs (fields_in d) ++ codes "}")
 
+  -- the elements of a list, with commas between them
   pub elements_text : Bool → Vals → DataType → List ℕ
   elements_text is_first no_vals d = []
   elements_text is_first (val v vs) d = comma is_first ++ (value_text v d ++ elements_text false vs d)
 
+  -- the fields of a struct by their names, with commas between them
   pub fields_text : Bool → Vals → Fields → List ℕ
   fields_text is_first no_vals fs = []
   fields_text is_first (val v vs) no_fields = []

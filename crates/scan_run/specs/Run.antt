@@ -34,6 +34,7 @@ is_scan_words (w ∷ v ∷ ws) = false
 abbrev pub store_of : List (ℕ × List ℕ) → Store
 store_of segments = λ id. store_map.get {R = nat_cmp} (store_map.from_entries segments) id
 
+-- what the opener of a file gives
 abbrev pub given_by : FileSpec → Given
 given_by f = if f.skip then skip else layout_of f.layout
 
@@ -45,6 +46,7 @@ told_by f = record { given = given_by f; store = store_of f.segments }
 abbrev pub answer_of : Manifest → List Item
 answer_of m = answer m.dtype m.request (map told_by m.files)
 
+-- the line of an item: none where it is damaged
 abbrev pub item_line : DataType → ℕ → ℕ → Option Val → List ℕ
 item_line d file row None = []
 item_line d file row (Some v) = line_of d file row v

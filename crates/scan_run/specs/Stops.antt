@@ -13,6 +13,7 @@ use Rattle.scan_run.specs.ReadAll.{GaveAll, TookMore}
 use Rattle.scan_manifest.specs.Manifest.{IsManifest}
 use Rattle.scan_run.specs.Run.{IsScanned, printed, IsRefused, IsUnbound, IsUnreadable, IsFailing, WroteNone}
 
+-- why a run stops by a fault of the scan
 abbrev pub stop_of : ScanFault → Stop
 stop_of fault.NoMemory = NoMemory
 stop_of (fault.Opener file) = Failed
@@ -28,6 +29,7 @@ stop_of (fault.TooManyRows file) = Unreadable
 stop_of fault.Concurrency = Unbound
 stop_of (fault.Overflow file) = Unreadable
 
+-- the status of a run that stops so
 abbrev pub status_of : Stop → ℕ
 status_of Unbound = 3
 status_of Unreadable = 4

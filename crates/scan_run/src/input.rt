@@ -58,7 +58,8 @@ pub fn read_all<I: Input>(alloc: Global, input: &mut I) -> Result<Vec<u8>, ReadF
     ensures ok { IfOk result (λ bytes. GaveAll bytes.items (I.input input.old) (I.input input.new)) }
     ensures failed { result ≡ Err ReadFault.Failed → Rose (I.input input.old).faults (I.input input.new).faults }
     ensures long { result ≡ Err ReadFault.TooLong → TookMore MOST_BYTES (I.input input.old) (I.input input.new) }
-    ensures short { result ≢ Err ReadFault.NoMemory → result ≢ Err ReadFault.TooLong → TookAtMost MOST_BYTES (I.input input.old) (I.input input.new) }
+    ensures short { result ≢ Err ReadFault.NoMemory → result ≢ Err ReadFault.TooLong →
+        TookAtMost MOST_BYTES (I.input input.old) (I.input input.new) }
     ensures bound { IfOk result (λ bytes. length bytes.items ≤ MOST_BYTES) }
     ensures stops { (I.input input.new).taken ≤ (I.input input.old).taken + (MOST_BYTES + 65_536) }
     ensures faults { (I.input input.old).faults ≤ (I.input input.new).faults }

@@ -1,6 +1,7 @@
 //! The program's run over any input and output, and the lines that it prints.
 #![tactic(auto)]
 
+mod generate;
 mod input;
 mod line;
 mod memory_input;

@@ -18,7 +18,7 @@ fn hex_digit(n: u8) -> u8
 }
 
 /// Appends bytes, or nothing.
-fn push_bytes(text: &[u8], out: &mut Vec<u8>) -> Result<(), NoMemory>
+pub(crate) fn push_bytes(text: &[u8], out: &mut Vec<u8>) -> Result<(), NoMemory>
     ensures ok { OnOk result (out.new.items ≡ out.old.items ++ text.now) }
     ensures err { OnErr result (out.new.items ≡ out.old.items) }
 {
@@ -92,7 +92,7 @@ fn push_quoted(text: &[u8], out: &mut Vec<u8>) -> Result<(), NoMemory>
     push_bytes(b"\"", out)
 }
 
-fn push_number(n: i128, out: &mut Vec<u8>) -> Result<(), NoMemory>
+pub(crate) fn push_number(n: i128, out: &mut Vec<u8>) -> Result<(), NoMemory>
     ensures ok { OnOk result (out.new.items ≡ out.old.items ++ signed_decimal n) }
     ensures err { OnErr result (out.new.items ≡ out.old.items) }
 {
@@ -100,7 +100,7 @@ fn push_number(n: i128, out: &mut Vec<u8>) -> Result<(), NoMemory>
     push_bytes(buffer.format(n).as_bytes(), out)
 }
 
-fn push_count(n: u64, out: &mut Vec<u8>) -> Result<(), NoMemory>
+pub(crate) fn push_count(n: u64, out: &mut Vec<u8>) -> Result<(), NoMemory>
     ensures ok { OnOk result (out.new.items ≡ out.old.items ++ decimal n) }
     ensures err { OnErr result (out.new.items ≡ out.old.items) }
 {

@@ -42,7 +42,8 @@ pub enum WriteFault {
 /// `Failed` and `NoMemory`, each only where the output's count of these rose.
 pub fn write_all<O: Output>(output: &mut O, bytes: &[u8]) -> Result<(), WriteFault>
     ensures front { WroteFront bytes.now (O.output output.old) (O.output output.new) }
-    ensures ok { OnOk result ((O.output output.new).written ≡ option_map (λ before. before ++ bytes.now) (O.output output.old).written) }
+    ensures ok { OnOk result ((O.output output.new).written ≡
+        option_map (λ before. before ++ bytes.now) (O.output output.old).written) }
     ensures failed { result ≡ Err WriteFault.Failed → Rose (O.output output.old).faults (O.output output.new).faults }
     ensures memory { result ≡ Err WriteFault.NoMemory → Rose (O.output output.old).short (O.output output.new).short }
 {

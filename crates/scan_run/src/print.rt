@@ -15,7 +15,8 @@ fn push_rows(
     dtype: &DType,
     out: &mut Vec<u8>,
 ) -> Result<(), NoMemory>
-    ensures { OnOk result (out.new.items ≡ out.old.items ++ lines_of dtype.now (row_items file rows.now (map val_of values.now))) }
+    ensures { OnOk result (out.new.items ≡ out.old.items
+        ++ lines_of dtype.now (row_items file rows.now (map val_of values.now))) }
 {
     let mut numbers = rows;
     let mut items = values;

@@ -11,12 +11,14 @@ ghost use Rattle.scan_run.specs.ReadAll.{TookMore};
 ghost use Rattle.scan_run.specs.Run.{is_scan_words, IsScanned, printed, IsDone, IsRefused, IsFound, IsUnbound, IsUnreadable, IsFailing, WroteNone};
 ghost use Rattle.scan_run.specs.Printed.{chunks_lines};
 ghost use Rattle.scan_run.specs.Stops.{stop_of, status_of, IsStop, IsTextOf, WroteFrontOfLines, IsGiven, Halts, IsReady, Ends};
+ghost use Rattle.scan_run.specs.GeneratedLine.{IsGenerated, WroteFrontOfLine, AskNothing};
 ghost use Rattle.scan_run.specs.FileOf.{IsFileOf, AreFilesOf, AreReady};
 ghost use Rattle.scan_run.specs.AskedOf.{IsAsked};
 ghost use Rattle.scan_manifest.specs.Manifest.{all_agree};
 ghost use Rattle.scan_manifest.specs.declared.manifest.FileSpec.{FileSpec};
 ghost use Rattle.scan_manifest.specs.declared.manifest.Manifest.{Manifest};
 
+use crate::generate::{generated_of, generated_text};
 use crate::input::{Input, MOST_BYTES, ReadFault, read_all};
 use crate::output::{Output, WriteFault, write_all};
 use crate::print::push_chunks;
@@ -202,8 +204,10 @@ fn scan_made<R: Threads + Sync, G: Gate>(
     gate: &G,
 ) -> Result<ScanOutput, Stop>
     requires { AreReady made.items }
-    ensures ok { IfOk result (λ out. (m : Manifest) → IsAsked m asked.now → AreFilesOf m.files made.items → IsScanned m out.chunks) }
-    ensures stop { IfErr result (λ s. (m : Manifest) → IsAsked m asked.now → AreFilesOf m.files made.items → IsStop m s) }
+    ensures ok { IfOk result (λ out. (m : Manifest) → IsAsked m asked.now → AreFilesOf m.files made.items →
+        IsScanned m out.chunks) }
+    ensures stop { IfErr result (λ s. (m : Manifest) → IsAsked m asked.now → AreFilesOf m.files made.items →
+        IsStop m s) }
 {
     let mut files = made;
     let mut cache = match new_cache(alloc, &asked.cache) {
@@ -294,8 +298,39 @@ fn take_text<R: Threads + Sync, I: Input, G: Gate>(
     }
 }
 
-/// The program: it reads a manifest from the input, scans its files, and writes a line for each row to the output.
-/// The words are those after the program's name; `scan` alone is served. The answer is the exit status:
+// The program where the words are not `scan`: it reads no input.
+#[tactic(none)]
+fn run_generated<R: Threads + Sync, O: Output, G: Gate>(
+    rt: &R,
+    alloc: Global,
+    words: &[String],
+    output: &mut O,
+    gate: &G,
+) -> u8
+    ensures done { result ≡ 0 → IsGenerated (map string_bytes words.now) (O.output output.old) (O.output output.new) }
+    ensures words { (result ≡ 1) ↔ AskNothing (map string_bytes words.now) }
+    ensures io { result ≡ 6 → Rose (O.output output.old).faults (O.output output.new).faults }
+    ensures nothing { result ≡ 1 → WroteNone (O.output output.old) (O.output output.new) }
+    ensures front { WroteFrontOfLine (map string_bytes words.now) (O.output output.old) (O.output output.new) }
+    ensures ends { (result ≡ 0) ⊎ (result ≡ 1) ⊎ (result ≡ 6) ⊎ (result ≡ 7) }
+{
+    let Some((rows, spelling)) = generated_of(words) else {
+        return 1;
+    };
+    match generated_text(rt, alloc, rows, spelling, gate) {
+        Ok(text) => match write_all(output, text.as_slice()) {
+            Ok(()) => 0,
+            Err(WriteFault::Failed) => 6,
+            Err(WriteFault::NoMemory) => 7,
+        },
+        Err(NoMemory) => 7,
+    }
+}
+
+/// The program. With the words `scan` it reads a manifest from the input, scans its files, and writes a line for each row
+/// to the output. With `generate`, a number of rows from 1 to 100,000 and maybe a spelling, `1` or `2`, it reads nothing,
+/// scans three generated files, and writes a line of totals. The words are those after the program's name. The answer is
+/// the exit status, of which `generate` has 0, 6 and 7 alone:
 /// 0 the lines were written, 1 other words, 2 the input is no manifest, 3 the request does not bind,
 /// 4 a file's layout is of another dtype or not well-formed, a segment is missing or damaged, or an expression overflows,
 /// 5 an opener or a source failed, 6 the input or the output failed or the input has more than 67,108,864 bytes, 7 want
@@ -309,22 +344,35 @@ pub fn run<R: Threads + Sync, I: Input, O: Output, G: Gate>(
     output: &mut O,
     gate: &G,
 ) -> u8
-    ensures done { result ≡ 0 → IsDone (I.input input.old) (I.input input.new) (O.output output.old) (O.output output.new) }
-    ensures words { (result ≡ 1) ↔ (is_scan_words (map string_bytes words.now) ≡ false) }
+    ensures done { is_scan_words (map string_bytes words.now) ≡ true → result ≡ 0 →
+        IsDone (I.input input.old) (I.input input.new) (O.output output.old) (O.output output.new) }
+    ensures generated { is_scan_words (map string_bytes words.now) ≡ false → result ≡ 0 →
+        IsGenerated (map string_bytes words.now) (O.output output.old) (O.output output.new) }
+    ensures words { (result ≡ 1) ↔ ((is_scan_words (map string_bytes words.now) ≡ false)
+        × AskNothing (map string_bytes words.now)) }
+    ensures untouched { is_scan_words (map string_bytes words.now) ≡ false → I.input input.new ≡ I.input input.old }
+    ensures ends { is_scan_words (map string_bytes words.now) ≡ false →
+        (result ≡ 0) ⊎ (result ≡ 1) ⊎ (result ≡ 6) ⊎ (result ≡ 7) }
     ensures unread { result ≡ 1 → I.input input.new ≡ I.input input.old }
     ensures refused { result ≡ 2 → IsRefused (I.input input.old) (I.input input.new) }
     ensures unbound { result ≡ 3 → IsFound (I.input input.old) (I.input input.new) IsUnbound }
     ensures unreadable { result ≡ 4 → IsFound (I.input input.old) (I.input input.new) IsUnreadable }
     ensures failing { result ≡ 5 → IsFound (I.input input.old) (I.input input.new) IsFailing }
-    ensures io { result ≡ 6 → (Rose (I.input input.old).faults (I.input input.new).faults ⊎ Rose (O.output output.old).faults (O.output output.new).faults) ⊎ TookMore MOST_BYTES (I.input input.old) (I.input input.new) }
+    ensures io { result ≡ 6 → (Rose (I.input input.old).faults (I.input input.new).faults
+        ⊎ Rose (O.output output.old).faults (O.output output.new).faults)
+        ⊎ TookMore MOST_BYTES (I.input input.old) (I.input input.new) }
     ensures nothing { 0 < result → result < 6 → WroteNone (O.output output.old) (O.output output.new) }
-    ensures unwritten { result ≡ 6 → Rose (O.output output.old).faults (O.output output.new).faults ⊎ WroteNone (O.output output.old) (O.output output.new) }
-    ensures front { WroteFrontOfLines (I.input input.old) (I.input input.new) (O.output output.old) (O.output output.new) }
+    ensures unwritten { result ≡ 6 → Rose (O.output output.old).faults (O.output output.new).faults
+        ⊎ WroteNone (O.output output.old) (O.output output.new) }
+    ensures front_of_line { is_scan_words (map string_bytes words.now) ≡ false →
+        WroteFrontOfLine (map string_bytes words.now) (O.output output.old) (O.output output.new) }
+    ensures front { is_scan_words (map string_bytes words.now) ≡ true →
+        WroteFrontOfLines (I.input input.old) (I.input input.new) (O.output output.old) (O.output output.new) }
     ensures stops { (I.input input.new).taken ≤ (I.input input.old).taken + (MOST_BYTES + 65_536) }
     ensures statuses { result < 8 }
 {
     if !is_scan(words) {
-        return 1;
+        return run_generated(rt, alloc, words, output, gate);
     }
     match take_text(rt, alloc, input, gate) {
         Ok(text) => match write_all(output, text.as_slice()) {

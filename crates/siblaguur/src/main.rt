@@ -1,4 +1,5 @@
-//! Reads a manifest from standard input, scans, and prints a line for each row.
+//! Reads a manifest from standard input, scans, and prints a line for each row; or scans generated files, and prints their
+//! totals.
 #![tactic(auto)]
 
 use scan_run::run::run;

@@ -1,7 +1,8 @@
 //! A writer of lines.
-ghost use Rattle.std.specs.Prelude.{◌≡◌, IfOk, Err};
+ghost use Rattle.std.specs.Prelude.{◌≡◌, IfOk, Err, true, map, string_bytes};
 ghost use Rattle.scan_manifest.specs.declared.manifest.Manifest.{Manifest};
 ghost use Rattle.scan_manifest.specs.Manifest.{IsManifest};
+ghost use Rattle.scan_run.specs.Run.{is_scan_words};
 ghost use Rattle.uses.specs.Uses.{AreLinesOf};
 
 use crate::never::never;
@@ -12,7 +13,9 @@ use std::alloc::Global;
 use std::thread::Threads;
 
 /// The words with which the program is called.
-fn scan_words(alloc: Global) -> Result<Vec<String>, NoMemory> {
+fn scan_words(alloc: Global) -> Result<Vec<String>, NoMemory>
+    ensures { IfOk result (λ v. is_scan_words (map string_bytes v.items) ≡ true) }
+{
     let mut words = Vec::new(alloc);
     words.push(String::from_str(alloc, "scan")?)?;
     Ok(words)

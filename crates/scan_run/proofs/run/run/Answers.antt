@@ -1,48 +1,79 @@
--- What a run has done at each of its ends: other words, the lines written, a write that failed, no memory, and an end before anything is written.
+-- What a run has done at each of its ends: words that are not `scan`, the lines written, a write that failed, no memory, and an end before anything is written.
 use Rattle.std.proofs.Common.{Err, refl, sym, ap, ◌∙◌, inl, inr, arith}
 use Rattle.scan_run.proofs.Running.{end_done, end_words, end_refused, end_unbound, end_unreadable, end_failing, end_io, end_below, ready_done, ready_front}
+use Rattle.scan_run.proofs.Generating.{clash, other}
 use Rattle.scan_run.proofs.run.run.Goals as goal
 
 pub returns-then-not-is_scan-clause-done : goal.returns-then-not-is_scan-clause-done
-returns-then-not-is_scan-clause-done g c = λ e. absurd (omega arith)
+returns-then-not-is_scan-clause-done g c = λ s. clash _ c.is_scan.result (sym c.is_scan.ensures) s c.if-not-is_scan.true
+
+pub returns-then-not-is_scan-clause-generated : goal.returns-then-not-is_scan-clause-generated
+returns-then-not-is_scan-clause-generated g c = λ s. c.run_generated.ensures.done
 
 pub returns-then-not-is_scan-clause-words : goal.returns-then-not-is_scan-clause-words
-returns-then-not-is_scan-clause-words g c = (λ e. sym c.is_scan.ensures ∙ c.if-not-is_scan.true, λ h. refl)
+returns-then-not-is_scan-clause-words g c = (λ e. (sym c.is_scan.ensures ∙ c.if-not-is_scan.true, c.run_generated.ensures.words.0 e), λ h. c.run_generated.ensures.words.1 h.1)
+
+pub returns-then-not-is_scan-clause-untouched : goal.returns-then-not-is_scan-clause-untouched
+returns-then-not-is_scan-clause-untouched g c = λ s. refl
+
+pub returns-then-not-is_scan-clause-ends : goal.returns-then-not-is_scan-clause-ends
+returns-then-not-is_scan-clause-ends g c = λ s. c.run_generated.ensures.ends
 
 pub returns-then-not-is_scan-clause-unread : goal.returns-then-not-is_scan-clause-unread
 returns-then-not-is_scan-clause-unread g c = λ e. refl
 
 pub returns-then-not-is_scan-clause-refused : goal.returns-then-not-is_scan-clause-refused
-returns-then-not-is_scan-clause-refused g c = λ e. absurd (omega arith)
+returns-then-not-is_scan-clause-refused g c = λ e. absurd ((other c.run_generated.result c.run_generated.ensures.ends).0 e)
 
 pub returns-then-not-is_scan-clause-unbound : goal.returns-then-not-is_scan-clause-unbound
-returns-then-not-is_scan-clause-unbound g c = λ e. absurd (omega arith)
+returns-then-not-is_scan-clause-unbound g c = λ e. absurd ((other c.run_generated.result c.run_generated.ensures.ends).1 e)
 
 pub returns-then-not-is_scan-clause-unreadable : goal.returns-then-not-is_scan-clause-unreadable
-returns-then-not-is_scan-clause-unreadable g c = λ e. absurd (omega arith)
+returns-then-not-is_scan-clause-unreadable g c = λ e. absurd ((other c.run_generated.result c.run_generated.ensures.ends).2 e)
+
+pub returns-then-not-is_scan-clause-failing : goal.returns-then-not-is_scan-clause-failing
+returns-then-not-is_scan-clause-failing g c = λ e. absurd ((other c.run_generated.result c.run_generated.ensures.ends).3 e)
 
 pub returns-then-not-is_scan-clause-io : goal.returns-then-not-is_scan-clause-io
-returns-then-not-is_scan-clause-io g c = λ e. absurd (omega arith)
+returns-then-not-is_scan-clause-io g c = λ e. inl (inr (c.run_generated.ensures.io e))
 
 pub returns-then-not-is_scan-clause-nothing : goal.returns-then-not-is_scan-clause-nothing
-returns-then-not-is_scan-clause-nothing g c = λ h k. refl
+returns-then-not-is_scan-clause-nothing g c = λ h k. c.run_generated.ensures.nothing ((other c.run_generated.result c.run_generated.ensures.ends).5 h k)
 
 pub returns-then-not-is_scan-clause-unwritten : goal.returns-then-not-is_scan-clause-unwritten
-returns-then-not-is_scan-clause-unwritten g c = λ e. absurd (omega arith)
+returns-then-not-is_scan-clause-unwritten g c = λ e. inl (c.run_generated.ensures.io e)
+
+pub returns-then-not-is_scan-clause-front_of_line : goal.returns-then-not-is_scan-clause-front_of_line
+returns-then-not-is_scan-clause-front_of_line g c = λ s. c.run_generated.ensures.front
 
 pub returns-then-not-is_scan-clause-front : goal.returns-then-not-is_scan-clause-front
-returns-then-not-is_scan-clause-front g c = inl refl
+returns-then-not-is_scan-clause-front g c = λ s. clash _ c.is_scan.result (sym c.is_scan.ensures) s c.if-not-is_scan.true
+
+pub returns-then-not-is_scan-clause-stops : goal.returns-then-not-is_scan-clause-stops
+returns-then-not-is_scan-clause-stops g c = omega arith
 
 pub returns-then-not-is_scan-clause-statuses : goal.returns-then-not-is_scan-clause-statuses
-returns-then-not-is_scan-clause-statuses g c = omega arith
+returns-then-not-is_scan-clause-statuses g c = (other c.run_generated.result c.run_generated.ensures.ends).4
 
 pub returns-in-Ok-write_all-clause-done : goal.returns-in-Ok-write_all-clause-done
-returns-in-Ok-write_all-clause-done g c = λ e. ready_done c.in-Ok.text.items c.as_slice.result.now (g.I.Input.input c.args.input.now)
+returns-in-Ok-write_all-clause-done g c = λ s e. ready_done c.in-Ok.text.items c.as_slice.result.now (g.I.Input.input c.args.input.now)
     (g.I.Input.input c.take_text.new.input) (g.O.Output.output c.args.output.now)
     (g.O.Output.output c.write_all.new.output) c.as_slice.ensures.value c.in-Ok.ensures.ok c.in-Ok-write_all.ensures.ok
 
 pub returns-in-Ok-write_all-clause-words : goal.returns-in-Ok-write_all-clause-words
-returns-in-Ok-write_all-clause-words g c = (λ e. absurd (omega arith), λ h. cc (c.is_scan.ensures, c.if-not-is_scan.false))
+returns-in-Ok-write_all-clause-words g c = (λ e. absurd (omega arith), λ h. clash c.is_scan.result _ c.is_scan.ensures c.if-not-is_scan.false h.0)
+
+pub returns-in-Ok-write_all-clause-generated : goal.returns-in-Ok-write_all-clause-generated
+returns-in-Ok-write_all-clause-generated g c = λ s. clash c.is_scan.result _ c.is_scan.ensures c.if-not-is_scan.false s
+
+pub returns-in-Ok-write_all-clause-untouched : goal.returns-in-Ok-write_all-clause-untouched
+returns-in-Ok-write_all-clause-untouched g c = λ s. clash c.is_scan.result _ c.is_scan.ensures c.if-not-is_scan.false s
+
+pub returns-in-Ok-write_all-clause-ends : goal.returns-in-Ok-write_all-clause-ends
+returns-in-Ok-write_all-clause-ends g c = λ s. clash c.is_scan.result _ c.is_scan.ensures c.if-not-is_scan.false s
+
+pub returns-in-Ok-write_all-clause-front_of_line : goal.returns-in-Ok-write_all-clause-front_of_line
+returns-in-Ok-write_all-clause-front_of_line g c = λ s. clash c.is_scan.result _ c.is_scan.ensures c.if-not-is_scan.false s
 
 pub returns-in-Ok-write_all-clause-unread : goal.returns-in-Ok-write_all-clause-unread
 returns-in-Ok-write_all-clause-unread g c = λ e. absurd (omega arith)
@@ -66,7 +97,7 @@ pub returns-in-Ok-write_all-clause-unwritten : goal.returns-in-Ok-write_all-clau
 returns-in-Ok-write_all-clause-unwritten g c = λ e. absurd (omega arith)
 
 pub returns-in-Ok-write_all-clause-front : goal.returns-in-Ok-write_all-clause-front
-returns-in-Ok-write_all-clause-front g c = ready_front c.in-Ok.text.items c.as_slice.result.now (g.I.Input.input c.args.input.now)
+returns-in-Ok-write_all-clause-front g c = λ s. ready_front c.in-Ok.text.items c.as_slice.result.now (g.I.Input.input c.args.input.now)
     (g.I.Input.input c.take_text.new.input) (g.O.Output.output c.args.output.now)
     (g.O.Output.output c.write_all.new.output) c.as_slice.ensures.value c.in-Ok.ensures.ok c.write_all.ensures.front
 
@@ -74,10 +105,22 @@ pub returns-in-Ok-write_all-clause-statuses : goal.returns-in-Ok-write_all-claus
 returns-in-Ok-write_all-clause-statuses g c = omega arith
 
 pub returns-in-Err-Failed-clause-done : goal.returns-in-Err-Failed-clause-done
-returns-in-Err-Failed-clause-done g c = λ e. absurd (omega arith)
+returns-in-Err-Failed-clause-done g c = λ s e. absurd (omega arith)
 
 pub returns-in-Err-Failed-clause-words : goal.returns-in-Err-Failed-clause-words
-returns-in-Err-Failed-clause-words g c = (λ e. absurd (omega arith), λ h. cc (c.is_scan.ensures, c.if-not-is_scan.false))
+returns-in-Err-Failed-clause-words g c = (λ e. absurd (omega arith), λ h. clash c.is_scan.result _ c.is_scan.ensures c.if-not-is_scan.false h.0)
+
+pub returns-in-Err-Failed-clause-generated : goal.returns-in-Err-Failed-clause-generated
+returns-in-Err-Failed-clause-generated g c = λ s. clash c.is_scan.result _ c.is_scan.ensures c.if-not-is_scan.false s
+
+pub returns-in-Err-Failed-clause-untouched : goal.returns-in-Err-Failed-clause-untouched
+returns-in-Err-Failed-clause-untouched g c = λ s. clash c.is_scan.result _ c.is_scan.ensures c.if-not-is_scan.false s
+
+pub returns-in-Err-Failed-clause-ends : goal.returns-in-Err-Failed-clause-ends
+returns-in-Err-Failed-clause-ends g c = λ s. clash c.is_scan.result _ c.is_scan.ensures c.if-not-is_scan.false s
+
+pub returns-in-Err-Failed-clause-front_of_line : goal.returns-in-Err-Failed-clause-front_of_line
+returns-in-Err-Failed-clause-front_of_line g c = λ s. clash c.is_scan.result _ c.is_scan.ensures c.if-not-is_scan.false s
 
 pub returns-in-Err-Failed-clause-unread : goal.returns-in-Err-Failed-clause-unread
 returns-in-Err-Failed-clause-unread g c = λ e. absurd (omega arith)
@@ -101,7 +144,7 @@ pub returns-in-Err-Failed-clause-unwritten : goal.returns-in-Err-Failed-clause-u
 returns-in-Err-Failed-clause-unwritten g c = λ e. inl (c.in-Err-Failed.ensures.failed (ap Err c.in-Err-Failed.field-0-is))
 
 pub returns-in-Err-Failed-clause-front : goal.returns-in-Err-Failed-clause-front
-returns-in-Err-Failed-clause-front g c = ready_front c.in-Ok.text.items c.as_slice.result.now (g.I.Input.input c.args.input.now)
+returns-in-Err-Failed-clause-front g c = λ s. ready_front c.in-Ok.text.items c.as_slice.result.now (g.I.Input.input c.args.input.now)
     (g.I.Input.input c.take_text.new.input) (g.O.Output.output c.args.output.now)
     (g.O.Output.output c.write_all.new.output) c.as_slice.ensures.value c.in-Ok.ensures.ok c.write_all.ensures.front
 
@@ -109,10 +152,22 @@ pub returns-in-Err-Failed-clause-statuses : goal.returns-in-Err-Failed-clause-st
 returns-in-Err-Failed-clause-statuses g c = omega arith
 
 pub returns-in-Ok-clause-done : goal.returns-in-Ok-clause-done
-returns-in-Ok-clause-done g c = λ e. absurd (omega arith)
+returns-in-Ok-clause-done g c = λ s e. absurd (omega arith)
 
 pub returns-in-Ok-clause-words : goal.returns-in-Ok-clause-words
-returns-in-Ok-clause-words g c = (λ e. absurd (omega arith), λ h. cc (c.is_scan.ensures, c.if-not-is_scan.false))
+returns-in-Ok-clause-words g c = (λ e. absurd (omega arith), λ h. clash c.is_scan.result _ c.is_scan.ensures c.if-not-is_scan.false h.0)
+
+pub returns-in-Ok-clause-generated : goal.returns-in-Ok-clause-generated
+returns-in-Ok-clause-generated g c = λ s. clash c.is_scan.result _ c.is_scan.ensures c.if-not-is_scan.false s
+
+pub returns-in-Ok-clause-untouched : goal.returns-in-Ok-clause-untouched
+returns-in-Ok-clause-untouched g c = λ s. clash c.is_scan.result _ c.is_scan.ensures c.if-not-is_scan.false s
+
+pub returns-in-Ok-clause-ends : goal.returns-in-Ok-clause-ends
+returns-in-Ok-clause-ends g c = λ s. clash c.is_scan.result _ c.is_scan.ensures c.if-not-is_scan.false s
+
+pub returns-in-Ok-clause-front_of_line : goal.returns-in-Ok-clause-front_of_line
+returns-in-Ok-clause-front_of_line g c = λ s. clash c.is_scan.result _ c.is_scan.ensures c.if-not-is_scan.false s
 
 pub returns-in-Ok-clause-unread : goal.returns-in-Ok-clause-unread
 returns-in-Ok-clause-unread g c = λ e. absurd (omega arith)
@@ -136,17 +191,29 @@ pub returns-in-Ok-clause-unwritten : goal.returns-in-Ok-clause-unwritten
 returns-in-Ok-clause-unwritten g c = λ e. absurd (omega arith)
 
 pub returns-in-Ok-clause-front : goal.returns-in-Ok-clause-front
-returns-in-Ok-clause-front g c = ready_front c.in-Ok.text.items c.as_slice.result.now (g.I.Input.input c.args.input.now) (g.I.Input.input c.take_text.new.input)
+returns-in-Ok-clause-front g c = λ s. ready_front c.in-Ok.text.items c.as_slice.result.now (g.I.Input.input c.args.input.now) (g.I.Input.input c.take_text.new.input)
     (g.O.Output.output c.args.output.now) (g.O.Output.output c.write_all.new.output) c.as_slice.ensures.value c.in-Ok.ensures.ok c.write_all.ensures.front
 
 pub returns-in-Ok-clause-statuses : goal.returns-in-Ok-clause-statuses
 returns-in-Ok-clause-statuses g c = omega arith
 
 pub returns-clause-done : goal.returns-clause-done
-returns-clause-done g c = λ e. absurd (end_done c.in-Err.status (g.I.Input.input c.args.input.now) (g.I.Input.input c.take_text.new.input) c.in-Err.ensures.end e)
+returns-clause-done g c = λ s e. absurd (end_done c.in-Err.status (g.I.Input.input c.args.input.now) (g.I.Input.input c.take_text.new.input) c.in-Err.ensures.end e)
 
 pub returns-clause-words : goal.returns-clause-words
-returns-clause-words g c = (λ e. absurd (end_words c.in-Err.status (g.I.Input.input c.args.input.now) (g.I.Input.input c.take_text.new.input) c.in-Err.ensures.end e), λ h. cc (c.is_scan.ensures, c.if-not-is_scan.false))
+returns-clause-words g c = (λ e. absurd (end_words c.in-Err.status (g.I.Input.input c.args.input.now) (g.I.Input.input c.take_text.new.input) c.in-Err.ensures.end e), λ h. clash c.is_scan.result _ c.is_scan.ensures c.if-not-is_scan.false h.0)
+
+pub returns-clause-generated : goal.returns-clause-generated
+returns-clause-generated g c = λ s. clash c.is_scan.result _ c.is_scan.ensures c.if-not-is_scan.false s
+
+pub returns-clause-untouched : goal.returns-clause-untouched
+returns-clause-untouched g c = λ s. clash c.is_scan.result _ c.is_scan.ensures c.if-not-is_scan.false s
+
+pub returns-clause-ends : goal.returns-clause-ends
+returns-clause-ends g c = λ s. clash c.is_scan.result _ c.is_scan.ensures c.if-not-is_scan.false s
+
+pub returns-clause-front_of_line : goal.returns-clause-front_of_line
+returns-clause-front_of_line g c = λ s. clash c.is_scan.result _ c.is_scan.ensures c.if-not-is_scan.false s
 
 pub returns-clause-unread : goal.returns-clause-unread
 returns-clause-unread g c = λ e. absurd (end_words c.in-Err.status (g.I.Input.input c.args.input.now) (g.I.Input.input c.take_text.new.input) c.in-Err.ensures.end e)
@@ -170,16 +237,10 @@ pub returns-clause-unwritten : goal.returns-clause-unwritten
 returns-clause-unwritten g c = λ e. inr refl
 
 pub returns-clause-front : goal.returns-clause-front
-returns-clause-front g c = inl refl
+returns-clause-front g c = λ s. inl refl
 
 pub returns-clause-statuses : goal.returns-clause-statuses
 returns-clause-statuses g c = end_below c.in-Err.status (g.I.Input.input c.args.input.now) (g.I.Input.input c.take_text.new.input) c.in-Err.ensures.end
-
-pub returns-then-not-is_scan-clause-failing : goal.returns-then-not-is_scan-clause-failing
-returns-then-not-is_scan-clause-failing g c = λ e. absurd (omega arith)
-
-pub returns-then-not-is_scan-clause-stops : goal.returns-then-not-is_scan-clause-stops
-returns-then-not-is_scan-clause-stops g c = omega arith
 
 pub returns-in-Ok-write_all-clause-failing : goal.returns-in-Ok-write_all-clause-failing
 returns-in-Ok-write_all-clause-failing g c = λ e. absurd (omega arith)

@@ -1,4 +1,6 @@
-use Rattle.std.proofs.Common.{◌≡◌, ap, arith, rules}
+use Rattle.std.proofs.Common.{◌≡◌, ap, map, true, arith, rules}
+use Rattle.std.specs.Prelude.{string_bytes}
+use Rattle.scan_run.specs.Run.{is_scan_words}
 use Rattle.uses.proofs.Concluding.{code_of, lines-are, is-none}
 use Rattle.uses.proofs.program.lines_of.Goals as goal
 
@@ -11,8 +13,9 @@ returns-then-status-eq0-clause-lines g c =
     let output = c.new-output.result in
     let now = c.run-status.new.output in
     let zero : c.run-status.result ≡ 0 = search rules in
+    let scan : is_scan_words (map string_bytes c.as_slice.result.now) ≡ true = search rules in
     lines-are c.args.manifest.items input.bytes.items output.bytes.items now.bytes.items input.at input.taken input.ends input.faults output.faults output.short now.faults now.short _
-    c.new-input.ensures.bytes c.new-output.ensures.bytes (c.run-status.ensures.done zero)
+    c.new-input.ensures.bytes c.new-output.ensures.bytes (c.run-status.ensures.done scan zero)
 
 pub returns-then-status-eq0-clause-refused : goal.returns-then-status-eq0-clause-refused
 returns-then-status-eq0-clause-refused g c e m i = let n = ap code_of e in absurd (omega (arith, n))

@@ -1,0 +1,124 @@
+//! What is printed of a scan of generated files.
+ghost use Rattle.std.specs.Prelude.{◌≡◌, ◌++◌, ◌+ℤ◌, IfOk, OnOk, map};
+ghost use Rattle.scan_values.specs.Val.{struct_val, vals_of};
+ghost use Rattle.scan_values.specs.Values.{val_of};
+ghost use Rattle.scan_run.specs.Totals.{id_in, length_in, with_row, with_values, with_chunks, no_totals, totals_line};
+ghost use Rattle.scan_run.specs.declared.generate.totals.Totals.{Totals};
+
+use crate::line::{push_bytes, push_count, push_number};
+use scan_multi::ScanChunk;
+use scan_values::{NoMemory, Value};
+
+/// How many rows were given, and the sums of their ids and of the lengths of their lists.
+#[derive(Clone, Copy)]
+pub(crate) struct Totals {
+    pub rows: u64,
+    pub ids: i128,
+    pub lengths: i128,
+}
+
+fn id_among(fields: &[Value]) -> i128
+    ensures { result ≡ id_in (struct_val (vals_of (map val_of fields.now))) }
+{
+    match fields {
+        [Value::Int(id), ..] => *id,
+        _ => 0,
+    }
+}
+
+fn length_among(fields: &[Value]) -> i128
+    ensures { result ≡ length_in (struct_val (vals_of (map val_of fields.now))) }
+{
+    match fields {
+        [_, rest @ ..] => id_among(rest),
+        [] => 0,
+    }
+}
+
+// The id of a row.
+fn id_in(value: &Value) -> i128
+    ensures { result ≡ id_in (val_of value.now) }
+{
+    match value {
+        Value::Struct(fields) => id_among(fields.as_slice()),
+        _ => 0,
+    }
+}
+
+// The length of the list of a row.
+fn length_in(value: &Value) -> i128
+    ensures { result ≡ length_in (val_of value.now) }
+{
+    match value {
+        Value::Struct(fields) => length_among(fields.as_slice()),
+        _ => 0,
+    }
+}
+
+// The totals with one more row.
+fn with_row(totals: Totals, value: &Value) -> Result<Totals, NoMemory>
+    ensures { IfOk result (λ t. t ≡ with_row totals (val_of value.now)) }
+{
+    let Some(rows) = totals.rows.checked_add(1) else {
+        return Err(NoMemory);
+    };
+    let Some(ids) = totals.ids.checked_add(id_in(value)) else {
+        return Err(NoMemory);
+    };
+    let Some(lengths) = totals.lengths.checked_add(length_in(value)) else {
+        return Err(NoMemory);
+    };
+    Ok(Totals { rows, ids, lengths })
+}
+
+// The totals with more rows.
+fn with_values(totals: Totals, values: &[Value]) -> Result<Totals, NoMemory>
+    ensures { IfOk result (λ t. t ≡ with_values totals (map val_of values.now)) }
+{
+    let mut now = totals;
+    for value in values {
+        now = with_row(now, value)?;
+    }
+    Ok(now)
+}
+
+/// The totals of some chunks. A sum that no i128 holds is refused as want of memory.
+pub(crate) fn totals_of(chunks: &[ScanChunk]) -> Result<Totals, NoMemory>
+    ensures { IfOk result (λ t. t ≡ with_chunks no_totals chunks.now) }
+{
+    let mut now = Totals {
+        rows: 0,
+        ids: 0,
+        lengths: 0,
+    };
+    for chunk in chunks {
+        now = with_values(now, chunk.values.as_slice())?;
+    }
+    Ok(now)
+}
+
+/// Appends the line of a scan of so many rows a file: how many rows were given, the sums of their ids and of the lengths of
+/// their lists, and how many segments it asked for.
+pub(crate) fn push_totals(
+    rows: u32,
+    given: u64,
+    ids: i128,
+    lengths: i128,
+    asks: u64,
+    out: &mut Vec<u8>,
+) -> Result<(), NoMemory>
+    ensures { OnOk result (out.new.items
+        ≡ out.old.items ++ totals_line rows (record { rows = given; ids = ids; lengths = lengths }) asks) }
+{
+    push_bytes(b"n=", out)?;
+    push_count(rows as u64, out)?;
+    push_bytes(b" rows=", out)?;
+    push_count(given, out)?;
+    push_bytes(b" ids=", out)?;
+    push_number(ids, out)?;
+    push_bytes(b" lengths=", out)?;
+    push_number(lengths, out)?;
+    push_bytes(b" asked=", out)?;
+    push_count(asks, out)?;
+    push_bytes(b"\n", out)
+}
