@@ -31,7 +31,8 @@ pub fn first_rows<
 ) -> Result<Vec<ScanChunk>, ScanFault>
     requires { All (IsIdle O.opener S.state) files.old.items }
     ensures first { IfOk result (λ chunks. IsLawful O.opener S.state files.old.items (C.cache cache.old) →
-        given chunks.items ≡ take most (answer dtype.now (first_of projection most) (told O.opener S.state files.old.items))) }
+        given chunks.items ≡ take most
+        (answer dtype.now (first_of projection most) (told O.opener S.state files.old.items))) }
     ensures idle { All (IsIdle O.opener S.state) files.new.items }
     ensures lawful { IsLawful O.opener S.state files.old.items (C.cache cache.old) →
         IsLawful O.opener S.state files.new.items (C.cache cache.new) }

@@ -5,9 +5,11 @@ mod count;
 mod first;
 mod never;
 mod program;
+mod row;
 mod twice;
 
 pub use count::count_rows;
 pub use first::first_rows;
 pub use program::lines_of;
+pub use row::value_at_row;
 pub use twice::scan_twice;
