@@ -140,11 +140,14 @@ fn layouts_are_read(rt: HostRuntime) -> Result<(), Fail> {
 fn manifests_are_read(rt: HostRuntime) -> Result<(), Fail> {
     let rows = [
         (
-            r#"{"dtype":"i32","files":[{"id":"","layout":{"leaf":[],"rows":0},"segments":[]}],"request":{"projection":"$","filter":"$","range":[2,1],"include":[0,2],"ordered":false,"limit":0,"partitions":[0,1]},"workers":256,"cache":{"bytes":0,"entries":65536,"eviction":"use_counts"}}"#,
+            r#"{"dtype":"i32","files":[{"id":"","layout":{"leaf":[],"rows":0},"segments":[]}],
+              "request":{"projection":"$","filter":"$","range":[2,1],"include":[0,2],"ordered":false,"limit":0,
+              "partitions":[0,1]},"workers":256,"cache":{"bytes":0,"entries":65536,"eviction":"use_counts"}}"#,
             true,
         ),
         (
-            r#"{"dtype":"i32","files":[{"id":"","layout":{"leaf":[],"rows":0},"segments":[],"dtype":"u8","skip":true,"open":{},"source":{"fail":[],"pending":[1,2]}}],"request":{"projection":"$","exclude":[]}}"#,
+            r#"{"dtype":"i32","files":[{"id":"","layout":{"leaf":[],"rows":0},"segments":[],"dtype":"u8","skip":true,"open":{},
+              "source":{"fail":[],"pending":[1,2]}}],"request":{"projection":"$","exclude":[]}}"#,
             true,
         ),
         (
@@ -164,7 +167,8 @@ fn manifests_are_read(rt: HostRuntime) -> Result<(), Fail> {
             false,
         ),
         (
-            r#"{"dtype":"i32","files":[{"id":"","layout":{"leaf":[],"rows":0},"segments":[]}],"request":{"projection":"$"},"cache":{"bytes":1,"entries":0,"eviction":"lru"}}"#,
+            r#"{"dtype":"i32","files":[{"id":"","layout":{"leaf":[],"rows":0},"segments":[]}],"request":{"projection":"$"},
+              "cache":{"bytes":1,"entries":0,"eviction":"lru"}}"#,
             false,
         ),
         (

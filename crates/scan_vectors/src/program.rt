@@ -9,66 +9,91 @@ use std::alloc::Global;
 use std::test::Fail;
 use std::thread::Threads;
 
-const TWO_COLUMNS: &str =
-    r#"{"dtype":{"struct":[["a","i32"],["b","i32"]]},"files":[{"id":"A","layout":{"struct":[{"leaf":[[0,3]],"rows":3},{"leaf":[[1,3]],"rows":3}],"rows":3},"segments":[[0,"010000000200000003000000"],[1,"0a000000140000001e000000"]]}],"request":{"projection":{"select":[["a"],"$"]}}}"#;
+const TWO_COLUMNS: &str = r#"{"dtype":{"struct":[["a","i32"],["b","i32"]]},
+      "files":[{"id":"A","layout":{"struct":[{"leaf":[[0,3]],"rows":3},{"leaf":[[1,3]],"rows":3}],"rows":3},
+      "segments":[[0,"010000000200000003000000"],[1,"0a000000140000001e000000"]]}],
+      "request":{"projection":{"select":[["a"],"$"]}}}"#;
 
-const MISSING_FIELD: &str =
-    r#"{"dtype":{"struct":[["a","i32"],["b","i32"]]},"files":[{"id":"A","layout":{"struct":[{"leaf":[[0,3]],"rows":3},{"leaf":[[1,3]],"rows":3}],"rows":3},"segments":[[0,"010000000200000003000000"],[1,"0a000000140000001e000000"]]}],"request":{"projection":{"select":[["z"],"$"]}}}"#;
+const MISSING_FIELD: &str = r#"{"dtype":{"struct":[["a","i32"],["b","i32"]]},
+      "files":[{"id":"A","layout":{"struct":[{"leaf":[[0,3]],"rows":3},{"leaf":[[1,3]],"rows":3}],"rows":3},
+      "segments":[[0,"010000000200000003000000"],[1,"0a000000140000001e000000"]]}],
+      "request":{"projection":{"select":[["z"],"$"]}}}"#;
 
-const CUT_SEGMENT: &str =
-    r#"{"dtype":{"struct":[["a","i32"],["b","i32"]]},"files":[{"id":"A","layout":{"struct":[{"leaf":[[0,3]],"rows":3},{"leaf":[[1,3]],"rows":3}],"rows":3},"segments":[[0,"0100000002000000030000"],[1,"0a000000140000001e000000"]]}],"request":{"projection":{"select":[["a"],"$"]}}}"#;
+const CUT_SEGMENT: &str = r#"{"dtype":{"struct":[["a","i32"],["b","i32"]]},
+      "files":[{"id":"A","layout":{"struct":[{"leaf":[[0,3]],"rows":3},{"leaf":[[1,3]],"rows":3}],"rows":3},
+      "segments":[[0,"0100000002000000030000"],[1,"0a000000140000001e000000"]]}],
+      "request":{"projection":{"select":[["a"],"$"]}}}"#;
 
-const REPEATED_FIELD: &str =
-    r#"{"dtype":{"struct":[["a","i32"],["a","i32"]]},"files":[{"id":"A","layout":{"struct":[{"leaf":[[0,1]],"rows":1},{"leaf":[[0,1]],"rows":1}],"rows":1},"segments":[[0,"01000000"]]}],"request":{"projection":"$"}}"#;
+const REPEATED_FIELD: &str = r#"{"dtype":{"struct":[["a","i32"],["a","i32"]]},
+      "files":[{"id":"A","layout":{"struct":[{"leaf":[[0,1]],"rows":1},{"leaf":[[0,1]],"rows":1}],"rows":1},
+      "segments":[[0,"01000000"]]}],"request":{"projection":"$"}}"#;
 
-const TWO_SEGMENTS: &str =
-    r#"{"dtype":{"struct":[["a","i32"]]},"files":[{"id":"A","layout":{"struct":[{"leaf":[[7,2],[4,1]],"rows":3}],"rows":3},"segments":[[4,"ffffffff"],[7,"0000008001000000"]]}],"request":{"projection":"$","ordered":true}}"#;
+const TWO_SEGMENTS: &str = r#"{"dtype":{"struct":[["a","i32"]]},
+      "files":[{"id":"A","layout":{"struct":[{"leaf":[[7,2],[4,1]],"rows":3}],"rows":3},
+      "segments":[[4,"ffffffff"],[7,"0000008001000000"]]}],"request":{"projection":"$","ordered":true}}"#;
 
-const TWO_WORKERS: &str =
-    r#"{"dtype":{"struct":[["a","i32"]]},"files":[{"id":"A","layout":{"struct":[{"leaf":[[0,1]],"rows":1}],"rows":1},"segments":[[0,"01000000"]]}],"request":{"projection":"$"},"workers":2}"#;
+const TWO_WORKERS: &str = r#"{"dtype":{"struct":[["a","i32"]]},
+      "files":[{"id":"A","layout":{"struct":[{"leaf":[[0,1]],"rows":1}],"rows":1},"segments":[[0,"01000000"]]}],
+      "request":{"projection":"$"},"workers":2}"#;
 
-const TRUTHS: &str =
-    r#"{"dtype":{"struct":[["t","bool"]]},"files":[{"id":"A","layout":{"struct":[{"leaf":[[0,2]],"rows":2}],"rows":2},"segments":[[0,"0100"]]}],"request":{"projection":"$"}}"#;
+const TRUTHS: &str = r#"{"dtype":{"struct":[["t","bool"]]},
+      "files":[{"id":"A","layout":{"struct":[{"leaf":[[0,2]],"rows":2}],"rows":2},"segments":[[0,"0100"]]}],
+      "request":{"projection":"$"}}"#;
 
 // The same in spelling 2: a bit for each row.
-const PACKED_TRUTHS: &str =
-    r#"{"dtype":{"struct":[["t","bool"]]},"files":[{"id":"A","layout":{"struct":[{"leaf":[[0,2]],"rows":2,"spelling":2}],"rows":2},"segments":[[0,"01"]]}],"request":{"projection":"$"}}"#;
+const PACKED_TRUTHS: &str = r#"{"dtype":{"struct":[["t","bool"]]},
+      "files":[{"id":"A","layout":{"struct":[{"leaf":[[0,2]],"rows":2,"spelling":2}],"rows":2},
+      "segments":[[0,"01"]]}],"request":{"projection":"$"}}"#;
 
 // A bit is set behind the last row.
-const MORE_BITS: &str =
-    r#"{"dtype":{"struct":[["t","bool"]]},"files":[{"id":"A","layout":{"struct":[{"leaf":[[0,2]],"rows":2,"spelling":2}],"rows":2},"segments":[[0,"05"]]}],"request":{"projection":"$"}}"#;
+const MORE_BITS: &str = r#"{"dtype":{"struct":[["t","bool"]]},
+      "files":[{"id":"A","layout":{"struct":[{"leaf":[[0,2]],"rows":2,"spelling":2}],"rows":2},
+      "segments":[[0,"05"]]}],"request":{"projection":"$"}}"#;
 
-const NO_TRUTH: &str =
-    r#"{"dtype":{"struct":[["t","bool"]]},"files":[{"id":"A","layout":{"struct":[{"leaf":[[0,2]],"rows":2}],"rows":2},"segments":[[0,"0102"]]}],"request":{"projection":"$"}}"#;
+const NO_TRUTH: &str = r#"{"dtype":{"struct":[["t","bool"]]},
+      "files":[{"id":"A","layout":{"struct":[{"leaf":[[0,2]],"rows":2}],"rows":2},"segments":[[0,"0102"]]}],
+      "request":{"projection":"$"}}"#;
 
-const TWO_CONTENTS: &str =
-    r#"{"dtype":{"struct":[["a","i32"]]},"files":[{"id":"A","layout":{"struct":[{"leaf":[[0,1]],"rows":1}],"rows":1},"segments":[[0,"01000000"]]},{"id":"A","layout":{"struct":[{"leaf":[[0,1]],"rows":1}],"rows":1},"segments":[[0,"010000"]]}],"request":{"projection":"$"}}"#;
+const TWO_CONTENTS: &str = r#"{"dtype":{"struct":[["a","i32"]]},
+      "files":[{"id":"A","layout":{"struct":[{"leaf":[[0,1]],"rows":1}],"rows":1},"segments":[[0,"01000000"]]},
+      {"id":"A","layout":{"struct":[{"leaf":[[0,1]],"rows":1}],"rows":1},"segments":[[0,"010000"]]}],
+      "request":{"projection":"$"}}"#;
 
-const REPEATED_SEGMENT: &str =
-    r#"{"dtype":{"struct":[["a","i32"]]},"files":[{"id":"A","layout":{"struct":[{"leaf":[[0,1]],"rows":1}],"rows":1},"segments":[[0,"01000000"],[0,"01000000"]]}],"request":{"projection":"$"}}"#;
+const REPEATED_SEGMENT: &str = r#"{"dtype":{"struct":[["a","i32"]]},
+      "files":[{"id":"A","layout":{"struct":[{"leaf":[[0,1]],"rows":1}],"rows":1},
+      "segments":[[0,"01000000"],[0,"01000000"]]}],"request":{"projection":"$"}}"#;
 
 // A file of another dtype. Its source fails where it is asked.
-const OTHER_DTYPE: &str =
-    r#"{"dtype":{"struct":[["a","i32"],["b","i32"]]},"files":[{"id":"A","dtype":{"struct":[["a","i64"],["b","i32"]]},"layout":{"struct":[{"leaf":[[0,1]],"rows":1},{"leaf":[[1,1]],"rows":1}],"rows":1},"segments":[[0,"0100000000000000"],[1,"01000000"]],"source":{"fail":[0]}}],"request":{"projection":{"select":[["b"],"$"]}}}"#;
+const OTHER_DTYPE: &str = r#"{"dtype":{"struct":[["a","i32"],["b","i32"]]},
+      "files":[{"id":"A","dtype":{"struct":[["a","i64"],["b","i32"]]},
+      "layout":{"struct":[{"leaf":[[0,1]],"rows":1},{"leaf":[[1,1]],"rows":1}],"rows":1},
+      "segments":[[0,"0100000000000000"],[1,"01000000"]],"source":{"fail":[0]}}],
+      "request":{"projection":{"select":[["b"],"$"]}}}"#;
 
 // A struct of one row whose child has two. Its source fails where it is asked.
-const UNEVEN: &str =
-    r#"{"dtype":{"struct":[["a","i32"]]},"files":[{"id":"A","layout":{"struct":[{"leaf":[[0,2]],"rows":2}],"rows":1},"segments":[[0,"0100000002000000"]],"source":{"fail":[0]}}],"request":{"projection":"$"}}"#;
+const UNEVEN: &str = r#"{"dtype":{"struct":[["a","i32"]]},
+      "files":[{"id":"A","layout":{"struct":[{"leaf":[[0,2]],"rows":2}],"rows":1},"segments":[[0,"0100000002000000"]],
+      "source":{"fail":[0]}}],"request":{"projection":"$"}}"#;
 
-const SKIPPED: &str =
-    r#"{"dtype":{"struct":[["a","i32"]]},"files":[{"id":"A","layout":{"struct":[{"leaf":[[0,1]],"rows":1}],"rows":1},"segments":[[0,"01000000"]],"skip":true}],"request":{"projection":"$"}}"#;
+const SKIPPED: &str = r#"{"dtype":{"struct":[["a","i32"]]},
+      "files":[{"id":"A","layout":{"struct":[{"leaf":[[0,1]],"rows":1}],"rows":1},"segments":[[0,"01000000"]],
+      "skip":true}],"request":{"projection":"$"}}"#;
 
-const FAILING_OPENER: &str =
-    r#"{"dtype":{"struct":[["a","i32"]]},"files":[{"id":"A","layout":{"struct":[{"leaf":[[0,1]],"rows":1}],"rows":1},"segments":[[0,"01000000"]],"open":{"fail":[0]}}],"request":{"projection":"$"}}"#;
+const FAILING_OPENER: &str = r#"{"dtype":{"struct":[["a","i32"]]},
+      "files":[{"id":"A","layout":{"struct":[{"leaf":[[0,1]],"rows":1}],"rows":1},"segments":[[0,"01000000"]],
+      "open":{"fail":[0]}}],"request":{"projection":"$"}}"#;
 
-const FAILING_SOURCE: &str =
-    r#"{"dtype":{"struct":[["a","i32"]]},"files":[{"id":"A","layout":{"struct":[{"leaf":[[0,1]],"rows":1}],"rows":1},"segments":[[0,"01000000"]],"source":{"fail":[0]}}],"request":{"projection":"$"}}"#;
+const FAILING_SOURCE: &str = r#"{"dtype":{"struct":[["a","i32"]]},
+      "files":[{"id":"A","layout":{"struct":[{"leaf":[[0,1]],"rows":1}],"rows":1},"segments":[[0,"01000000"]],
+      "source":{"fail":[0]}}],"request":{"projection":"$"}}"#;
 
-const PENDING: &str =
-    r#"{"dtype":{"struct":[["a","i32"]]},"files":[{"id":"A","layout":{"struct":[{"leaf":[[0,1]],"rows":1}],"rows":1},"segments":[[0,"2A000000"]],"open":{"pending":[0,1]},"source":{"pending":[0]}}],"request":{"projection":"$"}}"#;
+const PENDING: &str = r#"{"dtype":{"struct":[["a","i32"]]},
+      "files":[{"id":"A","layout":{"struct":[{"leaf":[[0,1]],"rows":1}],"rows":1},"segments":[[0,"2A000000"]],
+      "open":{"pending":[0,1]},"source":{"pending":[0]}}],"request":{"projection":"$"}}"#;
 
-const ESCAPED: &str =
-    r#"{"dtype":{"struct":[["\"\u0001","i32"]]},"files":[{"id":"A","layout":{"struct":[{"leaf":[[0,1]],"rows":1}],"rows":1},"segments":[[0,"ffffffff"]]}],"request":{"projection":"$"}}"#;
+const ESCAPED: &str = r#"{"dtype":{"struct":[["\"\u0001","i32"]]},
+      "files":[{"id":"A","layout":{"struct":[{"leaf":[[0,1]],"rows":1}],"rows":1},"segments":[[0,"ffffffff"]]}],
+      "request":{"projection":"$"}}"#;
 
 const NO_ROWS: &str =
     r#"{"dtype":{"struct":[["a","i32"]]},"files":[{"id":"A","layout":{"struct":[{"leaf":[],"rows":0}],"rows":0},"segments":[]}],"request":{"projection":"$"}}"#;
@@ -205,6 +230,69 @@ fn other_words_are_refused(rt: HostRuntime) -> Result<(), Fail> {
         none(alloc)?,
         none(alloc)?,
     )?;
+    assert_eq!(rt; status, 1);
+    assert_eq!(rt; written.len(), 0);
+    Ok(())
+}
+
+// The status of a run on these words, and what it wrote, where nothing is to be read.
+fn generated<R: Threads + Sync>(
+    rt: &R,
+    alloc: Global,
+    texts: &[&str],
+) -> Result<(u8, Vec<u8>), NoMemory> {
+    let reads = none(alloc)?;
+    let writes = none(alloc)?;
+    outcome(rt, alloc, texts, "", reads, writes)
+}
+
+#[test]
+fn one_generated_row_a_file_gives_none(rt: HostRuntime) -> Result<(), Fail> {
+    let (status, written) = generated(&rt, rt.alloc(), &["generate", "1"])?;
+    assert_eq!(rt; status, 0);
+    assert_eq!(rt;
+        written.as_slice(),
+        b"n=1 rows=0 ids=0 lengths=0 asked=3\n".as_slice()
+    );
+    Ok(())
+}
+
+#[test]
+fn generated_files_give_their_totals(rt: HostRuntime) -> Result<(), Fail> {
+    let (status, written) = generated(&rt, rt.alloc(), &["generate", "10"])?;
+    assert_eq!(rt; status, 0);
+    assert_eq!(rt;
+        written.as_slice(),
+        b"n=10 rows=12 ids=198 lengths=18 asked=9\n".as_slice()
+    );
+    Ok(())
+}
+
+#[test]
+fn the_totals_are_the_same_in_spelling_2(rt: HostRuntime) -> Result<(), Fail> {
+    let (status, written) = generated(&rt, rt.alloc(), &["generate", "10", "2"])?;
+    assert_eq!(rt; status, 0);
+    assert_eq!(rt;
+        written.as_slice(),
+        b"n=10 rows=12 ids=198 lengths=18 asked=9\n".as_slice()
+    );
+    Ok(())
+}
+
+#[test]
+fn other_words_after_generate_are_refused(rt: HostRuntime) -> Result<(), Fail> {
+    let rows = ["", "0", "010", "+10", "100001", "x"];
+    for word in rows {
+        let (status, written) = generated(&rt, rt.alloc(), &["generate", word])?;
+        assert_eq!(rt; status, 1, "on {word}");
+        assert_eq!(rt; written.len(), 0, "on {word}");
+    }
+    Ok(())
+}
+
+#[test]
+fn another_spelling_is_refused(rt: HostRuntime) -> Result<(), Fail> {
+    let (status, written) = generated(&rt, rt.alloc(), &["generate", "1", "x"])?;
     assert_eq!(rt; status, 1);
     assert_eq!(rt; written.len(), 0);
     Ok(())
