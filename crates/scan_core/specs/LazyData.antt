@@ -113,20 +113,23 @@ MayAskLazy state holds (begun t) id = MayFeed holds t.feed id
 MayAskLazy state holds (over d) id = ⊥
 
 -- a poll of a stream that is begun
-pub record PollsBegun {R M A F : Type 0} (answers : M → ArrayData → Result A F → Type 0) (s t : SourceState) (before : StreamData M) (new : LazyStream R M) (r : StreamPoll A F) : Type 0 where
+pub record PollsBegun {R M A F : Type 0} (answers : M → ArrayData → Result A F → Type 0) (s t : SourceState)
+    (before : StreamData M) (new : LazyStream R M) (r : StreamPoll A F) : Type 0 where
   pub after : StreamData M
   pub now : new ≡ begun after
   pub same : SameStream before after
   pub answer : Answers answers s t before after r
 
 -- the first poll, where the scan is set up
-pub record PollsFirst {R M A F : Type 0} (state : R → ReaderState) (answers : M → ArrayData → Result A F → Type 0) (s t : SourceState) (b : BuilderData R M) (new : LazyStream R M) (r : StreamPoll A F) : Type 0 where
+pub record PollsFirst {R M A F : Type 0} (state : R → ReaderState) (answers : M → ArrayData → Result A F → Type 0)
+    (s t : SourceState) (b : BuilderData R M) (new : LazyStream R M) (r : StreamPoll A F) : Type 0 where
   pub stream : StreamData M
   pub begins : Begins (state b.reader) b stream
   pub polls : PollsBegun answers s t stream new r
 
 -- the first poll, where the scan is refused: a fault, and nothing of the source is touched
-pub record RefusesFirst {R M A F : Type 0} (state : R → ReaderState) (s t : SourceState) (b : BuilderData R M) (new : LazyStream R M) (r : StreamPoll A F) : Type 0 where
+pub record RefusesFirst {R M A F : Type 0} (state : R → ReaderState) (s t : SourceState) (b : BuilderData R M)
+    (new : LazyStream R M) (r : StreamPoll A F) : Type 0 where
   pub why : SetupFault
   pub fault : r ≡ poll.Fault (fault.Setup why)
   pub refuses : RefusesSetup (state b.reader) b why
@@ -134,7 +137,8 @@ pub record RefusesFirst {R M A F : Type 0} (state : R → ReaderState) (s t : So
   pub source : t ≡ s
 
 -- a poll
-abbrev pub PollsLazy : {R M A F : Type 0} → (R → ReaderState) → (M → ArrayData → Result A F → Type 0) → SourceState → SourceState → LazyStream R M → LazyStream R M → StreamPoll A F → Type 0
+abbrev pub PollsLazy : {R M A F : Type 0} → (R → ReaderState) → (M → ArrayData → Result A F → Type 0) → SourceState
+    → SourceState → LazyStream R M → LazyStream R M → StreamPoll A F → Type 0
 PollsLazy state answers s t (waits b) new r = RefusesFirst state s t b new r ⊎ PollsFirst state answers s t b new r
 PollsLazy state answers s t (begun before) new r = PollsBegun answers s t before new r
 PollsLazy state answers s t (over d) new r = (r ≡ poll.End) × ((new ≡ over d) × (t ≡ s))
@@ -147,7 +151,8 @@ IsStarted state (begun t) new r = (new ≡ begun t) × (r ≡ Ok tt)
 IsStarted state (over d) new r = (new ≡ over d) × (r ≡ Ok tt)
 
 -- a poll of a stream whose scan is set up, or was refused; of one that is to be set up it gives the end
-abbrev pub PollsStarted : {R M A F : Type 0} → (M → ArrayData → Result A F → Type 0) → SourceState → SourceState → LazyStream R M → LazyStream R M → StreamPoll A F → Type 0
+abbrev pub PollsStarted : {R M A F : Type 0} → (M → ArrayData → Result A F → Type 0) → SourceState → SourceState
+    → LazyStream R M → LazyStream R M → StreamPoll A F → Type 0
 PollsStarted answers s t (waits b) new r = (r ≡ poll.End) × ((new ≡ waits b) × (t ≡ s))
 PollsStarted answers s t (begun before) new r = PollsBegun answers s t before new r
 PollsStarted answers s t (over d) new r = (r ≡ poll.End) × ((new ≡ over d) × (t ≡ s))

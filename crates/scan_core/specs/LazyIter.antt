@@ -48,7 +48,8 @@ IsIterStarted state (begun i) new r = (new ≡ begun i) × (r ≡ Ok tt)
 IsIterStarted state (over d) new r = (new ≡ over d) × (r ≡ Ok tt)
 
 -- what comes next of an iterator that is begun
-pub record NextsBegun {R M S A F : Type 0} (source : S → SourceState) (answers : M → ArrayData → Result A F → Type 0) (i : IterData M S) (new : LazyIter R M S) (r : Option (Result A (StreamFault F))) : Type 0 where
+pub record NextsBegun {R M S A F : Type 0} (source : S → SourceState) (answers : M → ArrayData → Result A F → Type 0)
+    (i : IterData M S) (new : LazyIter R M S) (r : Option (Result A (StreamFault F))) : Type 0 where
   pub after : IterData M S
   pub now : new ≡ begun after
   pub moves : SourceMoves (MayFeed (source i.source).holds (i.stream).feed) (source i.source) (source after.source)
@@ -56,26 +57,32 @@ pub record NextsBegun {R M S A F : Type 0} (source : S → SourceState) (answers
   pub answer : Answers answers (source i.source) (source after.source) i.stream after.stream (as_poll r)
 
 -- what comes first, where the scan is set up
-pub record NextsFirst {R M S A F : Type 0} (state : R → ReaderState) (source : S → SourceState) (answers : M → ArrayData → Result A F → Type 0) (b : BuilderData R M) (s : S) (new : LazyIter R M S) (r : Option (Result A (StreamFault F))) : Type 0 where
+pub record NextsFirst {R M S A F : Type 0} (state : R → ReaderState) (source : S → SourceState)
+    (answers : M → ArrayData → Result A F → Type 0) (b : BuilderData R M) (s : S) (new : LazyIter R M S)
+    (r : Option (Result A (StreamFault F))) : Type 0 where
   pub stream : StreamData M
   pub begins : Begins (state b.reader) b stream
   pub nexts : NextsBegun source answers (iter_data stream s) new r
 
 -- what comes first, where the scan is refused
-pub record RefusesNext {R M S A F : Type 0} (state : R → ReaderState) (b : BuilderData R M) (new : LazyIter R M S) (r : Option (Result A (StreamFault F))) : Type 0 where
+pub record RefusesNext {R M S A F : Type 0} (state : R → ReaderState) (b : BuilderData R M) (new : LazyIter R M S)
+    (r : Option (Result A (StreamFault F))) : Type 0 where
   pub why : SetupFault
   pub fault : r ≡ Some (Err (fault.Setup why))
   pub refuses : RefusesSetup (state b.reader) b why
   pub over : new ≡ over (builder_dtype b)
 
 -- what comes next
-abbrev pub NextsLazy : {R M S A F : Type 0} → (R → ReaderState) → (S → SourceState) → (M → ArrayData → Result A F → Type 0) → LazyIter R M S → LazyIter R M S → Option (Result A (StreamFault F)) → Type 0
+abbrev pub NextsLazy : {R M S A F : Type 0} → (R → ReaderState) → (S → SourceState)
+    → (M → ArrayData → Result A F → Type 0) → LazyIter R M S → LazyIter R M S → Option (Result A (StreamFault F))
+    → Type 0
 NextsLazy state source answers (waits p) new r = RefusesNext state p.0 new r ⊎ NextsFirst state source answers p.0 p.1 new r
 NextsLazy state source answers (begun i) new r = NextsBegun source answers i new r
 NextsLazy state source answers (over d) new r = (r ≡ None) × (new ≡ over d)
 
 -- what comes next of one that waits no more
-abbrev pub NextsStarted : {R M S A F : Type 0} → (S → SourceState) → (M → ArrayData → Result A F → Type 0) → LazyIter R M S → LazyIter R M S → Option (Result A (StreamFault F)) → Type 0
+abbrev pub NextsStarted : {R M S A F : Type 0} → (S → SourceState) → (M → ArrayData → Result A F → Type 0)
+    → LazyIter R M S → LazyIter R M S → Option (Result A (StreamFault F)) → Type 0
 NextsStarted source answers (waits p) new r = (r ≡ None) × (new ≡ waits p)
 NextsStarted source answers (begun i) new r = NextsBegun source answers i new r
 NextsStarted source answers (over d) new r = (r ≡ None) × (new ≡ over d)

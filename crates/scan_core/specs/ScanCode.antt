@@ -89,7 +89,13 @@ abbrev pub builder_code : {R M : Type 0} → Coded R → Coded M → Coded (Buil
 builder_code {R} {M} r m =
     code_by ((R × M) × ((Bound × Option Bound) × (Options × Cuts)))
     (coded× (coded× r m) (coded× (coded× bound_code (coded_option bound_code)) (coded× options_code cuts_code)))
-    (λ b. ((b.reader, b.step), ((b.projection, b.filter), ((b.range, (b.selection, (b.limit, (b.ordered, b.concurrency)))), (b.offset, (b.split_by, b.natural))))))
+    (λ b. (
+      (b.reader, b.step),
+      (
+        (b.projection, b.filter),
+        ((b.range, (b.selection, (b.limit, (b.ordered, b.concurrency)))), (b.offset, (b.split_by, b.natural))),
+      ),
+    ))
     (λ p. record {
       reader = p.0.0;
       projection = p.1.0.0;

@@ -80,9 +80,11 @@ pub record IsScanOf (s : ReaderState) (cs : List Bound) (e : Bound) (p : PlansDa
 pub record IsSplitOf (s : ReaderState) (cs : List Bound) (e : Bound) (first : ℕ) (mask : List Bool) (f : FutureData) : Type 0 where
   pub dtype : future_dtype f ≡ infer e.scope e.expr
   pub items : (store : Store) → items_of f store ≡ map (value_of s e store) (true_rows first (passed s cs store first mask))
-  pub overflow : (store : Store) → future_overflow f store ≡ (passing_overflows s cs store first mask || overflows_on s e store first (passed s cs store first mask))
+  pub overflow : (store : Store) → future_overflow f store
+      ≡ (passing_overflows s cs store first mask || overflows_on s e store first (passed s cs store first mask))
   pub damage : (store : Store) → future_damage f store ≡ passing_damage s cs store first mask
-  pub wants : (store : Store) (here : Came) (id : ℕ) → Holds store here → names_id id (future_wanted f here) ≡ true → split_may_want s cs e store first mask id ≡ true
+  pub wants : (store : Store) (here : Came) (id : ℕ) → Holds store here → names_id id (future_wanted f here) ≡ true
+      → split_may_want s cs e store first mask id ≡ true
   pub spoils : (store : Store) (here : Came) (id : ℕ) → Holds store here → future_spoiled f here id ≡ true
       → split_may_spoil s cs e store first mask id ≡ true
 
@@ -94,22 +96,28 @@ in_turn s cs = filter (λ (c : Bound). numbers_alone s c.expr) cs ++ filter (λ 
 -- order they run.
 pub record IsRowsOf (s : ReaderState) (cs : List Bound) (e : Bound) (first : ℕ) (mask : List Bool) (f : FutureData) : Type 0 where
   pub items : (store : Store) → items_of f store ≡ map (value_of s e store) (true_rows first (passed s cs store first mask))
-  pub wants : (store : Store) (here : Came) (id : ℕ) → Holds store here → names_id id (future_wanted f here) ≡ true → split_may_want s cs e store first mask id ≡ true
+  pub wants : (store : Store) (here : Came) (id : ℕ) → Holds store here → names_id id (future_wanted f here) ≡ true
+      → split_may_want s cs e store first mask id ≡ true
   pub spoils : (store : Store) (here : Came) (id : ℕ) → Holds store here → future_spoiled f here id ≡ true
       → split_may_spoil s cs e store first mask id ≡ true
 
 -- ---- laws
 -- the plans of a scan give what its expressions mean
 abbrev pub SplitsMeanTheirExpressions : Type 0
-SplitsMeanTheirExpressions = (s : ReaderState) (cs : List Bound) (e : Bound) (p : PlansData) (first : ℕ) (mask : List Bool) → IsScanOf s cs e p → first + length mask ≤ s.rows → IsSplitOf s cs e first mask (split_data p first mask)
+SplitsMeanTheirExpressions = (s : ReaderState) (cs : List Bound) (e : Bound) (p : PlansData) (first : ℕ)
+    (mask : List Bool) → IsScanOf s cs e p → first + length mask ≤ s.rows
+    → IsSplitOf s cs e first mask (split_data p first mask)
 
 -- the order in which conjuncts run changes no row
 abbrev pub OrderChangesNoRow : Type 0
-OrderChangesNoRow = (s : ReaderState) (cs : List Bound) (store : Store) (first : ℕ) (bits : List Bool) → passed s (in_turn s cs) store first bits ≡ passed s cs store first bits
+OrderChangesNoRow = (s : ReaderState) (cs : List Bound) (store : Store) (first : ℕ) (bits : List Bool)
+    → passed s (in_turn s cs) store first bits ≡ passed s cs store first bits
 
 -- what may be wanted in that order may be wanted in the order in which they are written
 abbrev pub OrderWantsNoMore : Type 0
-OrderWantsNoMore = (s : ReaderState) (cs : List Bound) (e : Bound) (store : Store) (first : ℕ) (bits : List Bool) (id : ℕ) → split_may_want s (in_turn s cs) e store first bits id ≡ true → split_may_want s cs e store first bits id ≡ true
+OrderWantsNoMore = (s : ReaderState) (cs : List Bound) (e : Bound) (store : Store) (first : ℕ) (bits : List Bool)
+    (id : ℕ) → split_may_want s (in_turn s cs) e store first bits id ≡ true
+    → split_may_want s cs e store first bits id ≡ true
 
 -- nor is more no good in that order
 abbrev pub OrderSpoilsNoMore : Type 0
@@ -118,4 +126,6 @@ OrderSpoilsNoMore = (s : ReaderState) (cs : List Bound) (e : Bound) (store : Sto
 
 -- the plans of conjuncts in the order in which they run give and want what the conjuncts mean as they are written
 abbrev pub InTurnMeansWritten : Type 0
-InTurnMeansWritten = (s : ReaderState) (cs : List Bound) (e : Bound) (p : PlansData) (first : ℕ) (mask : List Bool) → IsScanOf s (in_turn s cs) e p → first + length mask ≤ s.rows → IsRowsOf s cs e first mask (split_data p first mask)
+InTurnMeansWritten = (s : ReaderState) (cs : List Bound) (e : Bound) (p : PlansData) (first : ℕ) (mask : List Bool)
+    → IsScanOf s (in_turn s cs) e p → first + length mask ≤ s.rows
+    → IsRowsOf s cs e first mask (split_data p first mask)

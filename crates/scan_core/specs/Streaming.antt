@@ -88,4 +88,5 @@ first_of (Some n) vs = take n vs
 -- ---- the law
 -- the splits of a stream give what all splits of the scan give, or without a filter the first of it, as many as its limit
 abbrev pub StreamsGiveTheFirstRows : Type 0 → Type 0
-StreamsGiveTheFirstRows M = (s : ScanData M) (r : Option (Range ℕ)) (store : Store) → values_in (streamed s r) store ≡ first_of (limit_before s) (values_of (splits_of s r) store)
+StreamsGiveTheFirstRows M = (s : ScanData M) (r : Option (Range ℕ)) (store : Store)
+    → values_in (streamed s r) store ≡ first_of (limit_before s) (values_of (splits_of s r) store)

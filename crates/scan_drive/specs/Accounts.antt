@@ -25,8 +25,10 @@ module _ {W R : Type 0} where
 module _ {O S W R F : Type 0} (source : S → SourceState) where
   -- a round that others follow keeps them, and splits that were given up stay so; the last one asks for nothing
   abbrev pub RoundKeeps : List (ScanFile O S) → List (ScanFile O S) → Cache → Cache → Drive W R F → Drive W R F → Round → Type 0
-  RoundKeeps files files' c d old new round.More = HaltsStay old.active.slots.items new.active.slots.items × FilesBalance source files files' c d old.report new.report new.active.slots.items
-  RoundKeeps files files' c d old new round.Opened = HaltsStay old.active.slots.items new.active.slots.items × FilesBalance source files files' c d old.report new.report new.active.slots.items
+  RoundKeeps files files' c d old new round.More = HaltsStay old.active.slots.items new.active.slots.items
+      × FilesBalance source files files' c d old.report new.report new.active.slots.items
+  RoundKeeps files files' c d old new round.Opened = HaltsStay old.active.slots.items new.active.slots.items
+      × FilesBalance source files files' c d old.report new.report new.active.slots.items
   RoundKeeps files files' c d old new round.Done = FilesBalance source files files' c d old.report new.report old.active.slots.items
 
   -- rounds up to the last keep them; without a limit all splits are served then

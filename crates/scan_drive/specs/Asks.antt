@@ -14,7 +14,8 @@ module _ {W R : Type 0} where
   pub record LinkedBut (asking : List ℕ) (file : ℕ) (d : Waiters) (slots : List (Slot W R)) : Type 0 where
     pub file_is : (id place : ℕ) → waits d id place ≡ true → (slot_at slots place).file ≡ file
     pub takes : (id place : ℕ) → waits d id place ≡ true → MayTake id (slot_at slots place)
-    pub live : (id place : ℕ) → (slot_at slots place).file ≡ file → is_among asking place ≡ false → stage_waits (slot_at slots place).stage id ≡ true → waits d id place ≡ true
+    pub live : (id place : ℕ) → (slot_at slots place).file ≡ file → is_among asking place ≡ false
+        → stage_waits (slot_at slots place).stage id ≡ true → waits d id place ≡ true
     pub none : (id place : ℕ) → is_among asking place ≡ true → waits d id place ≡ false
 
   -- so is each file

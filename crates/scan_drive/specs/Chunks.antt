@@ -87,13 +87,16 @@ module _ {W I R : Type 0} (split : W → SplitState I) (comes : W → Arrivals �
   -- what was given, and what active splits have to give, are the same groups in the same order
   abbrev pub SameGroups : Active W R → Active W R → List (Chunk R) → List (Chunk R) → Type 0
   SameGroups old new chunks chunks' =
-      (tale : List (Told I)) → AllTell tale → AllOk split comes items tale old → given items chunks' ++ groups_left split comes items tale new ≡ given items chunks ++ groups_left split comes items tale old
+      (tale : List (Told I)) → AllTell tale → AllOk split comes items tale old
+      → given items chunks' ++ groups_left split comes items tale new ≡ given items chunks
+      ++ groups_left split comes items tale old
 
   -- the limit is met: what was given are the first rows of the groups that were to be given, whatever comes after these
   pub record IsCut (old : Active W R) (chunks chunks' : List (Chunk R)) (left : Option ℕ) : Type 0 where
     pub most : ℕ
     pub was : limit_of (count (given items chunks)) left ≡ Some most
-    pub groups : (tale : List (Told I)) → AllTell tale → AllOk split comes items tale old → (later : List (Group I)) → given items chunks' ≡ cut most (given items chunks ++ (groups_left split comes items tale old ++ later))
+    pub groups : (tale : List (Told I)) → AllTell tale → AllOk split comes items tale old → (later : List (Group I))
+        → given items chunks' ≡ cut most (given items chunks ++ (groups_left split comes items tale old ++ later))
 
   -- the splits whose turn it was were given, as far as they are read
   pub record IsMore (old new : Active W R) (chunks chunks' : List (Chunk R)) (left left' : Option ℕ) : Type 0 where

@@ -58,4 +58,5 @@ module _ {O S W I R : Type 0} (source : S → SourceState) (split : W → SplitS
   -- the source of this file has put off an answer, or each split that waited for it is nearer to its end
   abbrev pub BringsFileNearer : ℕ → List (ScanFile O S) → List (ScanFile O S) → List Waiters → List (Slot W R) → List (Slot W R) → Type 0
   BringsFileNearer k files files' desks old new =
-      (f : ScanFile O S) (id : ℕ) → BringsNearer split id (source (slice_index_or files k f).source) (source (slice_index_or files' k f).source) (desk_at desks k) old new
+      (f : ScanFile O S) (id : ℕ) → BringsNearer split id (source (slice_index_or files k f).source)
+      (source (slice_index_or files' k f).source) (desk_at desks k) old new

@@ -56,9 +56,12 @@ module _ {W I R F : Type 0} (split : W → SplitState I) (comes : W → Arrivals
 
   -- why a drive ends without all rows: at a split, or at a file before which all is given
   abbrev pub Stops : List (Told I) → Drive W R F → Drive W R F → RoundFault F → Type 0
-  Stops tale old new (why.Split e) = IsDeliverFault split comes items old.active new.active old.chunks.items new.chunks.items old.left new.left e × IsCause tale e
-  Stops tale old new (why.TooManyRows file) = StopsAt tale old new × (new.active.turns.items ≡ []) × (file ≡ new.first) × IsTooMany file new.tally (phase_at new.phases.items file)
-  Stops tale old new (why.Refused file f) = StopsAt tale old new × (new.active.turns.items ≡ []) × (file ≡ new.first) × (phase_at old.phases.items file ≡ phase.Held f)
+  Stops tale old new (why.Split e) = IsDeliverFault split comes items old.active new.active old.chunks.items
+      new.chunks.items old.left new.left e × IsCause tale e
+  Stops tale old new (why.TooManyRows file) = StopsAt tale old new × (new.active.turns.items ≡ [])
+      × (file ≡ new.first) × IsTooMany file new.tally (phase_at new.phases.items file)
+  Stops tale old new (why.Refused file f) = StopsAt tale old new × (new.active.turns.items ≡ []) × (file ≡ new.first)
+      × (phase_at old.phases.items file ≡ phase.Held f)
 
   -- splits were polled and their rows given: these places wait for other segments now
   pub record Settles (asking : List ℕ) (old new : Drive W R F) : Type 0 where
@@ -77,4 +80,6 @@ module _ {W I R F : Type 0} (split : W → SplitState I) (comes : W → Arrivals
     pub order : KeepsOrder old.active new.active
     pub waits : TurnsWait new.active
     pub goes : new.active.turns.items ≡ [] → IsEnd new.first new.tally new.phases.items → ⊥
-    pub steps : (slots_steps split new.active.slots.items < slots_steps split old.active.slots.items) ⊎ ((slots_steps split new.active.slots.items ≤ slots_steps split old.active.slots.items) × (new.active.turns.items ≡ old.active.turns.items))
+    pub steps : (slots_steps split new.active.slots.items < slots_steps split old.active.slots.items)
+        ⊎ ((slots_steps split new.active.slots.items ≤ slots_steps split old.active.slots.items)
+        × (new.active.turns.items ≡ old.active.turns.items))

@@ -40,4 +40,6 @@ module _ {O S W F I : Type 0} (state : O → OpenerState I) (polls : O → O →
   -- open files stay open, and the splits of one are those that it had, or one of the polls of its opener gave them
   abbrev pub OpensBy : List (ScanFile O S) → List (ScanFile O S) → List (Phase W F) → List (Phase W F) → Type 0
   OpensBy files files' old new =
-      (k : ℕ) → StaysOpen (λ ws. (f : ScanFile O S) → IsAdmitted state polls admits (slice_index_or files k f).opener (slice_index_or files' k f).opener ws) (phase_at old k) (phase_at new k)
+      (k : ℕ) → StaysOpen (λ ws. (f : ScanFile O S)
+      → IsAdmitted state polls admits (slice_index_or files k f).opener (slice_index_or files' k f).opener ws)
+      (phase_at old k) (phase_at new k)

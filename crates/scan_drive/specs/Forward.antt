@@ -51,7 +51,8 @@ module _ {W R F : Type 0} where
     pub report : new.report ≡ old.report
 
   -- Files that are open were brought before those that are not, up to a place: the places that were exchanged stand in the log.
-  pub record BringsForward {O S : Type 0} (last : ℕ) (log log' : List (ℕ × ℕ)) (files files' : List (ScanFile O S)) (desks desks' : List Waiters) (old new : Drive W R F) : Type 0 where
+  pub record BringsForward {O S : Type 0} (last : ℕ) (log log' : List (ℕ × ℕ)) (files files' : List (ScanFile O S))
+      (desks desks' : List Waiters) (old new : Drive W R F) : Type 0 where
     pub places : List (ℕ × ℕ)
     pub log_is : log' ≡ log ++ places
     pub files_are : files' ≡ exchanged places files
@@ -62,7 +63,8 @@ module _ {W R F : Type 0} where
     pub none : places ≡ [] → new ≡ old
 
   -- the same, among the files whose openers are polled
-  pub record KeepsLine {O S : Type 0} (workers : ℕ) (log log' : List (ℕ × ℕ)) (files files' : List (ScanFile O S)) (desks desks' : List Waiters) (old new : Drive W R F) : Type 0 where
+  pub record KeepsLine {O S : Type 0} (workers : ℕ) (log log' : List (ℕ × ℕ)) (files files' : List (ScanFile O S))
+      (desks desks' : List Waiters) (old new : Drive W R F) : Type 0 where
     pub done : ℕ
     pub last : ℕ
     pub is_done : IsDone old.active.turns.items old.active.slots.items old.first done
@@ -99,7 +101,8 @@ module _ {O S R I : Type 0} (state : O → OpenerState I) (source : S → Source
       → GivesSome items limit (tells state source files) (placed_by log k) (placed_by log k + 1 - workers)
 
   -- how often openers were polled, and how early, where files stand at other places
-  pub record LinePolls (ordered : Bool) (workers : ℕ) (limit : Option ℕ) (c : Cache) (files : List (ScanFile O S)) (log : List (ℕ × ℕ)) (now : List (ScanFile O S)) : Type 0 where
+  pub record LinePolls (ordered : Bool) (workers : ℕ) (limit : Option ℕ) (c : Cache) (files : List (ScanFile O S))
+      (log : List (ℕ × ℕ)) (now : List (ScanFile O S)) : Type 0 where
     pub fit : PollsFit state (exchanged log files) now
     pub late : ordered ≡ true → IsLawful state source files c → ArePolledLate state items workers limit (tells state source files) files now
     pub line : LineEdge state log (exchanged log files) now

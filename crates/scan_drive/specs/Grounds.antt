@@ -45,7 +45,8 @@ SourceFollows s t old new = EachFollows (λ k id. WasOpen id s t) (λ k id. Fail
 module _ {O S : Type 0} (source : S → SourceState) where
   -- bytes of an id may have come to splits of a file: its request was open, or the cache kept them
   abbrev pub MayCome : Cache → List (ScanFile O S) → List (ScanFile O S) → ℕ → ℕ → Type 0
-  MayCome c old new k id = (f : ScanFile O S) → WasOpen id (source (slice_index_or old k f).source) (source (slice_index_or new k f).source) ⊎ IsKeptIn c (slice_index_or old k f).source_id id
+  MayCome c old new k id = (f : ScanFile O S) → WasOpen id (source (slice_index_or old k f).source)
+      (source (slice_index_or new k f).source) ⊎ IsKeptIn c (slice_index_or old k f).source_id id
 
   -- the source of a file failed at an id
   abbrev pub MayFail : List (ScanFile O S) → List (ScanFile O S) → ℕ → ℕ → Type 0
@@ -126,7 +127,8 @@ module _ {O S W R I F : Type 0} (state : O → OpenerState I) (polls : O → O �
     pub counted : AreCounted v.first v.tally v.phases.items
     pub quiet : (k : ℕ) → v.tally.files ≤ k → At first files (NoneAsked source) k
     pub rows : IsRowCount (tells state source first) v
-    pub slots : (place : ℕ) → is_there (slot_at v.active.slots.items place).stage ≡ true → IsSlotGrounded state polls admits source first files c v.tally (slot_at v.active.slots.items place)
+    pub slots : (place : ℕ) → is_there (slot_at v.active.slots.items place).stage ≡ true
+        → IsSlotGrounded state polls admits source first files c v.tally (slot_at v.active.slots.items place)
 
 module _ {O S W I : Type 0} (state : O → OpenerState I) (polls : O → O → Type 0) (admits : O → O → List W → Type 0) (source : S → SourceState)
     (first files : List (ScanFile O S)) (c : Cache) where
@@ -155,7 +157,8 @@ module _ {O S W R I F : Type 0} (state : O → OpenerState I) (polls : O → O �
   -- a drive that was grounded still is
   abbrev pub KeepsGrounds : List (ScanFile O S) → List (ScanFile O S) → Cache → Cache → Drive W R F → Drive W R F → Type 0
   KeepsGrounds files files' c d old new =
-      (first : List (ScanFile O S)) (before : Cache) → Grounded state polls admits source first files before c old → Grounded state polls admits source first files' before d new
+      (first : List (ScanFile O S)) (before : Cache) → Grounded state polls admits source first files before c old
+      → Grounded state polls admits source first files' before d new
 
   -- without a limit, all files were admitted
   abbrev pub AdmitsAll : List (ScanFile O S) → List (ScanFile O S) → Cache → Drive W R F → Type 0
@@ -172,4 +175,5 @@ module _ {O S W R I F : Type 0} (state : O → OpenerState I) (polls : O → O �
   -- why a drive that was grounded ends without all rows
   abbrev pub EndsGrounded : List (ScanFile O S) → List (ScanFile O S) → Cache → Drive W R F → RoundFault F → Type 0
   EndsGrounded files files' c old e =
-      (first : List (ScanFile O S)) (before : Cache) → Grounded state polls admits source first files before c old → IsGround state polls admits source first files' before e
+      (first : List (ScanFile O S)) (before : Cache) → Grounded state polls admits source first files before c old
+      → IsGround state polls admits source first files' before e

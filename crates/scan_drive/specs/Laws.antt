@@ -9,4 +9,5 @@ CutsGiveTheFirstRows = (n : ℕ) (gs : List (Group Item)) → flattened (cut n g
 
 -- a limit behind a group leaves it whole
 abbrev pub CutsKeepGroups : Type 0
-CutsKeepGroups = (n file : ℕ) (rows : List Item) (gs : List (Group Item)) → cut (count (grouped file rows) + n) (grouped file rows ++ gs) ≡ grouped file rows ++ cut n gs
+CutsKeepGroups = (n file : ℕ) (rows : List Item) (gs : List (Group Item))
+    → cut (count (grouped file rows) + n) (grouped file rows ++ gs) ≡ grouped file rows ++ cut n gs

@@ -141,7 +141,10 @@ pub record Totals (books : List Book) (c d : Cache) (events : List (CacheEvent S
   pub shared : ℕ
   pub counts : report ≡ capped_report (length (found_keys events)) shared (total ask_count books)
   pub lookups : length (missed_keys events) ≡ shared + total ask_count books
-  pub puts : lost ≡ false → Each (λ b. IsSome b.first.holds) books → IfSome c.short (λ before. IfSome d.short (λ now. now < 2 ^ 64 - 1 → total held_asked books + before ≡ length (offered_keys events) + now + total held_open books))
+  pub puts : lost ≡ false → Each (λ b. IsSome b.first.holds) books
+      → IfSome c.short (λ before. IfSome d.short
+      (λ now. now < 2 ^ 64 - 1 → total held_asked books + before ≡ length
+      (offered_keys events) + now + total held_open books))
 
 -- A ledger, and the counts over its events.
 pub record Balance (books : List Book) (c d : Cache) (report : ScanReport) (lost : Bool) : Type 0 where
@@ -154,7 +157,8 @@ KeepsLedger name s t c d = (k : ℕ) (books : List Book) (first : Cache) → IsA
 
 -- they keep the counts too
 abbrev pub KeepsBalance : List ℕ → SourceState → SourceState → Cache → Cache → ScanReport → ScanReport → Bool → Bool → Type 0
-KeepsBalance name s t c d report after lost gone = (k : ℕ) (books : List Book) (first : Cache) → IsAt k name s books → Balance books first c report lost → Balance (moved k t books) first d after gone
+KeepsBalance name s t c d report after lost gone = (k : ℕ) (books : List Book) (first : Cache) → IsAt k name s books
+    → Balance books first c report lost → Balance (moved k t books) first d after gone
 
 -- they keep both, and no request is lost
 abbrev pub KeepsReport : List ℕ → SourceState → SourceState → Cache → Cache → ScanReport → ScanReport → Type 0
@@ -190,7 +194,8 @@ module _ {O S : Type 0} (source : S → SourceState) where
   -- they keep the counts too
   abbrev pub FilesKeepBalance : List (ScanFile O S) → List (ScanFile O S) → Cache → Cache → ScanReport → ScanReport → Bool → Bool → Type 0
   FilesKeepBalance old new c d report after lost gone =
-      (first : List (ScanFile O S)) (cache : Cache) → length old ≡ length first → Balance (books_of first old) cache c report lost → Balance (books_of first new) cache d after gone
+      (first : List (ScanFile O S)) (cache : Cache) → length old ≡ length first
+      → Balance (books_of first old) cache c report lost → Balance (books_of first new) cache d after gone
 
   -- they keep both, and no request is lost
   abbrev pub FilesKeepReport : List (ScanFile O S) → List (ScanFile O S) → Cache → Cache → ScanReport → ScanReport → Type 0

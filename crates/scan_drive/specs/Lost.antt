@@ -49,7 +49,9 @@ module _ {W R : Type 0} where
 
   -- each slot, by the file that it was of
   abbrev pub EachFollows : (ℕ → ℕ → Type 0) → (ℕ → ℕ → Type 0) → List (Slot W R) → List (Slot W R) → Type 0
-  EachFollows Came Failed old new = (place : ℕ) → Follows (Came (slot_at old place).file) (Failed (slot_at old place).file) (slot_at old place) (slot_at new place)
+  EachFollows Came Failed old new = (place : ℕ)
+      → Follows (Came (slot_at old place).file) (Failed (slot_at old place).file) (slot_at old place)
+      (slot_at new place)
 
   -- a split of this file was given up for this
   pub record HasLost (slots : List (Slot W R)) (file : ℕ) (h : Halt) : Type 0 where

@@ -46,7 +46,8 @@ module _ {O S W F I : Type 0} (state : O → OpenerState I) (polls : O → O →
   abbrev pub HoldsWhy : List (ScanFile O S) → List (ScanFile O S) → List (Phase W F) → List (Phase W F) → Type 0
   HoldsWhy files files' old new =
       (k : ℕ) (why : F) → phase_at new k ≡ phase.Held why
-      → (phase_at old k ≡ phase.Held why) ⊎ ((f : ScanFile O S) → IsRefused state polls refuses (slice_index_or files k f).opener (slice_index_or files' k f).opener why)
+      → (phase_at old k ≡ phase.Held why) ⊎ ((f : ScanFile O S)
+      → IsRefused state polls refuses (slice_index_or files k f).opener (slice_index_or files' k f).opener why)
 
 module _ {O S W F I : Type 0} (state : O → OpenerState I) where
   -- the openers of these files that have not answered have put it off
@@ -58,7 +59,9 @@ module _ {O S W F I : Type 0} (state : O → OpenerState I) where
 module _ {W I F : Type 0} (split : W → SplitState I) (comes : W → Arrivals → Store → Event → Type 0) where
   -- each phase has the groups that it had
   abbrev pub KeepsRest : List (Told I) → List (Phase W F) → List (Phase W F) → Type 0
-  KeepsRest tale old new = AllTell tale → (k : ℕ) → phase_left split comes k (told_at tale k) (phase_at new k) ≡ phase_left split comes k (told_at tale k) (phase_at old k)
+  KeepsRest tale old new = AllTell tale → (k : ℕ)
+      → phase_left split comes k (told_at tale k) (phase_at new k) ≡ phase_left split comes k (told_at tale k)
+      (phase_at old k)
 
   -- the splits of each phase stay as their file has them
   abbrev pub KeepsPhases : List (Told I) → List (Phase W F) → List (Phase W F) → Type 0

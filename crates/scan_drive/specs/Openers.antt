@@ -45,12 +45,14 @@ module _ {W I : Type 0} (split : W → SplitState I) (comes : W → Arrivals →
     pub splits : (store : Store) → map (λ w. (split w).rows store) ws ≡ p.splits store
     pub ok : (store : Store) → All (λ w. RunOk split comes p store (new_run w)) ws
 
-module _ {O W I F : Type 0} (split : W → SplitState I) (comes : W → Arrivals → Store → Event → Type 0) (state : O → OpenerState I) (refuses : O → O → F → Type 0)
+module _ {O W I F : Type 0} (split : W → SplitState I) (comes : W → Arrivals → Store → Event → Type 0)
+    (state : O → OpenerState I) (refuses : O → O → F → Type 0)
     (admits : O → O → List W → Type 0) where
   -- the answer of a poll
   abbrev pub PollsOpen : O → O → Opening W F → Type 0
   PollsOpen old new opening.Pending = PolledOnce (state old) (state new) × ((state new).turns < (state old).turns)
-  PollsOpen old new (opening.Opened ws rows) = PolledOnce (state old) (state new) × IfSome (state old).gives (λ p. AreSplits split comes p rows ws.items) × admits old new ws.items
+  PollsOpen old new (opening.Opened ws rows) = PolledOnce (state old) (state new)
+      × IfSome (state old).gives (λ p. AreSplits split comes p rows ws.items) × admits old new ws.items
   PollsOpen old new (opening.Refused f) = PolledOnce (state old) (state new) × refuses old new f
   PollsOpen old new opening.NoMemory = PolledOnce (state old) (state new)
 

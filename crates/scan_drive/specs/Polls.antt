@@ -46,7 +46,8 @@ module _ {O S I : Type 0} (state : O → OpenerState I) where
   -- the openers before that of an open file were polled, as far as their counts can rise
   abbrev pub OpensFirst : {W F : Type 0} → List (ScanFile O S) → List (ScanFile O S) → List (Phase W F) → Type 0
   OpensFirst start now phases =
-      (i j : ℕ) (f : ScanFile O S) → i < j → j < length start → is_unopened (phase_at phases j) ≡ 0 → Rose (opener_at start i f).polled (opener_at now i f).polled
+      (i j : ℕ) (f : ScanFile O S) → i < j → j < length start → is_unopened (phase_at phases j) ≡ 0
+      → Rose (opener_at start i f).polled (opener_at now i f).polled
 
   -- the openers of files since the start of a scan, by the phases of the files
   pub record PollsStand {W F : Type 0} (start now : List (ScanFile O S)) (phases : List (Phase W F)) : Type 0 where
@@ -61,7 +62,9 @@ module _ {O S I : Type 0} (state : O → OpenerState I) where
   -- the same, whatever the phases are
   pub record PollsFit (start now : List (ScanFile O S)) : Type 0 where
     pub grows : (k : ℕ) (f : ScanFile O S) → (opener_at start k f).polled ≤ (opener_at now k f).polled
-    pub most : (k : ℕ) (f : ScanFile O S) → (opener_at now k f).polled + (opener_at now k f).turns ≤ (opener_at start k f).polled + (opener_at start k f).turns + 1
+    pub most : (k : ℕ) (f : ScanFile O S)
+        → (opener_at now k f).polled + (opener_at now k f).turns ≤ (opener_at start k f).polled
+        + (opener_at start k f).turns + 1
     pub first : PollsFirst start now
 
 module _ {O S I R : Type 0} (state : O → OpenerState I) (items : R → List I) where
@@ -71,7 +74,8 @@ module _ {O S I R : Type 0} (state : O → OpenerState I) (items : R → List I)
       (k : ℕ) (f : ScanFile O S) → (opener_at state start k f).polled < (opener_at state now k f).polled → GivesBefore items limit tale (k + 1 - workers)
 
   -- what polls of openers keep since any start: how often they were polled, and under a premise how early
-  pub record PollsOn {W F : Type 0} (workers : ℕ) (limit : Option ℕ) (tale : List (Told I)) (If : Type 0) (phases : List (Phase W F)) (old new : List (ScanFile O S)) : Type 0 where
+  pub record PollsOn {W F : Type 0} (workers : ℕ) (limit : Option ℕ) (tale : List (Told I)) (If : Type 0)
+      (phases : List (Phase W F)) (old new : List (ScanFile O S)) : Type 0 where
     pub grows : PollsGrow state old new
     pub fit : (start : List (ScanFile O S)) → PollsStand state start old phases → PollsFit state start new
     pub late : If → (start : List (ScanFile O S)) → ArePolledLate workers limit tale start old → ArePolledLate workers limit tale start new

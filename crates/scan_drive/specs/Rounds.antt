@@ -94,4 +94,5 @@ module _ {O S W I R : Type 0} (source : S → SourceState) (split : W → SplitS
   abbrev pub ServesFront : ℕ → List (ScanFile O S) → List (ScanFile O S) → List (Slot W R) → List (Slot W R) → Type 0
   ServesFront place files files' old new =
       IsNearer split (slot_at old place) (slot_at new place)
-      ⊎ ((f : ScanFile O S) → (source (slice_index_or files' (slot_at old place).file f).source).turns < (source (slice_index_or files (slot_at old place).file f).source).turns)
+      ⊎ ((f : ScanFile O S) → (source (slice_index_or files' (slot_at old place).file f).source).turns
+      < (source (slice_index_or files (slot_at old place).file f).source).turns)

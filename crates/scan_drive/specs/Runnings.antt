@@ -38,7 +38,9 @@ module _ {W R F : Type 0} where
     pub left : d.left ≡ limit
     pub report : d.report ≡ capped_report 0 0 0
 
-module _ {O S W I R F : Type 0} (state : O → OpenerState I) (polls : O → O → Type 0) (refuses : O → O → F → Type 0) (source : S → SourceState) (split : W → SplitState I) (comes : W → Arrivals → Store → Event → Type 0) (items : R → List I) where
+module _ {O S W I R F : Type 0} (state : O → OpenerState I) (polls : O → O → Type 0) (refuses : O → O → F → Type 0)
+    (source : S → SourceState) (split : W → SplitState I) (comes : W → Arrivals → Store → Event → Type 0)
+    (items : R → List I) where
   -- a drive after a round: so many openers have answered, and it is as sound as it was where the cache agrees with the files
   pub record GoesOn (answered : ℕ) (files files' : List (ScanFile O S)) (desks : List Waiters) (c : Cache) (old new : Drive W R F) : Type 0 where
     pub stands : Stands (length files) new
@@ -52,7 +54,8 @@ module _ {O S W I R F : Type 0} (state : O → OpenerState I) (polls : O → O �
 
   -- what a round has come to
   abbrev pub RoundIs : Round → List (ScanFile O S) → List (ScanFile O S) → List Waiters → Cache → Drive W R F → Drive W R F → Type 0
-  RoundIs round.More files files' desks c old new = GoesOn 0 files files' desks c old new × (steps_left state source split files' new < steps_left state source split files old)
+  RoundIs round.More files files' desks c old new = GoesOn 0 files files' desks c old new
+      × (steps_left state source split files' new < steps_left state source split files old)
   RoundIs round.Opened files files' desks c old new = GoesOn 1 files files' desks c old new
   RoundIs round.Done files files' desks c old new =
       AllTell (tells state source files) → Sound split comes items (tells state source files) old
@@ -82,4 +85,5 @@ module _ {O S W I R F : Type 0} (state : O → OpenerState I) (polls : O → O �
     pub why : HoldsWhy state polls refuses files files' old.phases.items mid.phases.items
     pub held : IsHeldIn mid.phases.items e
     pub sound : CacheAgrees source files c → Sound split comes items (tells state source files) old → Sound split comes items (tells state source files) mid
-    pub stops : CacheAgrees source files c → Sound split comes items (tells state source files) old → Stops split comes items (tells state source files) mid new e
+    pub stops : CacheAgrees source files c → Sound split comes items (tells state source files) old
+        → Stops split comes items (tells state source files) mid new e

@@ -18,7 +18,8 @@ pub record RunData (W : Type 0) : Type 0 where
 
 -- how it is kept
 abbrev pub run_code : {W : Type 0} → Coded W → Coded (RunData W)
-run_code {W} w = code_by (W × (Arrivals × List ℕ)) (coded× w (coded× arrivals_code (coded_list coded_ℕ))) (λ r. (r.work, (r.inbox, r.wanted))) (λ p. record { work = p.0; inbox = p.1.0; wanted = p.1.1 }) (λ _. refl)
+run_code {W} w = code_by (W × (Arrivals × List ℕ)) (coded× w (coded× arrivals_code (coded_list coded_ℕ)))
+    (λ r. (r.work, (r.inbox, r.wanted))) (λ p. record { work = p.0; inbox = p.1.0; wanted = p.1.1 }) (λ _. refl)
 
 -- there is none
 abbrev pub is_nil : List ℕ → Bool

@@ -20,8 +20,12 @@ pub record Trades (name : List ℕ) (s t : SourceState) (c d : Cache) : Type 0 w
 module _ {O S : Type 0} (source : S → SourceState) where
   -- files of one name have one store, and what the cache keeps under a name is what that has
   pub record CacheAgrees (files : List (ScanFile O S)) (c : Cache) : Type 0 where
-    pub same : (i j : ℕ) (f : ScanFile O S) → i < length files → j < length files → (slice_index_or files i f).source_id ≡ (slice_index_or files j f).source_id → (source (slice_index_or files i f).source).holds ≡ (source (slice_index_or files j f).source).holds
-    pub trusts : (k : ℕ) (f : ScanFile O S) (store : Store) → k < length files → (source (slice_index_or files k f).source).holds ≡ Some store → Trusts (slice_index_or files k f).source_id store c
+    pub same : (i j : ℕ) (f : ScanFile O S) → i < length files → j < length files
+        → (slice_index_or files i f).source_id ≡ (slice_index_or files j f).source_id
+        → (source (slice_index_or files i f).source).holds ≡ (source (slice_index_or files j f).source).holds
+    pub trusts : (k : ℕ) (f : ScanFile O S) (store : Store) → k < length files
+        → (source (slice_index_or files k f).source).holds ≡ Some store
+        → Trusts (slice_index_or files k f).source_id store c
 
   -- the same of calls of the sources of files
   pub record FilesTrade (old new : List (ScanFile O S)) (c d : Cache) : Type 0 where

@@ -77,15 +77,19 @@ module _ {O S : Type 0} (source : S → SourceState) where
   abbrev pub named_so : List ℕ → List (ScanFile O S) → ℕ
   named_so name files = length (filter (λ f. pointwise nat_eq name f.source_id) files)
 
-  -- No key is asked for more often than a lookup of it missed. Each put of a key whose name one file alone has comes after a lookup of it that missed, and after the put before.
+  -- No key is asked for more often than a lookup of it missed. Each put of a key whose name one file alone has comes
+  -- after a lookup of it that missed, and after the put before.
   pub record LooksUpFirst (old new : List (ScanFile O S)) (events : List (CacheEvent SegmentKey)) : Type 0 where
     pub missed : (k : SegmentKey) → times k (asked_keys old new) ≤ times k (missed_keys events)
     pub follow : (k : SegmentKey) → named_so k.source_id old ≤ 1 → puts_follow_misses k false events ≡ true
 
-  -- No key is put more often than it was asked for. Where all sources tell, and while the count of puts without memory is below its greatest value, what was asked for and is there was put.
+  -- No key is put more often than it was asked for. Where all sources tell, and while the count of puts without
+  -- memory is below its greatest value, what was asked for and is there was put.
   pub record PutsWhatItAsked (old new : List (ScanFile O S)) (c d : CacheState SegmentKey) (events : List (CacheEvent SegmentKey)) : Type 0 where
     pub each : (k : SegmentKey) → times k (offered_keys events) ≤ times k (asked_keys old new)
-    pub all : All (λ f. IsSome (source f.source).holds) old → IfSome c.short (λ before. IfSome d.short (λ now. now < 2 ^ 64 - 1 → held_asks old new + before ≡ length (offered_keys events) + now))
+    pub all : All (λ f. IsSome (source f.source).holds) old
+        → IfSome c.short (λ before. IfSome d.short
+        (λ now. now < 2 ^ 64 - 1 → held_asks old new + before ≡ length (offered_keys events) + now))
 
   -- bytes of a segment that a file of this name was asked for, as its source tells them
   pub record IsFedBy (old new : List (ScanFile O S)) (k : SegmentKey) (bytes : List ℕ) : Type 0 where

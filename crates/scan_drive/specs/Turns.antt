@@ -81,7 +81,8 @@ module _ {W F : Type 0} where
   -- the rows of this file are counted
   abbrev pub IsCounted : ℕ → Tally → Tally → Phase W F → Type 0
   IsCounted file old new phase.Unopened = new ≡ old
-  IsCounted file old new (phase.Queued ws rows) = ((new ≡ old) × (old.files ≢ file)) ⊎ ((old.files ≡ file) × (new.files ≡ file + 1) × (new.rows ≡ old.rows + rows))
+  IsCounted file old new (phase.Queued ws rows) = ((new ≡ old) × (old.files ≢ file))
+      ⊎ ((old.files ≡ file) × (new.files ≡ file + 1) × (new.rows ≡ old.rows + rows))
   IsCounted file old new (phase.Held f) = new ≡ old
 
   -- the rows of this file may be counted, or there would be too many

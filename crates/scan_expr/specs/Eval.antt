@@ -135,7 +135,9 @@ mask_value e (struct ms) = null
 -- the contrary of b where both sides are that, else null
 abbrev pub logic_value : Bool → Nullability → Marked → Marked → Marked
 logic_value b n x y =
-    cond (is_truth b x || is_truth b y) (boolean b) (cond (is_damaged x || is_damaged y) (damaged n) (cond (is_truth (not b) x && is_truth (not b) y) (boolean (not b)) null))
+    cond (is_truth b x || is_truth b y) (boolean b)
+    (cond (is_damaged x || is_damaged y) (damaged n)
+    (cond (is_truth (not b) x && is_truth (not b) y) (boolean (not b)) null))
 
 abbrev pub bool_cmp : Bool → Bool → Ordering
 bool_cmp false false = orders.Equal
@@ -207,7 +209,9 @@ checked d z = cond (fits_int d z) (integer z) gone
 -- null where one side is null, else damaged where one side is so, else the sum or difference where it lies in the dtype
 abbrev pub arithmetic_value : Binary → DataType → Marked → Marked → Marked
 arithmetic_value b d x y =
-    cond (is_nothing x || is_nothing y) null (cond (is_damaged x || is_damaged y) (damaged (nullability_of d)) (checked d (sum_of b (integer_of x) (integer_of y))))
+    cond (is_nothing x || is_nothing y) null
+    (cond (is_damaged x || is_damaged y) (damaged (nullability_of d))
+    (checked d (sum_of b (integer_of x) (integer_of y))))
 
 -- the value of an operator whose result has the dtype d
 abbrev pub binary_value : Binary → DataType → Marked → Marked → Marked

@@ -27,7 +27,9 @@ same_names-are : (ns ms : List Name) → same_names ns ms ≡ true → ns ≡ ms
 same_names-are [] [] h = refl
 same_names-are [] (m ∷ ms) h = absurd cc
 same_names-are (n ∷ ns) [] h = absurd cc
-same_names-are (n ∷ ns) (m ∷ ms) h = λ i. (bytes_eq-Decides n m).0 (and_left (bytes_eq n m) (same_names ns ms) h) i ∷ same_names-are ns ms (and_right (bytes_eq n m) (same_names ns ms) h) i
+same_names-are (n ∷ ns) (m ∷ ms) h = λ i. (bytes_eq-Decides n m).0
+    (and_left (bytes_eq n m) (same_names ns ms) h) i ∷ same_names-are ns ms
+    (and_right (bytes_eq n m) (same_names ns ms) h) i
 
 same_names-self : (ns : List Name) → same_names ns ns ≡ true
 same_names-self [] = refl
@@ -135,21 +137,27 @@ mutual
   same_expr-is root root h = refl
   same_expr-is row_index row_index h = refl
   same_expr-is (literal d v) (literal e w) h =
-      λ i. literal ((same_type-Decides d e).0 (and_left (same_type d e) (same_val v w) h) i) ((same_val-Decides v w).0 (and_right (same_type d e) (same_val v w) h) i)
+      λ i. literal ((same_type-Decides d e).0 (and_left (same_type d e) (same_val v w) h) i)
+      ((same_val-Decides v w).0 (and_right (same_type d e) (same_val v w) h) i)
   same_expr-is (unary u x) (unary w y) h =
       λ i. unary (same_unary-is u w (and_left (same_unary u w) (same_expr x y) h) i) (same_expr-is x y (and_right (same_unary u w) (same_expr x y) h) i)
   same_expr-is (binary b x y) (binary c z w) h =
       let r = and_right (same_binary b c) (same_expr x z && same_expr y w) h in
-      λ i. binary (same_binary-is b c (and_left (same_binary b c) (same_expr x z && same_expr y w) h) i) (same_expr-is x z (and_left (same_expr x z) (same_expr y w) r) i) (same_expr-is y w (and_right (same_expr x z) (same_expr y w) r) i)
+      λ i. binary (same_binary-is b c (and_left (same_binary b c) (same_expr x z && same_expr y w) h) i)
+      (same_expr-is x z (and_left (same_expr x z) (same_expr y w) r) i)
+      (same_expr-is y w (and_right (same_expr x z) (same_expr y w) r) i)
   same_expr-is (pack ps n) (pack qs m) h =
-      λ i. pack (same_parts-are ps qs (and_right (same_nullability n m) (same_parts ps qs) h) i) (same_nullability-is n m (and_left (same_nullability n m) (same_parts ps qs) h) i)
+      λ i. pack (same_parts-are ps qs (and_right (same_nullability n m) (same_parts ps qs) h) i)
+      (same_nullability-is n m (and_left (same_nullability n m) (same_parts ps qs) h) i)
   same_expr-is x y h = absurd cc
 
   same_parts-are : (ps qs : Parts) → same_parts ps qs ≡ true → ps ≡ qs
   same_parts-are no_parts no_parts h = refl
   same_parts-are (part n x ps) (part m y qs) h =
       let r = and_right (bytes_eq n m) (same_expr x y && same_parts ps qs) h in
-      λ i. part ((bytes_eq-Decides n m).0 (and_left (bytes_eq n m) (same_expr x y && same_parts ps qs) h) i) (same_expr-is x y (and_left (same_expr x y) (same_parts ps qs) r) i) (same_parts-are ps qs (and_right (same_expr x y) (same_parts ps qs) r) i)
+      λ i. part ((bytes_eq-Decides n m).0 (and_left (bytes_eq n m) (same_expr x y && same_parts ps qs) h) i)
+      (same_expr-is x y (and_left (same_expr x y) (same_parts ps qs) r) i)
+      (same_parts-are ps qs (and_right (same_expr x y) (same_parts ps qs) r) i)
   same_parts-are ps qs h = absurd cc
 
 mutual
@@ -174,7 +182,11 @@ same_bound a b = same_expr a.expr b.expr && same_type a.scope b.scope
 
 same_bound-is : (a b : Bound) → same_bound a b ≡ true → a ≡ b
 same_bound-is a b h =
-    λ i. record { scope = (same_type-Decides a.scope b.scope).0 (and_right (same_expr a.expr b.expr) (same_type a.scope b.scope) h) i; expr = same_expr-is a.expr b.expr (and_left (same_expr a.expr b.expr) (same_type a.scope b.scope) h) i }
+    λ i. record {
+      scope = (same_type-Decides a.scope b.scope).0
+          (and_right (same_expr a.expr b.expr) (same_type a.scope b.scope) h) i;
+      expr = same_expr-is a.expr b.expr (and_left (same_expr a.expr b.expr) (same_type a.scope b.scope) h) i;
+    }
 
 same_bound-self : (a : Bound) → same_bound a a ≡ true
 same_bound-self a = rw (same_expr-self a.expr) ((same_type-Decides a.scope a.scope).1 refl)

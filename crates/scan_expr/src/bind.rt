@@ -61,7 +61,8 @@ pub(crate) fn bind_binary(
 ) -> Result<BoundExpression, BindFault>
     requires { second.scope ≡ first.scope }
     ensures { let s = first.scope in let e = binary op first.expr second.expr in
-        result ≢ Err BindFault.NoMemory → result ≡ bound_unless (or_fault (binary_fault op (infer s first.expr) (infer s second.expr)) (depth_fault (infer s e))) s e }
+        result ≢ Err BindFault.NoMemory → result ≡ bound_unless
+        (or_fault (binary_fault op (infer s first.expr) (infer s second.expr)) (depth_fault (infer s e))) s e }
 {
     let dtype = shallow(binary_typed(alloc, op, first.dtype(), second.dtype())?)?;
     Ok(BoundExpression::over_two(alloc, op, first, second, dtype)?)
@@ -95,7 +96,8 @@ pub(crate) fn pack_fields(
     children: &[BoundExpression],
 ) -> Result<StructFields, NoMemory>
     requires even { length children.now ≡ length names.now }
-    ensures fields { (s : DataType) → All (λ b. b.scope ≡ s) children.now → IfOk result (λ fs. fields_of fs ≡ infer_all s (parts_of names.now (exprs_of children.now))) }
+    ensures fields { (s : DataType) → All (λ b. b.scope ≡ s) children.now
+        → IfOk result (λ fs. fields_of fs ≡ infer_all s (parts_of names.now (exprs_of children.now))) }
     ensures faultless { IfOk result (λ _. All (λ b. typing_fault b.scope b.expr ≡ None) children.now) }
 {
     let mut dtypes = Vec::with_capacity(alloc, children.len())?;

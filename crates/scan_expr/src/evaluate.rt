@@ -286,9 +286,11 @@ fn checked_of(op: Binary, dtype: &DType, a: i128, b: i128) -> Option<i128>
 
 /// The sum or difference of two values, whose dtype is an integer type.
 fn arithmetic_of(op: Binary, dtype: &DType, x: &Value, y: &Value) -> Result<Value, ApplyFault>
-    ensures value { fits_int dtype.now (pos 0) ≡ true → IfOk result (λ v. marked (val_of v) ≡ arithmetic_value op dtype.now (marked (val_of x.now)) (marked (val_of y.now))) }
+    ensures value { fits_int dtype.now (pos 0) ≡ true → IfOk result
+        (λ v. marked (val_of v) ≡ arithmetic_value op dtype.now (marked (val_of x.now)) (marked (val_of y.now))) }
     ensures within { IfOk result (λ _. outside op dtype.now (integer_of (marked (val_of x.now))) (integer_of (marked (val_of y.now))) ≡ false) }
-    ensures overflow { result ≡ Err ApplyFault.Overflow → outside op dtype.now (integer_of (marked (val_of x.now))) (integer_of (marked (val_of y.now))) ≡ true }
+    ensures overflow { result ≡ Err ApplyFault.Overflow → outside op dtype.now
+        (integer_of (marked (val_of x.now))) (integer_of (marked (val_of y.now))) ≡ true }
 {
     if is_null(x) || is_null(y) {
         return Ok(Value::Null);
@@ -309,7 +311,9 @@ pub(crate) fn binary_of<'a>(
     x: Lent<'a>,
     y: Lent<'a>,
 ) -> Result<Lent<'a>, ApplyFault>
-    ensures value { (a b : DataType) → dtype.now ≡ binary_type op a b → IfOk result (λ v. marked (lent_val v) ≡ binary_value op dtype.now (marked (lent_val x.entry)) (marked (lent_val y.entry))) }
+    ensures value { (a b : DataType) → dtype.now ≡ binary_type op a b
+        → IfOk result (λ v. marked (lent_val v) ≡ binary_value op dtype.now (marked (lent_val x.entry))
+        (marked (lent_val y.entry))) }
     ensures within { IfOk result (λ _. spills op dtype.now (marked (lent_val x.entry)) (marked (lent_val y.entry)) ≡ false) }
     ensures overflow { result ≡ Err ApplyFault.Overflow → spills op dtype.now (marked (lent_val x.entry)) (marked (lent_val y.entry)) ≡ true }
 {

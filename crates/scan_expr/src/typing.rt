@@ -177,7 +177,8 @@ fn repeats(alloc: Global, names: &[FieldName]) -> Result<bool, NoMemory>
 
 /// The dtype of a field access.
 fn get_item_typed(alloc: Global, name: &FieldName, dtype: &DType) -> Result<DType, BindFault>
-    ensures { result ≢ Err BindFault.NoMemory → result ≡ typed (unary_fault (Unary.GetItem name.now) dtype.now) (unary_type (Unary.GetItem name.now) dtype.now) }
+    ensures { result ≢ Err BindFault.NoMemory → result ≡ typed (unary_fault (Unary.GetItem name.now) dtype.now)
+        (unary_type (Unary.GetItem name.now) dtype.now) }
 {
     let Some(fields) = dtype.as_struct_fields_opt() else {
         return Err(BindFault::NotStruct);
@@ -209,7 +210,8 @@ fn chosen_typed(
 }
 
 fn select_typed(alloc: Global, names: &Names, dtype: &DType) -> Result<DType, BindFault>
-    ensures { result ≢ Err BindFault.NoMemory → result ≡ typed (unary_fault (Unary.Select names.now) dtype.now) (unary_type (Unary.Select names.now) dtype.now) }
+    ensures { result ≢ Err BindFault.NoMemory → result ≡ typed (unary_fault (Unary.Select names.now) dtype.now)
+        (unary_type (Unary.Select names.now) dtype.now) }
 {
     let _depth = dtype.depth();
     let Some(fields) = dtype.as_struct_fields_opt() else {
@@ -235,7 +237,8 @@ fn have_fields(names: &[FieldName], index: &FieldIndex) -> bool
 }
 
 fn exclude_typed(alloc: Global, names: &Names, dtype: &DType) -> Result<DType, BindFault>
-    ensures { result ≢ Err BindFault.NoMemory → result ≡ typed (unary_fault (Unary.Exclude names.now) dtype.now) (unary_type (Unary.Exclude names.now) dtype.now) }
+    ensures { result ≢ Err BindFault.NoMemory → result ≡ typed (unary_fault (Unary.Exclude names.now) dtype.now)
+        (unary_type (Unary.Exclude names.now) dtype.now) }
 {
     let _depth = dtype.depth();
     let Some(fields) = dtype.as_struct_fields_opt() else {

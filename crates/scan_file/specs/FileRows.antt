@@ -18,7 +18,8 @@ rows_data is a = record { numbers = is; values = a }
 
 -- how they are kept
 abbrev pub rows_code : Coded RowsData
-rows_code = code_by (List ℕ × ArrayData) (coded× (coded_list coded_ℕ) array_code) (λ r. (r.numbers, r.values)) (λ p. record { numbers = p.0; values = p.1 }) (λ _. refl)
+rows_code = code_by (List ℕ × ArrayData) (coded× (coded_list coded_ℕ) array_code) (λ r. (r.numbers, r.values))
+    (λ p. record { numbers = p.0; values = p.1 }) (λ _. refl)
 
 -- there are as many of both
 abbrev pub AreEven : RowsData → Type 0

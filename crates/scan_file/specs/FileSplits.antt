@@ -13,7 +13,8 @@ use Rattle.scan_file.specs.FileRows.{unless_lost}
 -- may want
 abbrev pub split_state : FutureData → SplitState Item
 split_state f = record {
-  rows = λ store. unless_lost (future_damage f store || future_overflow f store) (future_dtype f) (zip (rows_of f store) (map (λ m. (future_dtype f, m)) (items_of f store)));
+  rows = λ store. unless_lost (future_damage f store || future_overflow f store) (future_dtype f)
+      (zip (rows_of f store) (map (λ m. (future_dtype f, m)) (items_of f store)));
   overflow = future_overflow f;
   may = future_may f;
 }

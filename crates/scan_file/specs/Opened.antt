@@ -17,6 +17,9 @@ use Rattle.scan_file.specs.declared.split.FileSplit.{FileSplit}
 -- the splits of its part, where nothing is wrong with it, else its first fault
 abbrev pub IsOpened : FileAsk → Layout → Opening FileSplit FileFault → Type 0
 IsOpened a l opening.Pending = ⊥
-IsOpened a l (opening.Opened ws rows) = (layout_fault a l ≡ None) × AreSplits (λ (w : FileSplit). split_state w.future) (λ (w : FileSplit) (here : Arrivals) (store : Store) (e : Event). FutureComes w.future here store e) (layout_part a l) rows ws.items
+IsOpened a l (opening.Opened ws rows) = (layout_fault a l ≡ None)
+    × AreSplits (λ (w : FileSplit). split_state w.future)
+    (λ (w : FileSplit) (here : Arrivals) (store : Store) (e : Event). FutureComes w.future here store e)
+    (layout_part a l) rows ws.items
 IsOpened a l (opening.Refused f) = layout_fault a l ≡ Some f
 IsOpened a l opening.NoMemory = Unit {0}

@@ -35,7 +35,8 @@ grid_row g rows grid =
 -- a split of the elements as a split of the lists
 abbrev pub map_element_split_to_outer_grid : ℕ → ℕ → ℕ → ℕ → Option ℕ
 map_element_split_to_outer_grid e element_rows rows grid =
-    if (nat_lt 0 e && nat_lt e element_rows) && (nat_lt 0 rows && nat_le 2 grid) then grid_row ((e * grid + element_rows / 2) / element_rows) rows grid else None
+    if (nat_lt 0 e && nat_lt e element_rows) && (nat_lt 0 rows && nat_le 2 grid) then grid_row
+    ((e * grid + element_rows / 2) / element_rows) rows grid else None
 
 abbrev pub is_all : MaskPath → Bool
 is_all [] = true

@@ -87,7 +87,8 @@ no_rows n = node (list_type i32 NonNullable) 0 (List' U32) (child (leaf i32 0 []
 
 -- two columns of three rows, the second in segments of two rows and one
 abbrev pub two_columns : Layout
-two_columns = node (struct_type (field (97 ∷ []) i32 (field (98 ∷ []) i32 no_fields)) NonNullable) 3 Struct (child (leaf i32 3 ((0, 3) ∷ [])) (child (leaf i32 3 ((1, 2) ∷ (2, 1) ∷ [])) no_nodes))
+two_columns = node (struct_type (field (97 ∷ []) i32 (field (98 ∷ []) i32 no_fields)) NonNullable) 3 Struct
+    (child (leaf i32 3 ((0, 3) ∷ [])) (child (leaf i32 3 ((1, 2) ∷ (2, 1) ∷ [])) no_nodes))
 
 abbrev pub bools : DataType
 bools = bool_type Nullable

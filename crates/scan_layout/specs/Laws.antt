@@ -29,7 +29,8 @@ Agree s u p = s p.id ≡ u p.id
 
 -- A row's value stands on the segments that it touches, and on no others.
 abbrev pub StandsOnTouched : Type 0
-StandsOnTouched = (l : Layout) (t : DataType) (s u : Store) (a b i : ℕ) → HasForm l t → a ≤ i → i < b → b ≤ rows_of l → Each (Agree s u) (touched l s a b) → row_value l s i ≡ row_value l u i
+StandsOnTouched = (l : Layout) (t : DataType) (s u : Store) (a b i : ℕ) → HasForm l t → a ≤ i → i < b → b ≤ rows_of l
+    → Each (Agree s u) (touched l s a b) → row_value l s i ≡ row_value l u i
 
 -- Each row has a value that fits the layout's dtype, whatever the store.
 abbrev pub RowsFitTheDType : Type 0
@@ -60,7 +61,8 @@ abbrev mutual
   OffsetsAreGood (node t rows Struct kids) s i = is_there (nullability_of t) (nth_value kids 0 s i) ≡ true → AllOffsetsAreGood kids s i
   OffsetsAreGood (node t rows (List' p) kids) s i = is_there (nullability_of t) (nth_value kids 2 s i) ≡ true →
       (InOrder (nth_rows kids 0) (offset_of (nth_value kids 1 s i)) (offset_of (nth_value kids 1 s (i + 1)))
-      × ((x y j : ℕ) → offset_of (nth_value kids 1 s i) ≡ Some (pos x) → offset_of (nth_value kids 1 s (i + 1)) ≡ Some (pos y) → x ≤ j → j < y → FirstOffsetsAreGood kids s j))
+      × ((x y j : ℕ) → offset_of (nth_value kids 1 s i) ≡ Some (pos x)
+      → offset_of (nth_value kids 1 s (i + 1)) ≡ Some (pos y) → x ≤ j → j < y → FirstOffsetsAreGood kids s j))
 
   pub FirstOffsetsAreGood : Nodes → Store → ℕ → Type 0
   FirstOffsetsAreGood no_nodes s i = Unit {0}
@@ -72,7 +74,8 @@ abbrev mutual
 
 -- A row is damaged only where a segment that it touches is missing, does not decode or holds a bad offset of a list that is not null.
 abbrev pub CleanWhereDecoded : Type 0
-CleanWhereDecoded = (l : Layout) (t : DataType) (s : Store) (i : ℕ) → HasForm l t → i < rows_of l → Each (Decodes s) (touched l s i (i + 1)) → OffsetsAreGood l s i → is_clean (row_value l s i) ≡ true
+CleanWhereDecoded = (l : Layout) (t : DataType) (s : Store) (i : ℕ) → HasForm l t → i < rows_of l
+    → Each (Decodes s) (touched l s i (i + 1)) → OffsetsAreGood l s i → is_clean (row_value l s i) ≡ true
 
 -- a mask as the names of its path
 abbrev pub path_of : FieldMask → MaskPath
@@ -85,4 +88,5 @@ found_at k m = (path_of m.0, k + m.1)
 
 -- The fields that masks match are those by which a struct is split.
 abbrev pub MasksSplitByFields : Type 0
-MasksSplitByFields = (fs : Fields) (k : ℕ) (masks : List FieldMask) (found : List (FieldMask × ℕ)) → matching_fields fs masks ≡ Some found → matching fs k (map path_of masks) ≡ map (found_at k) found
+MasksSplitByFields = (fs : Fields) (k : ℕ) (masks : List FieldMask) (found : List (FieldMask × ℕ))
+    → matching_fields fs masks ≡ Some found → matching fs k (map path_of masks) ≡ map (found_at k) found

@@ -12,7 +12,9 @@ Parts V K M = List Layout × (List DataType × (List Name × (List (ℕ × V) ×
 module _ {V K M : Type 0} where
   abbrev pub parts_code : Coded V → Coded K → Coded M → Coded (Parts V K M)
   parts_code v k m =
-      coded× layouts_code (coded× (coded_list data_type_code) (coded× (coded_list (coded_list coded_ℕ)) (coded× (coded_list (coded× coded_ℕ v)) (coded× k (coded_list (coded_option m))))))
+      coded× layouts_code (coded× (coded_list data_type_code)
+      (coded× (coded_list (coded_list coded_ℕ))
+      (coded× (coded_list (coded× coded_ℕ v)) (coded× k (coded_list (coded_option m))))))
 
   abbrev pub to_parts : Children V K M → Parts V K M
   to_parts c = (c.nodes, (c.dtypes, (c.names, (c.ctx, (c.opener, c.made)))))

@@ -58,7 +58,8 @@ struct_slots (struct_type fs n) = length (field_list fs) + 1
 struct_slots _ = 0
 
 abbrev pub struct_slot : DataType → ℕ → Option ℕ
-struct_slot (struct_type fs n) slot = if slot == 0 then only_where n 0 else if nat_lt (slot - 1) (length (field_list fs)) then Some (slot - 1 + one_where n) else None
+struct_slot (struct_type fs n) slot = if slot == 0 then only_where n 0 else if nat_lt (slot - 1)
+    (length (field_list fs)) then Some (slot - 1 + one_where n) else None
 struct_slot _ slot = None
 
 abbrev pub struct_slot_type : DataType → ℕ → Option DataType
@@ -71,7 +72,9 @@ list_slot t slot = if nat_lt slot 2 then Some slot else if slot == 2 then only_w
 
 abbrev pub list_slot_type : DataType → PType → ℕ → Option DataType
 list_slot_type t p slot =
-    if slot == 0 then element_of t else if slot == 1 then Some (int_type p NonNullable) else if slot == 2 then only_where (nullability_of t) (bool_type NonNullable) else None
+    if slot == 0 then element_of t else if slot == 1 then Some
+    (int_type p NonNullable) else if slot == 2 then only_where (nullability_of t)
+    (bool_type NonNullable) else None
 
 -- the child of an index
 abbrev pub nth_kid : Nodes → ℕ → Option Layout

@@ -31,7 +31,8 @@ abbrev pub SpellsCells : DTypeKind → List ℕ → List Val → List ℕ → Ty
 SpellsCells kind [] [] bytes = bytes ≡ []
 SpellsCells kind [] (v ∷ vs) bytes = ⊥
 SpellsCells kind (flag ∷ flags) [] bytes = ⊥
-SpellsCells kind (flag ∷ flags) (v ∷ vs) bytes = (slot : List ℕ) × (rest : List ℕ) × (bytes ≡ slot ++ rest) × SpellsCell kind flag v slot × SpellsCells kind flags vs rest
+SpellsCells kind (flag ∷ flags) (v ∷ vs) bytes = (slot : List ℕ) × (rest : List ℕ) × (bytes ≡ slot ++ rest)
+    × SpellsCell kind flag v slot × SpellsCells kind flags vs rest
 
 -- bytes whose bits are these, one for each of so many rows, and then zeros up to the end of a byte
 abbrev pub AreBits : ℕ → List ℕ → List ℕ → Type 0

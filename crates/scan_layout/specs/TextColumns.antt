@@ -16,7 +16,8 @@ no_ends (b ∷ bytes) = None
 abbrev pub ends_of : ℕ → List ℕ → List ℕ → Option (List ℕ)
 ends_of at [] bytes = no_ends bytes
 ends_of at (flag ∷ flags) bytes =
-    option_and_then (λ p. option_and_then (λ v. option_map (λ es. (at + 4 + length p.0) ∷ es) (ends_of (at + 4 + length p.0) flags p.1)) (under_flag flag (content DTypeKind.Utf8 p.0))) (framed bytes)
+    option_and_then (λ p. option_and_then (λ v. option_map (λ es. (at + 4 + length p.0) ∷ es)
+    (ends_of (at + 4 + length p.0) flags p.1)) (under_flag flag (content DTypeKind.Utf8 p.0))) (framed bytes)
 
 -- where a slot begins, by where each ends
 abbrev pub start_of : List ℕ → ℕ → ℕ

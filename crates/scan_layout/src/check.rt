@@ -465,7 +465,8 @@ fn are_of_list(
     ptype: PType,
     nullability: Nullability,
 ) -> Result<(), LayoutFault>
-    ensures { Tells result (dtypes_fault (nodes (layouts_of children.now)) (element.now ∷ int_type ptype Nullability.NonNullable ∷ validity_types nullability)) }
+    ensures { Tells result (dtypes_fault (nodes (layouts_of children.now))
+        (element.now ∷ int_type ptype Nullability.NonNullable ∷ validity_types nullability)) }
 {
     match children {
         [elements, others @ ..] => {

@@ -57,7 +57,8 @@ pub record IsBalanced (limit : ℕ) (s : State (Unit {0}) Account) : Type 0 wher
   pub grants : total (λ v. v.granted) s.views ≡ min limit (slice_index s.words 0)
   pub within : EachWithin s.views
 
--- what a seat knows of a word that it finds: its claims are in it, its room fits beside it, it was granted no more than it claimed, and where it was granted less the limit is reached
+-- what a seat knows of a word that it finds: its claims are in it, its room fits beside it, it was granted no more
+-- than it claimed, and where it was granted less the limit is reached
 abbrev pub Finds : Account → ℕ → Type 0
 Finds v word = (v.claimed ≤ word) × (word + v.room ≤ most) × (v.granted ≤ v.claimed) × (v.granted < v.claimed → v.limit ≤ word)
 

@@ -8,7 +8,8 @@ use Rattle.scan_limit.specs.Budget.{most, grant_of, first_account, with_claim, w
 abbrev pub Books : Type 0
 Books = State (Unit {0}) Account
 
--- one step, with the number of the seat that takes it: a look at the word, a claim of rows, room that goes to a new seat, and another seat's account that is taken over
+-- one step, with the number of the seat that takes it: a look at the word, a claim of rows, room that goes to a new
+-- seat, and another seat's account that is taken over
 pub data Event : Type 0 where
   looked : ℕ → Event
   claimed : ℕ → ℕ → Event
@@ -31,8 +32,13 @@ with_accounts s accounts = record { words = s.words; homes = s.homes; views = ac
 abbrev pub after : ℕ → Event → Books → Books
 after limit (looked seat) s = s
 after limit (claimed seat rows) s =
-    record { words = slice_set s.words 0 (word_of s + rows); homes = s.homes; views = slice_set s.views seat (with_claim rows (grant_of limit (word_of s) rows) (account_at s seat)) }
-after limit (divided seat room) s = with_accounts s (slice_set s.views seat (with_less_room room (account_at s seat)) ++ with_room room (account_at s seat) ∷ [])
+    record {
+      words = slice_set s.words 0 (word_of s + rows);
+      homes = s.homes;
+      views = slice_set s.views seat (with_claim rows (grant_of limit (word_of s) rows) (account_at s seat));
+    }
+after limit (divided seat room) s = with_accounts s
+    (slice_set s.views seat (with_less_room room (account_at s seat)) ++ with_room room (account_at s seat) ∷ [])
 after limit (joined seat other) s = with_accounts s (slice_set (slice_set s.views seat (both_accounts (account_at s seat) (account_at s other))) other spent)
 
 -- rows are claimed and room is divided within the seat's room, and no seat is joined into itself

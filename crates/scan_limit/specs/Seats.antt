@@ -36,4 +36,6 @@ budget_code = code_by (TableId × ℕ) (coded× table_id_coded coded_ℕ) (λ b.
 
 abbrev pub seat_state_code : Coded SeatState
 seat_state_code =
-    code_by (Budget × (ℕ × (ℕ × ℕ))) (coded× budget_code (coded× coded_ℕ (coded× coded_ℕ coded_ℕ))) (λ s. (s.budget, (s.room, (s.claimed, s.granted)))) (λ p. record { budget = p.0; room = p.1.0; claimed = p.1.1.0; granted = p.1.1.1 }) (λ _. refl)
+    code_by (Budget × (ℕ × (ℕ × ℕ))) (coded× budget_code (coded× coded_ℕ (coded× coded_ℕ coded_ℕ)))
+    (λ s. (s.budget, (s.room, (s.claimed, s.granted))))
+    (λ p. record { budget = p.0; room = p.1.0; claimed = p.1.1.0; granted = p.1.1.1 }) (λ _. refl)

@@ -64,7 +64,8 @@ abbrev pub list_dtype : (Data → Option DataType) → Data → Data → Option 
 list_dtype inner d element = if has_form ListDType d then both (λ e n. shallow (list_type e n)) (inner element) (nullability_in d) else None
 
 abbrev pub struct_dtype : (Data → Option DataType) → Data → Data → Option DataType
-struct_dtype inner d fields = if has_form StructDType d then both (λ fs n. shallow (struct_type (fields_of fs) n)) (option_and_then (each (field_in inner)) (as_array fields)) (nullability_in d) else None
+struct_dtype inner d fields = if has_form StructDType d then both (λ fs n. shallow (struct_type (fields_of fs) n))
+    (option_and_then (each (field_in inner)) (as_array fields)) (nullability_in d) else None
 
 abbrev pub struct_dtype_in : (Data → Option DataType) → Data → Option Data → Option DataType
 struct_dtype_in inner d None = None

@@ -64,7 +64,8 @@ parts_from [] = no_parts
 parts_from (p ∷ ps) = part p.0 p.1 (parts_from ps)
 
 abbrev pub pack_in : (Data → Option Expr) → Data → Data → Option Expr
-pack_in inner d parts = if has_form Pack d then both (λ ps n. Some (pack (parts_from ps) n)) (option_and_then (each (part_in inner)) (as_array parts)) (nullability_in d) else None
+pack_in inner d parts = if has_form Pack d then both (λ ps n. Some (pack (parts_from ps) n))
+    (option_and_then (each (part_in inner)) (as_array parts)) (nullability_in d) else None
 
 abbrev pub only_member : Members → Option (List ℕ × Data)
 only_member no_members = None

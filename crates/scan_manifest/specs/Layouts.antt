@@ -58,17 +58,21 @@ spelling_in d = optional One (λ n. option_and_then spelling_numbered (number_of
 
 abbrev pub leaf_layout : DataType → Data → Data → Option Layout
 leaf_layout dtype d segments =
-    if has_form LeafLayout d then option_and_then (λ y. both (λ ps n. Some (node dtype n (Leaf ps y) no_nodes)) (list_in place_in segments) (rows_in d)) (spelling_in d) else None
+    if has_form LeafLayout d then option_and_then
+    (λ y. both (λ ps n. Some (node dtype n (Leaf ps y) no_nodes)) (list_in place_in segments) (rows_in d))
+    (spelling_in d) else None
 
 abbrev pub struct_layout : (DataType → Data → Option Layout) → DataType → Data → Data → Option Layout
-struct_layout inner dtype d children = if has_form StructLayout d then both (λ ls n. Some (node dtype n Struct (nodes ls))) (children_in inner Struct dtype children) (rows_in d) else None
+struct_layout inner dtype d children = if has_form StructLayout d then both
+    (λ ls n. Some (node dtype n Struct (nodes ls))) (children_in inner Struct dtype children) (rows_in d) else None
 
 abbrev pub offsets_in : Data → Option PType
 offsets_in d = option_and_then ptype_named (option_and_then as_str (get (codes "offsets") d))
 
 abbrev pub list_layout : (DataType → Data → Option Layout) → DataType → Data → Data → Option Layout
 list_layout inner dtype d children =
-    if has_form ListLayout d then option_and_then (λ p. both (λ ls n. Some (node dtype n (Listed p) (nodes ls))) (children_in inner (Listed p) dtype children) (rows_in d)) (offsets_in d) else None
+    if has_form ListLayout d then option_and_then (λ p. both (λ ls n. Some (node dtype n (Listed p) (nodes ls)))
+    (children_in inner (Listed p) dtype children) (rows_in d)) (offsets_in d) else None
 
 abbrev pub list_layout_in : (DataType → Data → Option Layout) → DataType → Data → Option Data → Option Layout
 list_layout_in inner dtype d None = None

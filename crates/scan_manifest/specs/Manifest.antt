@@ -76,7 +76,8 @@ request_in d = if has_form form.Request d then
 
 -- a segment, as `[id, hex]`
 abbrev pub segment_in : Data → Option (ℕ × List ℕ)
-segment_in d = option_and_then (λ p. both (λ id text. option_map (λ bytes. (id, bytes)) (result_ok (decode_of text))) (number_to (2 ^ 32 - 1) p.0) (as_str p.1)) (pair_in d)
+segment_in d = option_and_then (λ p. both (λ id text. option_map (λ bytes. (id, bytes)) (result_ok (decode_of text)))
+    (number_to (2 ^ 32 - 1) p.0) (as_str p.1)) (pair_in d)
 
 abbrev pub has_id : List (ℕ × List ℕ) → ℕ → Bool
 has_id found id = is_some (lookup (λ k. is_eq (nat_cmp id k)) found)
@@ -101,7 +102,9 @@ calls_in d = if has_form form.Calls d then
 -- a file, whose dtype is its own or the manifest's
 abbrev pub file_in : DataType → Data → Option FileSpec
 file_in dtype d = if has_form form.File d then
-    option_and_then (λ id. option_and_then (λ t. option_and_then (λ l. option_and_then (λ ss. option_and_then (λ skip. option_and_then (λ opener. option_map (λ source.
+    option_and_then (λ id. option_and_then
+    (λ t. option_and_then (λ l. option_and_then
+    (λ ss. option_and_then (λ skip. option_and_then (λ opener. option_map (λ source.
     record { id = id; layout = l; segments = ss; skip = skip; opener = opener; source = source })
     (optional no_calls calls_in (get (codes "source") d)))
     (optional no_calls calls_in (get (codes "open") d)))
@@ -148,7 +151,9 @@ usual_cache = record { bytes = 1048576; entries = 1024; eviction = Lru }
 -- the rest of a manifest of this dtype and these files
 abbrev pub manifest_with : Data → DataType → List FileSpec → Option Manifest
 manifest_with d dtype files = if all_agree files then
-    option_and_then (λ workers. option_and_then (λ cache. option_map (λ request. record { dtype = dtype; files = files; request = request; workers = workers; cache = cache })
+    option_and_then (λ workers. option_and_then
+    (λ cache. option_map (λ request.
+    record { dtype = dtype; files = files; request = request; workers = workers; cache = cache })
     (option_and_then request_in (get (codes "request") d)))
     (optional usual_cache cache_in (get (codes "cache") d)))
     (optional 1 (number_to 256) (get (codes "workers") d))

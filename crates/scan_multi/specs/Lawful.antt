@@ -29,7 +29,9 @@ module _ {O S : Type 0} (opener : O → OpenerState) (source : S → SourceState
   -- Each opener, each source and the cache tell, files of one source name have one content, and the cache agrees with it.
   pub record IsLawful (files : List (ScanFile O S)) (cache : CacheState SegmentKey) : Type 0 where
     pub tells : All Tells files
-    pub same : (i j : ℕ) (d : ScanFile O S) → i < length files → j < length files → (get_or files i d).source_id ≡ (get_or files j d).source_id → (source (get_or files i d).source).holds ≡ (source (get_or files j d).source).holds
+    pub same : (i j : ℕ) (d : ScanFile O S) → i < length files → j < length files
+        → (get_or files i d).source_id ≡ (get_or files j d).source_id
+        → (source (get_or files i d).source).holds ≡ (source (get_or files j d).source).holds
     pub cache_tells : IsSome cache.entries
     pub agrees : All (Agrees cache) files
 

@@ -10,8 +10,9 @@ use Rattle.scan_drive.specs.Traffic.{asked_since}
 use Rattle.scan_drive.specs.declared.files.ScanFile.{ScanFile}
 
 module _ {O S : Type 0} (opener : O → OpenerState) (source : S → SourceState) where
-  -- A file after calls of its opener and its source. It tells what it told, its faults did not fall and its turns did not rise, what can fail of it is the same,
-  -- the opener was polled at most once more than it put off an answer, as many requests are live, and what was asked before stands first.
+  -- A file after calls of its opener and its source. It tells what it told, its faults did not fall and its turns did
+  -- not rise, what can fail of it is the same, the opener was polled at most once more than it put off an answer, as
+  -- many requests are live, and what was asked before stands first.
   pub record FileMoves (old new : ScanFile O S) : Type 0 where
     pub source_id : new.source_id ≡ old.source_id
     pub gives : (opener new.opener).gives ≡ (opener old.opener).gives
@@ -34,7 +35,8 @@ module _ {O S : Type 0} (opener : O → OpenerState) (source : S → SourceState
 
   -- only named segments were asked for
   abbrev pub AsksNamed : DataType → ScanRequest → ScanFile O S → ScanFile O S → Type 0
-  AsksNamed d request old new = All (Contains (named d request (told_file opener source old).given (told_file opener source old).store)) (asked_since (source old.source) (source new.source))
+  AsksNamed d request old new = All (Contains (named d request (told_file opener source old).given
+      (told_file opener source old).store)) (asked_since (source old.source) (source new.source))
 
   -- of each file
   abbrev pub EachAsksNamed : DataType → ScanRequest → List (ScanFile O S) → List (ScanFile O S) → Type 0

@@ -18,7 +18,8 @@ pub record ChunkData : Type 0 where
 -- how a chunk is kept
 abbrev pub chunk_code : Coded ChunkData
 chunk_code =
-    code_by (ℕ × (List ℕ × ArrayData)) (coded× coded_ℕ (coded× (coded_list coded_ℕ) array_code)) (λ c. (c.file, (c.rows, c.values))) (λ p. record { file = p.0; rows = p.1.0; values = p.1.1 }) (λ _. refl)
+    code_by (ℕ × (List ℕ × ArrayData)) (coded× coded_ℕ (coded× (coded_list coded_ℕ) array_code))
+    (λ c. (c.file, (c.rows, c.values))) (λ p. record { file = p.0; rows = p.1.0; values = p.1.1 }) (λ _. refl)
 
 -- the chunks of a scan, and its report
 pub record OutputData : Type 0 where

@@ -11,4 +11,5 @@ IsKept cache k = IfSome cache.entries (λ m. IsSome (m k))
 
 -- what a cache keeps under a name is what a source holds, as far as both tell
 abbrev pub KeepsContent : List ℕ → CacheState SegmentKey → SourceState → Type 0
-KeepsContent name cache source = IfSome cache.entries (λ m. IfSome source.holds (λ store. (id : ℕ) → IfSome (m (key_of name id)) (λ bytes. store id ≡ Some bytes)))
+KeepsContent name cache source = IfSome cache.entries
+    (λ m. IfSome source.holds (λ store. (id : ℕ) → IfSome (m (key_of name id)) (λ bytes. store id ≡ Some bytes)))

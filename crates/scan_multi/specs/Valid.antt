@@ -33,4 +33,5 @@ module _ {O S : Type 0} (opener : O → OpenerState) (source : S → SourceState
   abbrev pub NoneFailed : List (ScanFile O S) → List (ScanFile O S) → Type 0
   NoneFailed old new =
       (k : ℕ) (f : ScanFile O S) → k < length old
-      → (OpenerFailed (opener (get_or old k f).opener) (opener (get_or new k f).opener) → ⊥) × (SourceFailed (source (get_or old k f).source) (source (get_or new k f).source) → ⊥)
+      → (OpenerFailed (opener (get_or old k f).opener) (opener (get_or new k f).opener) → ⊥)
+      × (SourceFailed (source (get_or old k f).source) (source (get_or new k f).source) → ⊥)

@@ -61,7 +61,8 @@ request_code =
 
 -- restrictions likewise
 abbrev pub numbers_code : Coded PartitionNumbers
-numbers_code = code_by (Option (Range ℕ) × Selection) (coded× (coded_option range_code) selection_code) (λ n. (n.range, n.selection)) (λ p. record { range = p.0; selection = p.1 }) (λ _. refl)
+numbers_code = code_by (Option (Range ℕ) × Selection) (coded× (coded_option range_code) selection_code)
+    (λ n. (n.range, n.selection)) (λ p. record { range = p.0; selection = p.1 }) (λ _. refl)
 
 -- a scan by its fields
 abbrev pub multi_scan : {O : Type 0} → MultiData O → BoundScanRequest → PartitionNumbers → List SlotData → List ℕ → Option SeatState → ℕ → ℕ → MultiScan O
@@ -71,7 +72,9 @@ multi_scan s q n w ps t g d = record { source = s; request = q; numbers = n; win
 abbrev pub multi_scan_code : {O : Type 0} → Coded O → Coded (MultiScan O)
 multi_scan_code {O} o =
     code_by ((MultiData O × (BoundScanRequest × PartitionNumbers)) × ((List SlotData × List ℕ) × (Option SeatState × (ℕ × ℕ))))
-    (coded× (coded× (multi_code o) (coded× request_code numbers_code)) (coded× (coded× (coded_list slot_code) (coded_list coded_ℕ)) (coded× (coded_option seat_state_code) (coded× coded_ℕ coded_ℕ))))
+    (coded× (coded× (multi_code o) (coded× request_code numbers_code))
+    (coded× (coded× (coded_list slot_code) (coded_list coded_ℕ))
+    (coded× (coded_option seat_state_code) (coded× coded_ℕ coded_ℕ))))
     (λ s. ((s.source, (s.request, s.numbers)), ((s.window, s.waiting), (s.seat, (s.given_rows, s.delivered)))))
     (λ p. multi_scan p.0.0 p.0.1.0 p.0.1.1 p.1.0.0 p.1.0.1 p.1.1.0 p.1.1.1.0 p.1.1.1.1)
     (λ _. refl)

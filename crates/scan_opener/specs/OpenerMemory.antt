@@ -18,7 +18,13 @@ given_of (Some l) = layout_of l.value
 
 -- it tells what it gives, and can fail where a call of its script does
 abbrev pub opener_state : Option (Rc Layout Global) → ScriptState → ℕ → ℕ → OpenerState
-opener_state gives script faults polls = record { gives = Some (given_of gives); faults = faults; polled = polls; turns = turns_left script; can_fail = has_number script.failing }
+opener_state gives script faults polls = record {
+  gives = Some (given_of gives);
+  faults = faults;
+  polled = polls;
+  turns = turns_left script;
+  can_fail = has_number script.failing;
+}
 
 -- what a poll may give that neither fails nor is pending: want of memory where there is a layout
 abbrev pub IsGiving : Given → Opening → Type 0

@@ -86,7 +86,8 @@ pub record Projection : Type 0 where
   pub fields : List ℕ
 
 abbrev pub projection_code : Coded Projection
-projection_code = code_by (List Name × List ℕ) (coded× (coded_list (coded_list coded_ℕ)) (coded_list coded_ℕ)) (λ p. (p.names, p.fields)) (λ p. record { names = p.0; fields = p.1 }) (λ _. refl)
+projection_code = code_by (List Name × List ℕ) (coded× (coded_list (coded_list coded_ℕ)) (coded_list coded_ℕ))
+    (λ p. (p.names, p.fields)) (λ p. record { names = p.0; fields = p.1 }) (λ _. refl)
 
 -- the place of the first field of this name; the number of fields where there is none
 abbrev pub place : Fields → Name → ℕ

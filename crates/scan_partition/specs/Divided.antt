@@ -34,7 +34,9 @@ item_code = code_by (Option Name) (coded_option (coded_list coded_ℕ)) item_tre
 
 abbrev pub divided_code : Coded Divided
 divided_code =
-    code_by (List Item × (List Bound × Bound)) (coded× (coded_list item_code) (coded× (coded_list bound_code) bound_code)) (λ d. (d.items, (d.parts, d.root))) (λ p. record { items = p.0; parts = p.1.0; root = p.1.1 }) (λ _. refl)
+    code_by (List Item × (List Bound × Bound)) (coded× (coded_list item_code)
+    (coded× (coded_list bound_code) bound_code)) (λ d. (d.items, (d.parts, d.root)))
+    (λ p. record { items = p.0; parts = p.1.0; root = p.1.1 }) (λ _. refl)
 
 -- the struct that the root reads: under each item's name a value of its part
 abbrev pub scope_of : List Item → List Bound → DataType

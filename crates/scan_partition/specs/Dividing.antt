@@ -17,4 +17,5 @@ parting Stepped s i e = stepped s i e
 
 abbrev pub GroupsFit : (Item → Expr → Bound) → List Group → Type 0
 GroupsFit b [] = Unit {0}
-GroupsFit b (g ∷ gs) = (NodesHold (group_part b g).scope (group_part b g).expr × (depth_of (infer (group_part b g).scope (group_part b g).expr) ≤ 65)) × GroupsFit b gs
+GroupsFit b (g ∷ gs) = (NodesHold (group_part b g).scope (group_part b g).expr
+    × (depth_of (infer (group_part b g).scope (group_part b g).expr) ≤ 65)) × GroupsFit b gs

@@ -67,7 +67,8 @@ JoinsParts d xs n vs = (w : ℕ → Item → Marked) → HoldParts w n d.items d
 
 -- what `join` gives of arrays of the parts are such values
 abbrev pub PartsJoinRowByRow : Type 0
-PartsJoinRowByRow = (d : Divided) (xs : List ArrayData) (n : ℕ) (vs : List Val) → length d.parts ≡ length d.items → AreOfParts n d.parts xs → map marked vs ≡ map (joined_at d.root xs) (range_with_len 0 n) → JoinsParts d xs n vs
+PartsJoinRowByRow = (d : Divided) (xs : List ArrayData) (n : ℕ) (vs : List Val) → length d.parts ≡ length d.items
+    → AreOfParts n d.parts xs → map marked vs ≡ map (joined_at d.root xs) (range_with_len 0 n) → JoinsParts d xs n vs
 
 -- in each row a value of the struct, and what is read of its items there
 abbrev pub AreRows : DataType → ℕ → (ℕ → Marked) → (ℕ → Item → Marked) → Type 0
@@ -76,4 +77,6 @@ AreRows s n v w = (r : ℕ) → r < n → IsRow (struct_fields s) (nullability_o
 -- and to the values of an expression of which the parts keep the whole
 abbrev pub JoinsWhole : Divided → List ArrayData → ℕ → List Val → Type 0
 JoinsWhole d xs n vs =
-    (b : Bound) (v : ℕ → Marked) (w : ℕ → Item → Marked) → KeepsWhole b (Multi d) → AreRows b.scope n v w → HoldParts w n d.items d.parts xs → map marked vs ≡ map (λ r. eval b.scope b.expr (v r) r) (range_with_len 0 n)
+    (b : Bound) (v : ℕ → Marked) (w : ℕ → Item → Marked) → KeepsWhole b (Multi d) → AreRows b.scope n v w
+    → HoldParts w n d.items d.parts xs
+    → map marked vs ≡ map (λ r. eval b.scope b.expr (v r) r) (range_with_len 0 n)

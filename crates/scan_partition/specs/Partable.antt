@@ -62,7 +62,8 @@ RowPartsPartable (Both d) = ArePartable d.parts
 -- ---- the laws
 -- stepped into an item, over its dtype or a tighter one
 abbrev pub SteppedIsPartable : Type 0
-SteppedIsPartable = (b : Bound) (i : Item) (d : DataType) → IsPartable b → IsExpanded b.expr → AtMost i (use_of b.expr) → IsTighter d (infer b.scope (spelled i)) → IsPartable (bound_of d (step_into b.expr))
+SteppedIsPartable = (b : Bound) (i : Item) (d : DataType) → IsPartable b → IsExpanded b.expr
+    → AtMost i (use_of b.expr) → IsTighter d (infer b.scope (spelled i)) → IsPartable (bound_of d (step_into b.expr))
 
 -- what binds
 abbrev pub BoundIsPartable : Type 0
@@ -86,4 +87,5 @@ abbrev pub ValidityIsPartable : Type 0
 ValidityIsPartable = (b : Bound) → IsPartable b → IsClass Validity (necessary b.expr) → IsPartable (bound_of (bool_type NonNullable) (rewrite_validity b.expr))
 
 abbrev pub LengthsArePartable : Type 0
-LengthsArePartable = (b : Bound) (d : DataType) → IsPartable b → IsClass OffsetsAndValidity (necessary b.expr) → IsTighter d (infer b.scope (unary ListLength root)) → IsPartable (bound_of d (rewrite_offsets b.expr))
+LengthsArePartable = (b : Bound) (d : DataType) → IsPartable b → IsClass OffsetsAndValidity (necessary b.expr)
+    → IsTighter d (infer b.scope (unary ListLength root)) → IsPartable (bound_of d (rewrite_offsets b.expr))

@@ -40,7 +40,9 @@ pub record RowDivided : Type 0 where
 
 abbrev pub row_divided_code : Coded RowDivided
 row_divided_code =
-    code_by (List Partition × (List Bound × Bound)) (coded× (coded_list partition_code) (coded× (coded_list bound_code) bound_code)) (λ d. (d.items, (d.parts, d.root))) (λ p. record { items = p.0; parts = p.1.0; root = p.1.1 }) (λ _. refl)
+    code_by (List Partition × (List Bound × Bound))
+    (coded× (coded_list partition_code) (coded× (coded_list bound_code) bound_code))
+    (λ d. (d.items, (d.parts, d.root))) (λ p. record { items = p.0; parts = p.1.0; root = p.1.1 }) (λ _. refl)
 
 -- ---- what an expression reads
 abbrev mutual

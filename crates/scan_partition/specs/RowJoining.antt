@@ -25,4 +25,6 @@ HoldRowParts v k n (i ∷ is) (p ∷ ps) (a ∷ xs) = HoldsPart (λ r. read_valu
 -- such arrays join to the values of an expression of which the parts keep the whole
 abbrev pub JoinsRows : RowDivided → List ArrayData → ℕ → List Val → Type 0
 JoinsRows d xs n vs =
-    (b : Bound) (v : ℕ → Marked) (k : ℕ → ℕ) → KeepsRows b (Both d) → AreOver b.scope (Both d) → HoldRowParts v k n d.items d.parts xs → map marked vs ≡ map (λ r. eval b.scope b.expr (v r) (k r)) (range_with_len 0 n)
+    (b : Bound) (v : ℕ → Marked) (k : ℕ → ℕ) → KeepsRows b (Both d) → AreOver b.scope (Both d)
+    → HoldRowParts v k n d.items d.parts xs
+    → map marked vs ≡ map (λ r. eval b.scope b.expr (v r) (k r)) (range_with_len 0 n)

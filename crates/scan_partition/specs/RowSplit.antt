@@ -60,7 +60,8 @@ pub record KeepsRow (b : Bound) (d : DataType) (f : Marked → ℕ → ℕ → M
   pub overflow : (v : Marked) (k j : ℕ) → g v k j ≡ overflows b.scope b.expr v k
 
 abbrev pub KeepsRows : Bound → Partitioning → Type 0
-KeepsRows b (RowIdx p) = KeepsRow b (infer p.scope p.expr) (λ v k j. eval p.scope p.expr (integer (pos k)) j) (λ v k j. overflows p.scope p.expr (integer (pos k)) j)
+KeepsRows b (RowIdx p) = KeepsRow b (infer p.scope p.expr) (λ v k j. eval p.scope p.expr (integer (pos k)) j)
+    (λ v k j. overflows p.scope p.expr (integer (pos k)) j)
 KeepsRows b (Child p) = KeepsRow b (infer p.scope p.expr) (λ v k j. eval p.scope p.expr v j) (λ v k j. overflows p.scope p.expr v j)
 KeepsRows b (Both d) = KeepsRow b (infer d.root.scope d.root.expr) (joined_row d) (joined_row_overflows d)
 

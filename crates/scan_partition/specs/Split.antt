@@ -60,12 +60,14 @@ joined_overflows d w k = overflows d.root.scope d.root.expr (struct (part_values
 -- on each row of the struct, whatever is read of its fields where it is not here, the parts give the value of the whole
 abbrev pub KeepsValues : Bound → ((Item → Marked) → ℕ → Marked) → Type 0
 KeepsValues b f =
-    (v : Marked) (w : Item → Marked) (k : ℕ) → IsRow (struct_fields b.scope) (nullability_of b.scope) v → Agrees (struct_fields b.scope) v w → f w k ≡ eval b.scope b.expr v k
+    (v : Marked) (w : Item → Marked) (k : ℕ) → IsRow (struct_fields b.scope) (nullability_of b.scope) v
+    → Agrees (struct_fields b.scope) v w → f w k ≡ eval b.scope b.expr v k
 
 -- and overflow exactly where the whole does
 abbrev pub KeepsOverflows : Bound → ((Item → Marked) → ℕ → Bool) → Type 0
 KeepsOverflows b g =
-    (v : Marked) (w : Item → Marked) (k : ℕ) → IsRow (struct_fields b.scope) (nullability_of b.scope) v → Agrees (struct_fields b.scope) v w → g w k ≡ overflows b.scope b.expr v k
+    (v : Marked) (w : Item → Marked) (k : ℕ) → IsRow (struct_fields b.scope) (nullability_of b.scope) v
+    → Agrees (struct_fields b.scope) v w → g w k ≡ overflows b.scope b.expr v k
 
 -- the dtype of the whole, its value, and where it overflows
 pub record Keeps (b : Bound) (d : DataType) (f : (Item → Marked) → ℕ → Marked) (g : (Item → Marked) → ℕ → Bool) : Type 0 where
@@ -95,7 +97,9 @@ projected_value fs p w = struct (chained (map (λ i. w (Field (name_at fs i))) p
 
 abbrev pub KeepsWhole : Bound → Partitioned → Type 0
 KeepsWhole b (Direct p) =
-    All (λ i. i < length (field_names (struct_fields b.scope))) p.fields × Keeps b (projected_type (struct_fields b.scope) p) (λ w k. projected_value (struct_fields b.scope) p w) (λ w k. false)
+    All (λ i. i < length (field_names (struct_fields b.scope))) p.fields
+    × Keeps b (projected_type (struct_fields b.scope) p) (λ w k. projected_value (struct_fields b.scope) p w)
+    (λ w k. false)
 KeepsWhole b (Single i p) = Keeps b (infer p.scope p.expr) (λ w k. eval p.scope p.expr (w i) k) (λ w k. overflows p.scope p.expr (w i) k)
 KeepsWhole b (Multi d) = Keeps b (infer d.root.scope d.root.expr) (joined_value_of d) (joined_overflows d)
 

@@ -37,6 +37,11 @@ pub record IsOverTighter (b : Bound) (i : Item) (r : Bound) : Type 0 where
 -- r, on the length of a list, is b, where the list is known, null or lost; where its content is gone too, r overflows only where b does
 pub record IsOverLengths (b : Bound) (r : Bound) : Type 0 where
   pub dtype : infer r.scope r.expr ≡ infer b.scope b.expr
-  pub values : (v : Marked) (k : ℕ) → IsListRow (nullability_of b.scope) v → eval r.scope r.expr (eval b.scope (unary ListLength root) v k) k ≡ eval b.scope b.expr v k
-  pub overflow : (v : Marked) (k : ℕ) → IsListRow (nullability_of b.scope) v → overflows r.scope r.expr (eval b.scope (unary ListLength root) v k) k ≡ overflows b.scope b.expr v k
-  pub damaged : (el : DataType) (n : Nullability) (v : Marked) (k : ℕ) → b.scope ≡ list_type el n → fits v b.scope ≡ true → k < 2 ^ 64 → overflows r.scope r.expr (eval b.scope (unary ListLength root) v k) k ≡ true → overflows b.scope b.expr v k ≡ true
+  pub values : (v : Marked) (k : ℕ) → IsListRow (nullability_of b.scope) v
+      → eval r.scope r.expr (eval b.scope (unary ListLength root) v k) k ≡ eval b.scope b.expr v k
+  pub overflow : (v : Marked) (k : ℕ) → IsListRow (nullability_of b.scope) v
+      → overflows r.scope r.expr (eval b.scope (unary ListLength root) v k) k ≡ overflows b.scope b.expr v k
+  pub damaged : (el : DataType) (n : Nullability) (v : Marked) (k : ℕ) → b.scope ≡ list_type el n
+      → fits v b.scope ≡ true → k < 2 ^ 64
+      → overflows r.scope r.expr (eval b.scope (unary ListLength root) v k) k ≡ true
+      → overflows b.scope b.expr v k ≡ true

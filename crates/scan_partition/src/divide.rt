@@ -116,7 +116,8 @@ fn part_of_group(
     group: &Group,
     scope: &Arc<DType>,
 ) -> Result<BoundExpression, NoMemory>
-    requires { NodesHold ((group_part (parting how scope.now.value) (group_seen group.now)).scope) ((group_part (parting how scope.now.value) (group_seen group.now)).expr) }
+    requires { NodesHold ((group_part (parting how scope.now.value) (group_seen group.now)).scope)
+        ((group_part (parting how scope.now.value) (group_seen group.now)).expr) }
     ensures { IfOk result (λ b. b ≡ group_part (parting how scope.now.value) (group_seen group.now)) }
 {
     match how {
@@ -147,7 +148,8 @@ fn pieces_of(
     requires { GroupsFit (parting how scope.now.value) (map group_seen groups.now) }
     ensures items { IfOk result (λ p. p.items.items ≡ map (λ (g : CutGroup). g.0) (map group_seen groups.now)) }
     ensures names { IfOk result (λ p. p.names.items ≡ map (λ (g : CutGroup). item_name g.0) (map group_seen groups.now)) }
-    ensures dtypes { IfOk result (λ p. p.dtypes.items ≡ map (λ (g : CutGroup). type_of_part (parting how scope.now.value) g.0 (part_of g.1)) (map group_seen groups.now)) }
+    ensures dtypes { IfOk result (λ p. p.dtypes.items ≡ map (λ (g : CutGroup). type_of_part
+        (parting how scope.now.value) g.0 (part_of g.1)) (map group_seen groups.now)) }
     ensures parts { IfOk result (λ p. p.parts.items ≡ map (group_part (parting how scope.now.value)) (map group_seen groups.now)) }
 {
     let mut items = Vec::with_capacity(alloc, groups.len())?;
@@ -191,7 +193,9 @@ pub(crate) fn divide(
     expr: &BoundExpression,
 ) -> Result<PartitionedExpr, NoMemory>
     requires parts { GroupsFit (parting how expr.now.scope) (groups_of (cuts expr.now.expr)) }
-    requires root { length (cuts expr.now.expr) < 2 ^ 64 → NodesHold (joined_type (type_of_part (parting how expr.now.scope)) (cuts expr.now.expr)) (root_of (cuts expr.now.expr) [] expr.now.expr) }
+    requires root { length (cuts expr.now.expr) < 2 ^ 64 → NodesHold
+        (joined_type (type_of_part (parting how expr.now.scope)) (cuts expr.now.expr))
+        (root_of (cuts expr.now.expr) [] expr.now.expr) }
     ensures exact { IfOk result (λ p. p ≡ divided (parting how expr.now.scope) expr.now.expr) }
     ensures few { IfOk result (λ _. length (cuts expr.now.expr) < 2 ^ 64) }
 {

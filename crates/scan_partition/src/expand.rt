@@ -151,7 +151,8 @@ fn truth(alloc: Global, scope: &Arc<DType>, b: bool) -> Result<BoundExpression, 
 
 /// Whether `$` is null, or is not.
 fn null_root(alloc: Global, scope: &Arc<DType>, want: bool) -> Result<BoundExpression, NoMemory>
-    ensures { IfOk result (λ b. b ≡ bound_of scope.now.value (if want then null_root (nullability_of scope.now.value) else here_root (nullability_of scope.now.value))) }
+    ensures { IfOk result (λ b. b ≡ bound_of scope.now.value
+        (if want then null_root (nullability_of scope.now.value) else here_root (nullability_of scope.now.value))) }
 {
     if scope.nullability().is_nullable() {
         let here = is_here(alloc, scope)?;

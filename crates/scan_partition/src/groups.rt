@@ -44,7 +44,8 @@ fn add<'a>(
 ) -> Result<usize, NoMemory>
     requires { ArePlaced places.old (map group_seen groups.old.items) }
     ensures placed { IfOk result (λ _. ArePlaced places.new (map group_seen groups.new.items)) }
-    ensures groups { IfOk result (λ _. map group_seen groups.new.items ≡ added (item_seen cut.entry.item) cut.entry.expr.now.expr (map group_seen groups.old.items)) }
+    ensures groups { IfOk result (λ _. map group_seen groups.new.items ≡ added
+        (item_seen cut.entry.item) cut.entry.expr.now.expr (map group_seen groups.old.items)) }
     ensures number { IfOk result (λ n. n ≡ length (found (item_seen cut.entry.item) (map group_seen groups.old.items))) }
 {
     match places.get(cut.item) {

@@ -50,7 +50,9 @@ fn numbered_parts(
     scope: &Arc<DType>,
 ) -> Result<BoundExpression, NoMemory>
     requires { NodesHold scope.now.value (pack (numbered 0 (map (rewritten (rules_of what scope.now.value)) (lent_exprs parts.now))) Nullability.NonNullable) }
-    ensures { IfOk result (λ b. b ≡ bound_of scope.now.value (pack (numbered 0 (map (rewritten (rules_of what scope.now.value)) (lent_exprs parts.now))) Nullability.NonNullable)) }
+    ensures { IfOk result (λ b. b ≡ bound_of scope.now.value
+        (pack (numbered 0 (map (rewritten (rules_of what scope.now.value)) (lent_exprs parts.now)))
+        Nullability.NonNullable)) }
 {
     let mut names = Vec::with_capacity(alloc, parts.len())?;
     let mut made = Vec::with_capacity(alloc, parts.len())?;

@@ -44,7 +44,9 @@ fn leaf_root(
     scope: &Arc<DType>,
 ) -> Result<BoundExpression, NoMemory>
     requires { NodesHold scope.now.value (leaf_of (found (item_seen leaf.item) (map group_seen plan.now.groups.items)) (item_seen leaf.item) leaf.number) }
-    ensures { IfOk result (λ b. b ≡ bound_of scope.now.value (leaf_of (found (item_seen leaf.entry.item) (map group_seen plan.now.groups.items)) (item_seen leaf.entry.item) leaf.entry.number)) }
+    ensures { IfOk result (λ b. b ≡ bound_of scope.now.value
+        (leaf_of (found (item_seen leaf.entry.item) (map group_seen plan.now.groups.items))
+        (item_seen leaf.entry.item) leaf.entry.number)) }
 {
     let part = field_root(alloc, scope, name_of(alloc, leaf.item)?)?;
     if is_alone(plan, leaf.item) {
@@ -63,8 +65,10 @@ fn next_leaf(
     scope: &Arc<DType>,
 ) -> Result<(BoundExpression, usize), NoMemory>
     requires { NodesHold scope.now.value ((first_leaf (map group_seen plan.now.groups.items) (map leaf_seen (drop at plan.now.leaves.items))).0) }
-    ensures expr { IfOk result (λ p. p.0 ≡ bound_of scope.now.value ((first_leaf (map group_seen plan.now.groups.items) (map leaf_seen (drop at plan.now.leaves.items))).0)) }
-    ensures rest { IfOk result (λ p. map leaf_seen (drop p.1 plan.now.leaves.items) ≡ (first_leaf (map group_seen plan.now.groups.items) (map leaf_seen (drop at plan.now.leaves.items))).1) }
+    ensures expr { IfOk result (λ p. p.0 ≡ bound_of scope.now.value
+        ((first_leaf (map group_seen plan.now.groups.items) (map leaf_seen (drop at plan.now.leaves.items))).0)) }
+    ensures rest { IfOk result (λ p. map leaf_seen (drop p.1 plan.now.leaves.items)
+        ≡ (first_leaf (map group_seen plan.now.groups.items) (map leaf_seen (drop at plan.now.leaves.items))).1) }
 {
     if at < plan.leaves.len() {
         let leaf = leaf_root(alloc, plan, plan.leaves[at], scope)?;
@@ -84,8 +88,12 @@ pub(crate) fn plant(
     scope: &Arc<DType>,
 ) -> Result<(BoundExpression, usize), NoMemory>
     requires { NodesHold scope.now.value ((planted (map group_seen plan.now.groups.items) (map leaf_seen (drop at plan.now.leaves.items)) expr.now.expr).0) }
-    ensures expr { IfOk result (λ p. p.0 ≡ bound_of scope.now.value ((planted (map group_seen plan.now.groups.items) (map leaf_seen (drop at plan.now.leaves.items)) expr.now.expr).0)) }
-    ensures rest { IfOk result (λ p. map leaf_seen (drop p.1 plan.now.leaves.items) ≡ (planted (map group_seen plan.now.groups.items) (map leaf_seen (drop at plan.now.leaves.items)) expr.now.expr).1) }
+    ensures expr { IfOk result (λ p. p.0 ≡ bound_of scope.now.value
+        ((planted (map group_seen plan.now.groups.items) (map leaf_seen (drop at plan.now.leaves.items))
+        expr.now.expr).0)) }
+    ensures rest { IfOk result (λ p. map leaf_seen (drop p.1 plan.now.leaves.items)
+        ≡ (planted (map group_seen plan.now.groups.items) (map leaf_seen (drop at plan.now.leaves.items))
+        expr.now.expr).1) }
 {
     match items_used(expr) {
         Sole::One(_) => next_leaf(alloc, plan, at, scope),
@@ -102,9 +110,14 @@ fn plant_parts(
     expr: &BoundExpression,
     scope: &Arc<DType>,
 ) -> Result<(BoundExpression, usize), NoMemory>
-    requires { NodesHold scope.now.value ((parts_planted (map group_seen plan.now.groups.items) (map leaf_seen (drop at plan.now.leaves.items)) expr.now.expr).0) }
-    ensures expr { IfOk result (λ p. p.0 ≡ bound_of scope.now.value ((parts_planted (map group_seen plan.now.groups.items) (map leaf_seen (drop at plan.now.leaves.items)) expr.now.expr).0)) }
-    ensures rest { IfOk result (λ p. map leaf_seen (drop p.1 plan.now.leaves.items) ≡ (parts_planted (map group_seen plan.now.groups.items) (map leaf_seen (drop at plan.now.leaves.items)) expr.now.expr).1) }
+    requires { NodesHold scope.now.value ((parts_planted (map group_seen plan.now.groups.items)
+        (map leaf_seen (drop at plan.now.leaves.items)) expr.now.expr).0) }
+    ensures expr { IfOk result (λ p. p.0 ≡ bound_of scope.now.value
+        ((parts_planted (map group_seen plan.now.groups.items)
+        (map leaf_seen (drop at plan.now.leaves.items)) expr.now.expr).0)) }
+    ensures rest { IfOk result (λ p. map leaf_seen (drop p.1 plan.now.leaves.items)
+        ≡ (parts_planted (map group_seen plan.now.groups.items)
+        (map leaf_seen (drop at plan.now.leaves.items)) expr.now.expr).1) }
 {
     match expr.node() {
         BoundNode::Root => Ok((BoundExpression::root(alloc, scope)?, at)),
@@ -143,9 +156,14 @@ fn plant_all(
     exprs: &[BoundExpression],
     scope: &Arc<DType>,
 ) -> Result<(Vec<BoundExpression>, usize), NoMemory>
-    requires { AllFit scope.now.value ((list_planted (map group_seen plan.now.groups.items) (map leaf_seen (drop at plan.now.leaves.items)) (exprs_of exprs.now)).0) }
-    ensures exprs { IfOk result (λ p. p.0.items ≡ map (bound_of scope.now.value) ((list_planted (map group_seen plan.now.groups.items) (map leaf_seen (drop at plan.now.leaves.items)) (exprs_of exprs.now)).0)) }
-    ensures rest { IfOk result (λ p. map leaf_seen (drop p.1 plan.now.leaves.items) ≡ (list_planted (map group_seen plan.now.groups.items) (map leaf_seen (drop at plan.now.leaves.items)) (exprs_of exprs.now)).1) }
+    requires { AllFit scope.now.value ((list_planted (map group_seen plan.now.groups.items)
+        (map leaf_seen (drop at plan.now.leaves.items)) (exprs_of exprs.now)).0) }
+    ensures exprs { IfOk result (λ p. p.0.items ≡ map (bound_of scope.now.value)
+        ((list_planted (map group_seen plan.now.groups.items) (map leaf_seen (drop at plan.now.leaves.items))
+        (exprs_of exprs.now)).0)) }
+    ensures rest { IfOk result (λ p. map leaf_seen (drop p.1 plan.now.leaves.items)
+        ≡ (list_planted (map group_seen plan.now.groups.items) (map leaf_seen (drop at plan.now.leaves.items))
+        (exprs_of exprs.now)).1) }
 {
     let mut planted = Vec::with_capacity(alloc, exprs.len())?;
     let mut next = at;

@@ -42,7 +42,8 @@ pub enum Partitioned {
 
 /// The expression over its one item.
 fn single(alloc: Global, item: ItemRef, expanded: &BoundExpression) -> Result<Partitioned, NoMemory>
-    requires { NodesHold ((stepped expanded.now.scope (item_seen item) expanded.now.expr).scope) ((stepped expanded.now.scope (item_seen item) expanded.now.expr).expr) }
+    requires { NodesHold ((stepped expanded.now.scope (item_seen item) expanded.now.expr).scope)
+        ((stepped expanded.now.scope (item_seen item) expanded.now.expr).expr) }
     ensures { IfOk result (λ p. p ≡ Partitioned.Single (item_seen item.entry) (stepped expanded.now.scope (item_seen item.entry) expanded.now.expr)) }
 {
     let own = own_item(alloc, item)?;
@@ -55,7 +56,9 @@ fn single(alloc: Global, item: ItemRef, expanded: &BoundExpression) -> Result<Pa
 /// The expression over no item or several.
 fn several(alloc: Global, expanded: &BoundExpression) -> Result<Partitioned, NoMemory>
     requires parts { GroupsFit (stepped expanded.now.scope) (groups_of (cuts expanded.now.expr)) }
-    requires root { length (cuts expanded.now.expr) < 2 ^ 64 → NodesHold (joined_type (type_of_part (stepped expanded.now.scope)) (cuts expanded.now.expr)) (root_of (cuts expanded.now.expr) [] expanded.now.expr) }
+    requires root { length (cuts expanded.now.expr) < 2 ^ 64
+        → NodesHold (joined_type (type_of_part (stepped expanded.now.scope)) (cuts expanded.now.expr))
+        (root_of (cuts expanded.now.expr) [] expanded.now.expr) }
     ensures exact { IfOk result (λ p. p ≡ Partitioned.Multi (divided (stepped expanded.now.scope) expanded.now.expr)) }
     ensures few { IfOk result (λ _. length (cuts expanded.now.expr) < 2 ^ 64) }
 {

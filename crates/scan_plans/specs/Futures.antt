@@ -24,7 +24,10 @@ pub record FutureData : Type 0 where
   pub outer : List MaskData
 
 abbrev pub future_code : Coded FutureData
-future_code = code_by (PlanTree × (ℕ × (MaskData × List MaskData))) (coded× plan_code (coded× coded_ℕ (coded× mask_code (coded_list mask_code)))) (λ f. (f.tree, (f.first, (f.mask, f.outer)))) (λ p. record { tree = p.0; first = p.1.0; mask = p.1.1.0; outer = p.1.1.1 }) (λ _. refl)
+future_code = code_by (PlanTree × (ℕ × (MaskData × List MaskData)))
+    (coded× plan_code (coded× coded_ℕ (coded× mask_code (coded_list mask_code))))
+    (λ f. (f.tree, (f.first, (f.mask, f.outer))))
+    (λ p. record { tree = p.0; first = p.1.0; mask = p.1.1.0; outer = p.1.1.1 }) (λ _. refl)
 
 -- a projection
 abbrev pub future_data : PlanData → ℕ → MaskData → FutureData

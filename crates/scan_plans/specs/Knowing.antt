@@ -22,7 +22,9 @@ KeepsRows bits items new = new ≡ by_rank bits (map (λ v. is_true (marked v)) 
 -- nothing lacks for a filter over a mask, it does not overflow, nothing that it wants is bad, and it is not damaged
 abbrev pub RunsWell : Came → List Bool → Filter → Type 0
 RunsWell here bits f =
-    Complete (wanted f.0 here (true_rows f.1 bits)) here × (overflow_on f.0 (arrived here) (true_rows f.1 bits) ≡ false) × NoneBad (wanted f.0 here (true_rows f.1 bits)) here
+    Complete (wanted f.0 here (true_rows f.1 bits)) here
+    × (overflow_on f.0 (arrived here) (true_rows f.1 bits) ≡ false)
+    × NoneBad (wanted f.0 here (true_rows f.1 bits)) here
     × (damage_on f.0 (arrived here) (true_rows f.1 bits) ≡ false)
 
 -- a filter over a mask: the mask after it, the ids that lack, one that is no good, or an overflow

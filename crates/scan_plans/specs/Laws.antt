@@ -16,11 +16,15 @@ WantsLieInMay = (p : PlanTree) (here : Came) (is : List ℕ) (id : ℕ) → name
 
 -- true rows of a range want of a leaf only what the range touches
 abbrev pub LeavesWantWhatIsTouched : Type 0
-LeavesWantWhatIsTouched = (places : List Place) (base first : ℕ) (mask : List Bool) (id : ℕ) → names_id id (leaf_wanted base places (true_rows first mask)) ≡ true → names_id id (leaf_touched base places first (first + length mask)) ≡ true
+LeavesWantWhatIsTouched = (places : List Place) (base first : ℕ) (mask : List Bool) (id : ℕ)
+    → names_id id (leaf_wanted base places (true_rows first mask)) ≡ true
+    → names_id id (leaf_touched base places first (first + length mask)) ≡ true
 
 -- fewer rows want no more of a leaf
 abbrev pub LeavesWantNoMoreForLess : Type 0
-LeavesWantNoMoreForLess = (places : List Place) (base first : ℕ) (less mask : List Bool) (id : ℕ) → IsWithin less mask → names_id id (leaf_wanted base places (true_rows first less)) ≡ true → names_id id (leaf_wanted base places (true_rows first mask)) ≡ true
+LeavesWantNoMoreForLess = (places : List Place) (base first : ℕ) (less mask : List Bool) (id : ℕ) → IsWithin less mask
+    → names_id id (leaf_wanted base places (true_rows first less)) ≡ true
+    → names_id id (leaf_wanted base places (true_rows first mask)) ≡ true
 
 -- no row wants nothing of a leaf
 abbrev pub NoRowWantsNothing : Type 0

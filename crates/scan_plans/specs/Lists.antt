@@ -29,7 +29,9 @@ offset_rows (i ∷ is) = rows_on (least_row i is) (offset_count i is)
 -- the rows of the elements from the least to the greatest of so many offsets, cut to those that there are
 abbrev pub elements_from : OffsetsData → Store → ℕ → ℕ → List ℕ
 elements_from o store i n =
-    rows_on (least_offset o.elements (offset_marked o store) i n) (min o.elements (greatest_offset (offset_marked o store) i n) - least_offset o.elements (offset_marked o store) i n)
+    rows_on (least_offset o.elements (offset_marked o store) i n)
+    (min o.elements (greatest_offset (offset_marked o store) i n) - least_offset o.elements
+    (offset_marked o store) i n)
 
 -- those of the lists at these rows and between them
 abbrev pub span_elements : OffsetsData → Store → List ℕ → List ℕ

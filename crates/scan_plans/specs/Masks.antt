@@ -25,7 +25,8 @@ abbrev pub mask_data : List Bool → List Filter → MaskData
 mask_data bits fs = record { known = bits; filters = fs }
 
 abbrev pub mask_code : Coded MaskData
-mask_code = code_by (List Bool × List Filter) (coded× (coded_list coded_bool) (coded_list (coded× plan_code coded_ℕ))) (λ m. (m.known, m.filters)) (λ p. record { known = p.0; filters = p.1 }) (λ _. refl)
+mask_code = code_by (List Bool × List Filter) (coded× (coded_list coded_bool) (coded_list (coded× plan_code coded_ℕ)))
+    (λ m. (m.known, m.filters)) (λ p. record { known = p.0; filters = p.1 }) (λ _. refl)
 
 -- the rows of a mask, which begins at a row of a plan, at which the plan is true
 abbrev pub kept : PlanTree → Store → ℕ → List Bool → List Bool
@@ -60,7 +61,9 @@ mask_damage m store = damaged store m.known m.filters
 abbrev pub filters_wanted : Came → List Bool → List Filter → List Place
 filters_wanted here bits [] = []
 filters_wanted here bits (f ∷ fs) =
-    wanted f.0 here (true_rows f.1 bits) ++ (if are_here (wanted f.0 here (true_rows f.1 bits)) here then filters_wanted here (kept f.0 (arrived here) f.1 bits) fs else [])
+    wanted f.0 here (true_rows f.1 bits) ++ (if are_here
+    (wanted f.0 here (true_rows f.1 bits)) here then filters_wanted here
+    (kept f.0 (arrived here) f.1 bits) fs else [])
 
 abbrev pub mask_wanted : MaskData → Came → List Place
 mask_wanted m here = filters_wanted here m.known m.filters
@@ -69,7 +72,9 @@ mask_wanted m here = filters_wanted here m.known m.filters
 abbrev pub filters_spoiled : Came → List Bool → List Filter → ℕ → Bool
 filters_spoiled here bits [] id = false
 filters_spoiled here bits (f ∷ fs) id =
-    spoiled f.0 here (true_rows f.1 bits) id || (if are_here (wanted f.0 here (true_rows f.1 bits)) here then filters_spoiled here (kept f.0 (arrived here) f.1 bits) fs id else false)
+    spoiled f.0 here (true_rows f.1 bits) id || (if are_here
+    (wanted f.0 here (true_rows f.1 bits)) here then filters_spoiled here
+    (kept f.0 (arrived here) f.1 bits) fs id else false)
 
 abbrev pub mask_spoiled : MaskData → Came → ℕ → Bool
 mask_spoiled m here id = filters_spoiled here m.known m.filters id

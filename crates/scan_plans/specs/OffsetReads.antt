@@ -40,7 +40,8 @@ pub record AreOffsets (o : OffsetsData) (store : Store) (i n : ℕ) (ns : List �
 -- one of these numbers is no good as the offset of its row, of which the segment of this id has the offset
 abbrev pub bad_in : OffsetsData → ℕ → ℕ → List ℤ → ℕ → Bool
 bad_in o before i [] id = false
-bad_in o before i (z ∷ zs) id = (is_none (good_offset o.elements before z) && names_id id (leaf_wanted 0 (offset_places o) (i ∷ []))) || bad_in o (row_at z) (i + 1) zs id
+bad_in o before i (z ∷ zs) id = (is_none (good_offset o.elements before z) && names_id id
+    (leaf_wanted 0 (offset_places o) (i ∷ []))) || bad_in o (row_at z) (i + 1) zs id
 
 -- numbers are offsets, all of which are good, or the segment of one has one that is not
 abbrev pub Checks : {A : Type 0} → (A → List ℕ) → OffsetsData → ℕ → List ℤ → Result A ReadFault → Type 0
@@ -53,7 +54,9 @@ Checks items o i zs (Err NoMemory) = Unit {0}
 abbrev pub ReadsOffsets : {A : Type 0} → (A → List ℕ) → OffsetsData → Came → ℕ → ℕ → Result A ReadFault → Type 0
 ReadsOffsets items o here i n (Ok v) = AreOffsets o (arrived here) i n (items v)
 ReadsOffsets items o here i n (Err (Corrupt id)) =
-    Complete (leaf_wanted 0 (offset_places o) (rows_on i n)) here → (spoils (leaf_wanted 0 (offset_places o) (rows_on i n)) here id || any_bad o (arrived here) 0 (rows_on i n) id) ≡ true
+    Complete (leaf_wanted 0 (offset_places o) (rows_on i n)) here
+    → (spoils (leaf_wanted 0 (offset_places o) (rows_on i n)) here id || any_bad o (arrived here) 0
+    (rows_on i n) id) ≡ true
 ReadsOffsets items o here i n (Err Overflow) = ⊥
 ReadsOffsets items o here i n (Err NoMemory) = Unit {0}
 
@@ -132,7 +135,9 @@ elements_in offsets first a = of_parts a.dtype (slice_range a.items (first_in of
 
 -- the lists of a cut that are asked for, cut out of all their elements
 abbrev pub ListsOf : DataType → Cut → ArrayData → Result ArrayData ReadFault → Type 0
-ListsOf d c elements (Ok a) = a ≡ of_parts d (items_where_true c.mask (typed list_of (cuts (sizes_in (c.offsets.items)) elements.items) (replicate (length c.mask) true)))
+ListsOf d c elements (Ok a) = a ≡ of_parts d
+    (items_where_true c.mask (typed list_of (cuts (sizes_in (c.offsets.items)) elements.items)
+    (replicate (length c.mask) true)))
 ListsOf d c elements (Err (Corrupt id)) = ⊥
 ListsOf d c elements (Err Overflow) = ⊥
 ListsOf d c elements (Err NoMemory) = Unit {0}

@@ -43,10 +43,12 @@ abbrev pub offsets_tree : OffsetsData → Gv
 offsets_tree o = gcons (dtypes.tree o.dtype) (gcons (gnum (spelling_tree o.spelling)) (gcons (gnum o.elements) (pairs_tree o.segments)))
 
 abbrev pub tree_offsets : Gv → OffsetsData
-tree_offsets g = offsets_data (dtypes.read (left g)).0 (tree_spelling (num (left (right g)))) (tree_pairs (right (right (right g)))) (num (left (right (right g))))
+tree_offsets g = offsets_data (dtypes.read (left g)).0 (tree_spelling (num (left (right g))))
+    (tree_pairs (right (right (right g)))) (num (left (right (right g))))
 
 pub tree_offsets-offsets_tree : (o : OffsetsData) → tree_offsets (offsets_tree o) ≡ o
-tree_offsets-offsets_tree o = λ i. offsets_data (dtypes.read-tree o.dtype i) (tree_spelling-spelling_tree o.spelling i) (tree_pairs-pairs_tree o.segments i) o.elements
+tree_offsets-offsets_tree o = λ i. offsets_data (dtypes.read-tree o.dtype i)
+    (tree_spelling-spelling_tree o.spelling i) (tree_pairs-pairs_tree o.segments i) o.elements
 
 abbrev pub offsets_code : Coded OffsetsData
 offsets_code = code_by Gv itself offsets_tree tree_offsets tree_offsets-offsets_tree
@@ -63,7 +65,9 @@ abbrev mutual
   plan_tree (lengths o) = gcons (gcons (gnum 6) (gcons gnil (offsets_tree o))) gnil
   plan_tree (valid p v) = gcons (gcons (gnum 7) gnil) (gcons (plan_tree p) (gcons (plan_tree v) gnil))
   plan_tree (numbers k) = gcons (gcons (gnum 8) (gnum k)) gnil
-  plan_tree (by_lengths d e t f p) = gcons (gcons (gnum 9) (gcons (gcons (dtypes.tree d) (exprs.tree e)) (gcons (dtypes.tree t) (exprs.tree f)))) (gcons (plan_tree p) gnil)
+  plan_tree (by_lengths d e t f p) = gcons (gcons (gnum 9)
+      (gcons (gcons (dtypes.tree d) (exprs.tree e)) (gcons (dtypes.tree t) (exprs.tree f))))
+      (gcons (plan_tree p) gnil)
 
   pub plan_trees : PlanTrees → Gv
   plan_trees no_plans = gnil
@@ -115,7 +119,9 @@ mutual
   tree_plan-plan_tree (lengths o) = λ i. lengths (tree_offsets-offsets_tree o i)
   tree_plan-plan_tree (valid p v) = λ i. valid (tree_plan-plan_tree p i) (tree_plan-plan_tree v i)
   tree_plan-plan_tree (numbers k) = refl
-  tree_plan-plan_tree (by_lengths d e t f p) = λ i. by_lengths (dtypes.read-tree d i) (exprs.read-tree e i) (dtypes.read-tree t i) (exprs.read-tree f i) (tree_plan-plan_tree p i)
+  tree_plan-plan_tree (by_lengths d e t f p) =
+      λ i. by_lengths (dtypes.read-tree d i) (exprs.read-tree e i) (dtypes.read-tree t i) (exprs.read-tree f i)
+      (tree_plan-plan_tree p i)
 
   pub tree_plans-plan_trees : (ps : PlanTrees) → tree_plans (plan_trees ps) ≡ ps
   tree_plans-plan_trees no_plans = refl

@@ -67,7 +67,8 @@ any_overflow_on (plan p ps) store is = overflow_on p store is || any_overflow_on
 
 -- rows of a segment that begin at one, under a mask: the segment decodes
 abbrev pub ReadsSegment : Store → Place → ℕ → List Bool → Result ArrayData ReadFault → Type 0
-ReadsSegment store p skip bits (Ok a) = (a.dtype ≡ p.dtype) × (map marked a.items ≡ map (segment_value store p) (true_rows skip bits)) × (is_none (decoded store p) ≡ false)
+ReadsSegment store p skip bits (Ok a) = (a.dtype ≡ p.dtype)
+    × (map marked a.items ≡ map (segment_value store p) (true_rows skip bits)) × (is_none (decoded store p) ≡ false)
 ReadsSegment store p skip bits (Err (Corrupt id)) = (id ≡ p.id) × (decoded store p ≡ None)
 ReadsSegment store p skip bits (Err Overflow) = ⊥
 ReadsSegment store p skip bits (Err NoMemory) = Unit {0}
@@ -75,7 +76,8 @@ ReadsSegment store p skip bits (Err NoMemory) = Unit {0}
 -- the same after other values, where a row is true
 abbrev pub AddsSegment : Store → Place → ℕ → List Bool → ArrayData → Result ArrayData ReadFault → Type 0
 AddsSegment store p skip bits before (Ok a) =
-    (a.dtype ≡ p.dtype) × (map marked a.items ≡ map marked before.items ++ map (segment_value store p) (true_rows skip bits)) × AllDecode (if list_any (λ b. b) bits then p ∷ [] else []) store
+    (a.dtype ≡ p.dtype) × (map marked a.items ≡ map marked before.items ++ map (segment_value store p)
+    (true_rows skip bits)) × AllDecode (if list_any (λ b. b) bits then p ∷ [] else []) store
 AddsSegment store p skip bits before (Err (Corrupt id)) = fails (if list_any (λ b. b) bits then p ∷ [] else []) store id ≡ true
 AddsSegment store p skip bits before (Err Overflow) = ⊥
 AddsSegment store p skip bits before (Err NoMemory) = Unit {0}

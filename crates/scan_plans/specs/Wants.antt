@@ -97,7 +97,8 @@ NoneBad places came = (id : ℕ) → spoils places came id ≡ false
 abbrev pub any_bad : OffsetsData → Store → ℕ → List ℕ → ℕ → Bool
 any_bad o store before [] id = false
 any_bad o store before (i ∷ is) id =
-    (is_bad_offset o.elements before (offset_at o store i) && names_id id (leaf_wanted 0 (offset_places o) (i ∷ []))) || any_bad o store (before_next (offset_at o store i)) is id
+    (is_bad_offset o.elements before (offset_at o store i) && names_id id (leaf_wanted 0 (offset_places o) (i ∷ [])))
+    || any_bad o store (before_next (offset_at o store i)) is id
 
 -- the segment of this id holds offsets of lists at these rows, and what arrived of it is no good
 abbrev pub offsets_spoiled : OffsetsData → Came → List ℕ → ℕ → Bool
@@ -111,7 +112,8 @@ abbrev mutual
   spoiled (evaluate d e p) came is id = spoiled p came is id
   spoiled (over d e ps) came is id = any_spoiled ps came is id
   spoiled (constant d e) came is id = false
-  spoiled (lists d p o) came is id = offsets_spoiled o came is id || (if knows_elements o came is then spoiled p came (element_rows o (arrived came) is) id else false)
+  spoiled (lists d p o) came is id = offsets_spoiled o came is id
+      || (if knows_elements o came is then spoiled p came (element_rows o (arrived came) is) id else false)
   spoiled (lengths o) came is id = offsets_spoiled o came is id
   spoiled (valid p v) came is id = spoiled v came is id || spoiled p came is id
   spoiled (numbers k) came is id = false

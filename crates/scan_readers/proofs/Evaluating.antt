@@ -173,7 +173,8 @@ projection_means s p first end m is below l = record {
       let t = may_want s p.expr store first (first + length m.known) id in
       let ws = mask_wanted m here in
       let rows = true_rows first (mask_of m (arrived here)) in
-      second id ws (are_here ws here) (wanted p.tree here rows) w (names_id id ws || t) (λ h. of_left (names_id id ws) t h) (λ a h. or_more (names_id id ws) t (let same = filtered_length (arrived here) m.known m.filters in subst (λ n. may_want s p.expr store first (first + n) id ≡ true) same (is.wants store here first (mask_of m (arrived here)) id holds (within (arrived here)) h)));
+      second id ws (are_here ws here) (wanted p.tree here rows) w (names_id id ws || t) (λ h. of_left (names_id id ws) t h)
+      (λ a h. or_more (names_id id ws) t (let same = filtered_length (arrived here) m.known m.filters in subst (λ n. may_want s p.expr store first (first + n) id ≡ true) same (is.wants store here first (mask_of m (arrived here)) id holds (within (arrived here)) h)));
   spoils = λ store here id holds w.
       let t = may_spoil s p.expr store first (first + length m.known) id in
       let bad = mask_spoiled m here id in

@@ -29,7 +29,8 @@ pub record Filters (s : ReaderState) (e : Bound) (first : ℕ) (old new : MaskDa
   pub size : length new.known ≡ length old.known
   pub mask : (store : Store) → mask_of new store ≡ rows_true s e store first (mask_of old store)
   pub overflow : (store : Store) → mask_overflow new store ≡ (mask_overflow old store || overflows_on s e store first (mask_of old store))
-  pub wants : (store : Store) (here : Came) (id : ℕ) → Holds store here → names_id id (mask_wanted new here) ≡ true → (names_id id (mask_wanted old here) || may_want s e store first (first + length old.known) id) ≡ true
+  pub wants : (store : Store) (here : Came) (id : ℕ) → Holds store here → names_id id (mask_wanted new here) ≡ true
+      → (names_id id (mask_wanted old here) || may_want s e store first (first + length old.known) id) ≡ true
   pub spoils : (store : Store) (here : Came) (id : ℕ) → Holds store here → mask_spoiled new here id ≡ true
       → (mask_spoiled old here id || may_spoil s e store first (first + length old.known) id) ≡ true
 
@@ -38,7 +39,8 @@ pub record Projects (s : ReaderState) (e : Bound) (first : ℕ) (m : MaskData) (
   pub dtype : future_dtype f ≡ infer e.scope e.expr
   pub items : (store : Store) → items_of f store ≡ map (value_of s e store) (true_rows first (mask_of m store))
   pub overflow : (store : Store) → future_overflow f store ≡ (mask_overflow m store || overflows_on s e store first (mask_of m store))
-  pub wants : (store : Store) (here : Came) (id : ℕ) → Holds store here → names_id id (future_wanted f here) ≡ true → (names_id id (mask_wanted m here) || may_want s e store first (first + length m.known) id) ≡ true
+  pub wants : (store : Store) (here : Came) (id : ℕ) → Holds store here → names_id id (future_wanted f here) ≡ true
+      → (names_id id (mask_wanted m here) || may_want s e store first (first + length m.known) id) ≡ true
   pub spoils : (store : Store) (here : Came) (id : ℕ) → Holds store here → future_spoiled f here id ≡ true
       → (mask_spoiled m here id || may_spoil s e store first (first + length m.known) id) ≡ true
 

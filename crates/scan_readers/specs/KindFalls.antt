@@ -12,7 +12,8 @@ pub kind_falls : (k : ReaderKind) → deep-ReaderKind k ≤ suc (made_size (made
 kind_falls (Leaf r) = omega arith
 kind_falls (Nested r) = omega arith
 
-pub most_made : (w : Option ReaderKind → ℕ) → w None ≤ 0 → ((k : ReaderKind) → w (Some k) ≤ deep-ReaderKind k) → (os : List (Option ReaderKind)) → max (most w os) 0 ≤ made_size (all_made os)
+pub most_made : (w : Option ReaderKind → ℕ) → w None ≤ 0 → ((k : ReaderKind) → w (Some k) ≤ deep-ReaderKind k)
+    → (os : List (Option ReaderKind)) → max (most w os) 0 ≤ made_size (all_made os)
 most_made w none some [] = omega arith
 most_made w none some (None ∷ os) = omega (arith, none, most_made w none some os)
 most_made w none some (Some k ∷ os) = omega (arith, some k, kind_falls k, most_made w none some os)

@@ -66,13 +66,17 @@ IsNeverNull d = (t : DataType) × (d ≡ list_type t NonNullable)
 
 -- a plan of an expression over lists that are never null, whatever stands in their leaves
 abbrev pub IsNeverNullPlan : Bound → PlanTree → Type 0
-IsNeverNullPlan e p = (name : Name) (t : DataType) (rows : ℕ) (q : PType) (el : Layout) (sp : Spelling) (gs : List (ℕ × ℕ)) (ls : Nodes) → e.scope ≡ list_type t NonNullable
+IsNeverNullPlan e p = (name : Name) (t : DataType) (rows : ℕ) (q : PType) (el : Layout) (sp : Spelling)
+    (gs : List (ℕ × ℕ)) (ls : Nodes) → e.scope ≡ list_type t NonNullable
     → IsPlanOf (layout_state name (list_layout t NonNullable rows q el sp gs ls)) e (plan_data e p)
 
 -- a plan of an expression over lists of this validity, whatever stands in their other leaves
 abbrev pub IsNullsPlan : Bound → LeafReader → PlanTree → Type 0
-IsNullsPlan e v p = (name : Name) (t : DataType) (rows : ℕ) (q : PType) (el : Layout) (sp : Spelling) (gs : List (ℕ × ℕ)) (ls : Nodes) → e.scope ≡ list_type t Nullable
-    → HasForm (list_layout t Nullable rows q el sp gs (child (leaf_of v) ls)) (list_type t Nullable) → IsPlanOf (layout_state name (list_layout t Nullable rows q el sp gs (child (leaf_of v) ls))) e (plan_data e p)
+IsNullsPlan e v p = (name : Name) (t : DataType) (rows : ℕ) (q : PType) (el : Layout) (sp : Spelling)
+    (gs : List (ℕ × ℕ)) (ls : Nodes) → e.scope ≡ list_type t Nullable
+    → HasForm (list_layout t Nullable rows q el sp gs (child (leaf_of v) ls)) (list_type t Nullable)
+    → IsPlanOf (layout_state name (list_layout t Nullable rows q el sp gs (child (leaf_of v) ls))) e
+    (plan_data e p)
 
 -- lists that may be null
 abbrev pub IsMaybeNull : DataType → Type 0
@@ -80,26 +84,30 @@ IsMaybeNull d = (t : DataType) × (d ≡ list_type t Nullable)
 
 -- a plan of an expression over how many elements lists have, by these offsets over so many elements
 abbrev pub IsLengthsPlan : Bound → LeafReader → ℕ → PlanTree → Type 0
-IsLengthsPlan e o count p = (name : Name) (t : DataType) (rows : ℕ) (q : PType) (el : Layout) (ls : Nodes) → e.scope ≡ list_type t NonNullable → o.dtype.value ≡ int_type q NonNullable → rows_of el ≡ count
+IsLengthsPlan e o count p = (name : Name) (t : DataType) (rows : ℕ) (q : PType) (el : Layout) (ls : Nodes)
+    → e.scope ≡ list_type t NonNullable → o.dtype.value ≡ int_type q NonNullable → rows_of el ≡ count
     → HasForm (list_layout t NonNullable rows q el o.spelling o.runs.value ls) (list_type t NonNullable)
     → IsPlanOf (layout_state name (list_layout t NonNullable rows q el o.spelling o.runs.value ls)) e (plan_data e p)
 
 -- the same under this validity
 abbrev pub IsValidLengthsPlan : Bound → LeafReader → ℕ → LeafReader → PlanTree → Type 0
-IsValidLengthsPlan e o count v p = (name : Name) (t : DataType) (rows : ℕ) (q : PType) (el : Layout) (ls : Nodes) → e.scope ≡ list_type t Nullable → o.dtype.value ≡ int_type q NonNullable → rows_of el ≡ count
+IsValidLengthsPlan e o count v p = (name : Name) (t : DataType) (rows : ℕ) (q : PType) (el : Layout) (ls : Nodes)
+    → e.scope ≡ list_type t Nullable → o.dtype.value ≡ int_type q NonNullable → rows_of el ≡ count
     → HasForm (list_layout t Nullable rows q el o.spelling o.runs.value (child (leaf_of v) ls)) (list_type t Nullable)
     → IsPlanOf (layout_state name (list_layout t Nullable rows q el o.spelling o.runs.value (child (leaf_of v) ls))) e (plan_data e p)
 
 -- a plan of an expression over lists, by this plan of all their elements and these offsets
 abbrev pub IsListsPlan : Bound → PlanTree → LeafReader → ℕ → PlanTree → Type 0
-IsListsPlan e k o count p = (name : Name) (t : DataType) (rows : ℕ) (q : PType) (el : Layout) (ls : Nodes) → e.scope ≡ list_type t NonNullable → o.dtype.value ≡ int_type q NonNullable → rows_of el ≡ count
+IsListsPlan e k o count p = (name : Name) (t : DataType) (rows : ℕ) (q : PType) (el : Layout) (ls : Nodes)
+    → e.scope ≡ list_type t NonNullable → o.dtype.value ≡ int_type q NonNullable → rows_of el ≡ count
     → HasForm (list_layout t NonNullable rows q el o.spelling o.runs.value ls) (list_type t NonNullable)
     → IsPlanOf (layout_state name el) (bound_of t root) (plan_data (bound_of t root) k)
     → IsPlanOf (layout_state name (list_layout t NonNullable rows q el o.spelling o.runs.value ls)) e (plan_data e p)
 
 -- the same under this validity
 abbrev pub IsValidListsPlan : Bound → PlanTree → LeafReader → ℕ → LeafReader → PlanTree → Type 0
-IsValidListsPlan e k o count v p = (name : Name) (t : DataType) (rows : ℕ) (q : PType) (el : Layout) (ls : Nodes) → e.scope ≡ list_type t Nullable → o.dtype.value ≡ int_type q NonNullable → rows_of el ≡ count
+IsValidListsPlan e k o count v p = (name : Name) (t : DataType) (rows : ℕ) (q : PType) (el : Layout) (ls : Nodes)
+    → e.scope ≡ list_type t Nullable → o.dtype.value ≡ int_type q NonNullable → rows_of el ≡ count
     → HasForm (list_layout t Nullable rows q el o.spelling o.runs.value (child (leaf_of v) ls)) (list_type t Nullable)
     → IsPlanOf (layout_state name el) (bound_of t root) (plan_data (bound_of t root) k)
     → IsPlanOf (layout_state name (list_layout t Nullable rows q el o.spelling o.runs.value (child (leaf_of v) ls))) e (plan_data e p)

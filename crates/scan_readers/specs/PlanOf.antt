@@ -44,7 +44,9 @@ pub record IsPlanOf (s : ReaderState) (e : Bound) (p : PlanData) : Type 0 where
   pub rows : Within p.tree s.rows
   pub value : (store : Store) (i : ℕ) → i < s.rows → value_at p.tree store i ≡ value_of s e store i
   pub overflow : (store : Store) (i : ℕ) → i < s.rows → overflow_at p.tree store i ≡ overflows_at s e store i
-  pub wants : (store : Store) (here : Came) (first : ℕ) (mask : List Bool) (id : ℕ) → Holds store here → first + length mask ≤ s.rows → names_id id (wanted p.tree here (true_rows first mask)) ≡ true → may_want s e store first (first + length mask) id ≡ true
+  pub wants : (store : Store) (here : Came) (first : ℕ) (mask : List Bool) (id : ℕ) → Holds store here
+      → first + length mask ≤ s.rows → names_id id (wanted p.tree here (true_rows first mask)) ≡ true
+      → may_want s e store first (first + length mask) id ≡ true
   pub spoils : (store : Store) (here : Came) (first : ℕ) (mask : List Bool) (id : ℕ) → Holds store here → first + length mask ≤ s.rows
       → spoiled p.tree here (true_rows first mask) id ≡ true → may_spoil s e store first (first + length mask) id ≡ true
   pub exact : IfSome s.holding (λ holding. (here : Came) (is : List ℕ) → wanted p.tree here is ≡ held e holding is)

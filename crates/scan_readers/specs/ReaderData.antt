@@ -25,7 +25,8 @@ abbrev pub parts_code : {V : Type 0} → Coded V → Coded (ReaderParts V)
 parts_code v = coded× (coded_list coded_ℕ) (coded× layout_code (coded× made_code (coded× (coded_list (coded× coded_ℕ v)) (coded_list plan_data_code))))
 
 abbrev pub reader_code : {V : Type 0} → Coded V → Coded (ReaderData V)
-reader_code {V} v = code_by (ReaderParts V) (parts_code v) (λ a. (a.name, (a.layout, (a.made, (a.shared, a.kept))))) (λ p. record { name = p.0; layout = p.1.0; made = p.1.1.0; shared = p.1.1.1.0; kept = p.1.1.1.1 }) (λ _. refl)
+reader_code {V} v = code_by (ReaderParts V) (parts_code v) (λ a. (a.name, (a.layout, (a.made, (a.shared, a.kept)))))
+    (λ p. record { name = p.0; layout = p.1.0; made = p.1.1.0; shared = p.1.1.1.0; kept = p.1.1.1.1 }) (λ _. refl)
 
 abbrev pub reader_data : {V : Type 0} → Name → Layout → Made → List (ℕ × V) → List PlanData → ReaderData V
 reader_data name l m shared kept = record { name = name; layout = l; made = m; shared = shared; kept = kept }

@@ -17,7 +17,8 @@ abbrev pub row_idx_data : {R : Type 0} → ℕ → R → List PlanData → RowId
 row_idx_data offset child kept = record { offset = offset; child = child; kept = kept }
 
 abbrev pub row_idx_code : {R : Type 0} → Coded R → Coded (RowIdxData R)
-row_idx_code {R} r = code_by (ℕ × (R × List PlanData)) (coded× coded_ℕ (coded× r (coded_list plan_data_code))) (λ a. (a.offset, (a.child, a.kept))) (λ p. record { offset = p.0; child = p.1.0; kept = p.1.1 }) (λ _. refl)
+row_idx_code {R} r = code_by (ℕ × (R × List PlanData)) (coded× coded_ℕ (coded× r (coded_list plan_data_code)))
+    (λ a. (a.offset, (a.child, a.kept))) (λ p. record { offset = p.0; child = p.1.0; kept = p.1.1 }) (λ _. refl)
 
 -- it has the other's rows, numbered from the offset on; what an expression wants of them it does not tell
 abbrev pub numbered_state : ℕ → ReaderState → ReaderState

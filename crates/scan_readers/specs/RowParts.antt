@@ -26,7 +26,9 @@ reads_numbers Child = false
 abbrev pub WantsPart : ReaderState → Partition → Bound → PlanTree → Type 0
 WantsPart s RowIdx p n = (here : Came) (is : List ℕ) → ◌≡◌ {A = List Place} (wanted n here is) []
 WantsPart s Child p n =
-    (store : Store) (here : Came) (first : ℕ) (mask : List Bool) (id : ℕ) → Holds store here → first + length mask ≤ s.rows → names_id id (wanted n here (true_rows first mask)) ≡ true → may_want s p store first (first + length mask) id ≡ true
+    (store : Store) (here : Came) (first : ℕ) (mask : List Bool) (id : ℕ) → Holds store here
+    → first + length mask ≤ s.rows → names_id id (wanted n here (true_rows first mask)) ≡ true
+    → may_want s p store first (first + length mask) id ≡ true
 
 -- over the rows' numbers nothing is no good, over the rows what is no good where the part needs it
 abbrev pub SpoilsPart : ReaderState → Partition → Bound → PlanTree → Type 0

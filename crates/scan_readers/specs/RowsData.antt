@@ -14,7 +14,9 @@ pub record RowsData : Type 0 where
   pub kept : List PlanData
 
 abbrev pub rows_code : Coded RowsData
-rows_code = code_by (Name × (ArrayData × List PlanData)) (coded× (coded_list coded_ℕ) (coded× array_code (coded_list plan_data_code))) (λ a. (a.name, (a.array, a.kept))) (λ p. record { name = p.0; array = p.1.0; kept = p.1.1 }) (λ _. refl)
+rows_code = code_by (Name × (ArrayData × List PlanData))
+    (coded× (coded_list coded_ℕ) (coded× array_code (coded_list plan_data_code))) (λ a. (a.name, (a.array, a.kept)))
+    (λ p. record { name = p.0; array = p.1.0; kept = p.1.1 }) (λ _. refl)
 
 abbrev pub rows_data : Name → ArrayData → List PlanData → RowsData
 rows_data name array kept = record { name = name; array = array; kept = kept }

@@ -44,7 +44,8 @@ pub record IsFirstRun (s : Spelling) (n : ℕ) (old new : List (ScanFile MemoryO
   pub scanned : ScanMoves memory_opener source_state 1 table_type generated_request old new empty_cache cache
 
 -- what a scan of files over an empty cache gave, and what it left
-pub record IsOutputOf (workers : ℕ) (d : DataType) (request : ScanRequest) (old new : List (ScanFile MemoryOpener MemorySource)) (out : OutputData) : Type 0 where
+pub record IsOutputOf (workers : ℕ) (d : DataType) (request : ScanRequest)
+    (old new : List (ScanFile MemoryOpener MemorySource)) (out : OutputData) : Type 0 where
   pub cache : CacheState SegmentKey
   pub scan : IsScan memory_opener source_state workers d request old new empty_cache cache out
   pub moves : ScanMoves memory_opener source_state workers d request old new empty_cache cache

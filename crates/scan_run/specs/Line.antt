@@ -61,7 +61,9 @@ abbrev mutual
 
 -- the line of a row of a file
 abbrev pub line_of : DataType → ℕ → ℕ → Val → List ℕ
-line_of dtype file row v = codes "{\"file\":" ++ (decimal file ++ (codes ",\"row\":" ++ (decimal row ++ (codes ",\"value\":" ++ (value_text v dtype ++ codes "}\n")))))
+line_of dtype file row v = codes "{\"file\":"
+    ++ (decimal file ++ (codes ",\"row\":"
+    ++ (decimal row ++ (codes ",\"value\":" ++ (value_text v dtype ++ codes "}\n")))))
 
 -- the old bytes stay, and a front of this text stands behind them
 pub record AppendsFront (text old new : List ℕ) : Type 0 where

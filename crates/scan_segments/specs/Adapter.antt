@@ -30,7 +30,14 @@ has_stage stages id = is_some (stage_at stages id)
 
 -- as a source it does not tell what it holds; its faults are the inner source's, which alone can fail, and its turns those of both
 abbrev pub adapted : {C S : Type 0} → (C → CacheState ℕ) → (S → SourceState) → Adapted C S → SourceState
-adapted cache source a = record { holds = None; asked = a.asked; live = has_stage a.stages; faults = (source a.source).faults; turns = (cache a.cache).turns + (source a.source).turns; can_fail = (source a.source).can_fail }
+adapted cache source a = record {
+  holds = None;
+  asked = a.asked;
+  live = has_stage a.stages;
+  faults = (source a.source).faults;
+  turns = (cache a.cache).turns + (source a.source).turns;
+  can_fail = (source a.source).can_fail;
+}
 
 abbrev pub is_asked : Option Stage → Bool
 is_asked None = false
@@ -156,7 +163,8 @@ module _ {C S : Type 0} (cache : C → CacheState ℕ) (source : S → SourceSta
 
   -- one poll, by the stage of the id before
   abbrev pub PollsAdapted : (ℕ → List ℕ → Type 0) → ℕ → Adapted C S → Adapted C S → Polled → Type 0
-  PollsAdapted fits id a b r = PollsBoth fits id (cache a.cache) (cache b.cache) (source a.source) (source b.source) r (stage_at b.stages id) (stage_at a.stages id)
+  PollsAdapted fits id a b r = PollsBoth fits id (cache a.cache) (cache b.cache) (source a.source) (source b.source) r
+      (stage_at b.stages id) (stage_at a.stages id)
 
   -- what a store has is what is given, and the store is trusted still
   abbrev pub GivesTrusted : ℕ → Polled → Adapted C S → Adapted C S → Type 0

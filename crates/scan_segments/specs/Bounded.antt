@@ -138,4 +138,10 @@ keyed_state c = record { entries = Some (at c.pairs); ended = None; short = None
 
 -- the cache as one of the file with this source id
 abbrev pub file_state : List ℕ → Bounded → CacheState ℕ
-file_state source_id c = record { entries = Some (λ id. at c.pairs (record { source_id = source_id; segment = id })); ended = None; short = None; faults = 0; turns = 0 }
+file_state source_id c = record {
+  entries = Some (λ id. at c.pairs (record { source_id = source_id; segment = id }));
+  ended = None;
+  short = None;
+  faults = 0;
+  turns = 0;
+}

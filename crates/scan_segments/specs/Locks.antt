@@ -14,8 +14,10 @@ pub record LockedState (S : Type 0) : Type 0 where
   pub history : List (SharedEvent SharedKind)
   pub spare : ℕ
 
--- the history is lawful and its replay is the table, each answer read as its kind; the live ids are the table's; kept bytes fit their id; each event that is owed has room
-pub record IsKept (fits : ℕ → List ℕ → Type 0) (live : ℕ → Bool) (table : List (ℕ × Held SharedAnswer)) (history : List (SharedEvent SharedKind)) (spare : ℕ) : Type 0 where
+-- the history is lawful and its replay is the table, each answer read as its kind; the live ids are the table's; kept
+-- bytes fit their id; each event that is owed has room
+pub record IsKept (fits : ℕ → List ℕ → Type 0) (live : ℕ → Bool) (table : List (ℕ × Held SharedAnswer))
+    (history : List (SharedEvent SharedKind)) (spare : ℕ) : Type 0 where
   pub lawful : IsLawful history
   pub replays : (id : ℕ) → kinds (entry_at table id) ≡ replay history id
   pub agrees : Agree live (entry_at table)

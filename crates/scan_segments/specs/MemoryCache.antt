@@ -58,7 +58,8 @@ GetsMemory k old new get.NoMemory = (outcome_of old.script ≡ Waits → ⊥) ×
 
 -- a put fails or waits exactly where the script says so, and else stores
 abbrev pub PutsMemory : SegmentKey → List ℕ → KeptCache → KeptCache → CachePut → Type 0
-PutsMemory k b old new put.Stored = (outcome_of old.script ≡ Goes) × IsKept k b old.entries new.entries × (new ≡ record (noted (Offered k) old) { entries = new.entries })
+PutsMemory k b old new put.Stored = (outcome_of old.script ≡ Goes) × IsKept k b old.entries new.entries
+    × (new ≡ record (noted (Offered k) old) { entries = new.entries })
 PutsMemory k b old new put.Failed = (outcome_of old.script ≡ Fails) × (new ≡ record (noted (Offered k) old) { faults = one_more old.faults })
 PutsMemory k b old new put.Pending = (outcome_of old.script ≡ Waits) × (new ≡ called old)
 PutsMemory k b old new put.NoMemory = (outcome_of old.script ≡ Waits → ⊥) × (new ≡ record (called old) { short = one_more old.short })

@@ -31,15 +31,30 @@ abbrev pub parts : MemoryState → Parts
 parts s = ((s.segments, (s.script.failing, (s.script.pending, s.script.next))), ((s.asked, s.live), s.faults))
 
 abbrev pub of_parts : Parts → MemoryState
-of_parts p = record { segments = p.0.0; script = record { failing = p.0.1.0; pending = p.0.1.1.0; next = p.0.1.1.1 }; asked = p.1.0.0; live = p.1.0.1; faults = p.1.1 }
+of_parts p = record {
+  segments = p.0.0;
+  script = record { failing = p.0.1.0; pending = p.0.1.1.0; next = p.0.1.1.1 };
+  asked = p.1.0.0;
+  live = p.1.0.1;
+  faults = p.1.1;
+}
 
 -- a state is stored as the tuple of its fields
 abbrev pub memory_code : Coded MemoryState
-memory_code = code_by Parts (coded× (coded× (map.code coded_ℕ (coded_list coded_ℕ)) (coded× (coded_list coded_ℕ) (coded× (coded_list coded_ℕ) (coded_option coded_ℕ)))) (coded× (coded× (coded_list coded_ℕ) (coded_list coded_ℕ)) coded_ℕ)) parts of_parts (λ _. refl)
+memory_code = code_by Parts (coded× (coded× (map.code coded_ℕ (coded_list coded_ℕ))
+    (coded× (coded_list coded_ℕ) (coded× (coded_list coded_ℕ) (coded_option coded_ℕ))))
+    (coded× (coded× (coded_list coded_ℕ) (coded_list coded_ℕ)) coded_ℕ)) parts of_parts (λ _. refl)
 
 -- it tells what it holds
 abbrev pub source_state : MemoryState → SourceState
-source_state s = record { holds = Some (λ id. map.get s.segments id); asked = s.asked; live = λ id. has id s.live; faults = s.faults; turns = turns_left s.script; can_fail = has_number s.script.failing }
+source_state s = record {
+  holds = Some (λ id. map.get s.segments id);
+  asked = s.asked;
+  live = λ id. has id s.live;
+  faults = s.faults;
+  turns = turns_left s.script;
+  can_fail = has_number s.script.failing;
+}
 
 -- the rising ids without this one
 abbrev pub ended : ℕ → List ℕ → List ℕ

@@ -17,7 +17,8 @@ abbrev pub empty_data : DataType → ℕ → ℕ → EmptyData
 empty_data d n k = record { dtype = d; rows = n; given = k }
 
 abbrev pub empty_code : Coded EmptyData
-empty_code = code_by (DataType × (ℕ × ℕ)) (coded× data_type_code (coded× coded_ℕ coded_ℕ)) (λ e. (e.dtype, (e.rows, e.given))) (λ p. empty_data p.0 p.1.0 p.1.1) (λ _. refl)
+empty_code = code_by (DataType × (ℕ × ℕ)) (coded× data_type_code (coded× coded_ℕ coded_ℕ))
+    (λ e. (e.dtype, (e.rows, e.given))) (λ p. empty_data p.0 p.1.0 p.1.1) (λ _. refl)
 
 -- a row is a struct without fields, and no more of them were given than there are
 pub record IsEmpty (d : DataType) (n k : ℕ) : Type 0 where
@@ -35,5 +36,6 @@ next_count e = min (e.rows - e.given) 65536
 -- the next rows are given, unless all were; after want of memory nothing is changed
 abbrev pub GivesRows : EmptyData → EmptyData → Result (Option ArrayData) NoMemory → Type 0
 GivesRows old new (Ok None) = (old.given ≡ old.rows) × (new ≡ old)
-GivesRows old new (Ok (Some a)) = (old.given < old.rows) × (a ≡ of_parts old.dtype (bare_rows (next_count old))) × (new ≡ record old { given = old.given + next_count old })
+GivesRows old new (Ok (Some a)) = (old.given < old.rows) × (a ≡ of_parts old.dtype (bare_rows (next_count old)))
+    × (new ≡ record old { given = old.given + next_count old })
 GivesRows old new (Err f) = new ≡ old

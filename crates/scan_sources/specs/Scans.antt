@@ -135,4 +135,5 @@ abbrev pub PartsGiveTheirRows : Type 0 → Type 0
 PartsGiveTheirRows M =
     (state : ReaderState) (q : BoundScanRequest) (s : ScanData M) (r : Range ℕ) (limit : Option ℕ)
     → IsBuilder state q.projection q.filter None → Rises q.selection → IsScanOfRequest state q s → IsScan s → is_past (Some r) state.rows ≡ false
-    → (store : Store) → values_in (streamed (record s { limit = limit }) (Some r)) store ≡ first_of (limit_before (record s { limit = limit })) (asked_values state (builder_of q s.step) (Some r) store)
+    → (store : Store) → values_in (streamed (record s { limit = limit }) (Some r)) store ≡ first_of
+    (limit_before (record s { limit = limit })) (asked_values state (builder_of q s.step) (Some r) store)

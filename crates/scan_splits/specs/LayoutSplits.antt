@@ -29,7 +29,9 @@ found_fields (Some fs) masks = matching_fields fs masks
 abbrev mutual
   pub misses : Layout → List FieldMask → Bool
   misses (node t rows (Leaf segments spelling) kids) masks = false
-  misses (node t rows Struct kids) masks = any_found (λ m. nth_misses kids (one_where (nullability_of t) + m.1) (m.0 ∷ [])) (found_fields (struct_fields_of t) masks)
+  misses (node t rows Struct kids) masks =
+      any_found (λ m. nth_misses kids (one_where (nullability_of t) + m.1) (m.0 ∷ []))
+      (found_fields (struct_fields_of t) masks)
   misses (node t rows (List' p) kids) masks = false
 
   pub nth_misses : Nodes → ℕ → List FieldMask → Bool

@@ -18,4 +18,6 @@ pub record IsRowSpan (s : RowSpan) : Type 0 where
 -- the span of these parts, or the first thing that is wrong with them
 abbrev pub span_of : ℕ → Range ℕ → Result RowSpan SplitRangeFault
 span_of offset r =
-    if nat_lt r.end r.start then Err Reversed else (if nat_lt (offset + r.end) (2 ^ 64) then Ok (record { offset = offset; start = r.start; end = r.end }) else Err Overflow)
+    if nat_lt r.end r.start then Err Reversed
+    else (if nat_lt (offset + r.end) (2 ^ 64) then Ok
+    (record { offset = offset; start = r.start; end = r.end }) else Err Overflow)

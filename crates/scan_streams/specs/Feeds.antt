@@ -13,7 +13,8 @@ use Rattle.scan_streams.specs.Readings.{Standing, splits_of}
 use Rattle.scan_streams.specs.Splits.{SplitData, unread, read, AllOf, reach}
 use Rattle.scan_streams.specs.declared.reading.Reading.{Reading}
 
--- the dtype of its arrays, whether they come in split order, the splits that are still to be given, the ids that are live, the seat of a limit, and whether it has ended
+-- the dtype of its arrays, whether they come in split order, the splits that are still to be given, the ids that are
+-- live, the seat of a limit, and whether it has ended
 pub record FeedData : Type 0 where
   pub dtype : DataType
   pub ordered : Bool
@@ -70,7 +71,8 @@ abbrev pub feed_by : FeedParts → FeedData
 feed_by p = record { dtype = p.0.0; ordered = p.0.1; splits = p.1.0.0; live = p.1.0.1; seat = p.1.1.0; ended = p.1.1.1 }
 
 abbrev pub parts_code : Coded FeedParts
-parts_code = coded× (coded× data_type_code coded_bool) (coded× (coded× (coded_list split_code) (coded_list coded_ℕ)) (coded× (coded_option seat_state_code) coded_bool))
+parts_code = coded× (coded× data_type_code coded_bool)
+    (coded× (coded× (coded_list split_code) (coded_list coded_ℕ)) (coded× (coded_option seat_state_code) coded_bool))
 
 abbrev pub feed_code : Coded FeedData
 feed_code = code_by FeedParts parts_code feed_parts feed_by (λ _. refl)

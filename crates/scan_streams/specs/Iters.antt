@@ -15,7 +15,8 @@ abbrev pub iter_data : {M S : Type 0} → StreamData M → S → IterData M S
 iter_data t s = record { stream = t; source = s }
 
 abbrev pub iter_code : {M S : Type 0} → Coded M → Coded S → Coded (IterData M S)
-iter_code {M} {S} m s = code_by (StreamData M × S) (coded× (stream_code m) s) (λ a. (a.stream, a.source)) (λ p. record { stream = p.0; source = p.1 }) (λ _. refl)
+iter_code {M} {S} m s = code_by (StreamData M × S) (coded× (stream_code m) s) (λ a. (a.stream, a.source))
+    (λ p. record { stream = p.0; source = p.1 }) (λ _. refl)
 
 -- an answer as that of a poll
 abbrev pub as_poll : {A F : Type 0} → Option (Result A (StreamFault F)) → StreamPoll A F

@@ -16,7 +16,8 @@ abbrev pub plans_data : List PlanData → PlanData → PlansData
 plans_data cs p = record { conjuncts = cs; projection = p }
 
 abbrev pub plans_code : Coded PlansData
-plans_code = code_by (List PlanData × PlanData) (coded× (coded_list plan_data_code) plan_data_code) (λ a. (a.conjuncts, a.projection)) (λ p. record { conjuncts = p.0; projection = p.1 }) (λ _. refl)
+plans_code = code_by (List PlanData × PlanData) (coded× (coded_list plan_data_code) plan_data_code)
+    (λ a. (a.conjuncts, a.projection)) (λ p. record { conjuncts = p.0; projection = p.1 }) (λ _. refl)
 
 -- a Bool plan that has so many rows
 abbrev pub IsConjunct : ℕ → PlanData → Type 0

@@ -80,7 +80,8 @@ pub record Starts (count : ℕ) (splits : List FutureData) (slots : List Slot) (
 -- the array in a slot is taken, and its slot goes to the next split; or there is none, and all is as before
 abbrev pub Takes : ℕ → List Slot → List Slot → List FutureData → List FutureData → List ℕ → List ℕ → Option ArrayData → Type 0
 Takes place old new queue rest news more None = (new ≡ old) × (rest ≡ queue) × (more ≡ news) × (is_done (slot_at old place) ≡ false)
-Takes place old new queue rest news more (Some a) = (slot_at old place ≡ slot.Done a) × (new ≡ set old place (next_slot queue)) × (rest ≡ later queue) × (more ≡ news ++ news_of queue place)
+Takes place old new queue rest news more (Some a) = (slot_at old place ≡ slot.Done a)
+    × (new ≡ set old place (next_slot queue)) × (rest ≡ later queue) × (more ≡ news ++ news_of queue place)
 
 -- the place whose turn it is after one of so many: the next in the ring, where the order is kept
 abbrev pub turn_after : Bool → ℕ → ℕ → ℕ

@@ -19,7 +19,8 @@ pub record RunData : Type 0 where
   pub wanted : List ℕ
 
 abbrev pub run_code : Coded RunData
-run_code = code_by (FutureData × (Arrivals × List ℕ)) (coded× future_code (coded× arrivals_code (coded_list coded_ℕ))) (λ r. (r.future, (r.inbox, r.wanted))) (λ p. record { future = p.0; inbox = p.1.0; wanted = p.1.1 }) (λ _. refl)
+run_code = code_by (FutureData × (Arrivals × List ℕ)) (coded× future_code (coded× arrivals_code (coded_list coded_ℕ)))
+    (λ r. (r.future, (r.inbox, r.wanted))) (λ p. record { future = p.0; inbox = p.1.0; wanted = p.1.1 }) (λ _. refl)
 
 abbrev pub is_nil : List ℕ → Bool
 is_nil [] = true

@@ -140,7 +140,8 @@ pub record Goes (ordered : Bool) (holds : Option Store) (given : List Marked) (o
   pub clean : (store : Store) → holds ≡ Some store → AllHold store old → Alike ordered (clean_left store old) (one_part given ++ clean_left store new)
   pub overflow : (store : Store) → holds ≡ Some store → AllHold store old → overflow_left store new ≡ overflow_left store old
   pub damage : (store : Store) → holds ≡ Some store → AllHold store old → damage_left store new ≡ damage_left store old
-  pub comes : (test : FutureData → Came → Bool) (store : Store) → holds ≡ Some store → AllHold store old → SomeComesTo test store new → SomeComesTo test store old
+  pub comes : (test : FutureData → Came → Bool) (store : Store) → holds ≡ Some store → AllHold store old
+      → SomeComesTo test store new → SomeComesTo test store old
   pub may : (id : ℕ) → may_want new id ≡ true → may_want old id ≡ true
   pub dtype : (d : DataType) → AllOf d old → AllOf d new
   pub reach : length given + reach new ≤ reach old

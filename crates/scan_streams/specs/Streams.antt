@@ -133,7 +133,8 @@ pub record MapsRows {M R : Type 0} (answers : ArrayData → R → Type 0) (holds
   pub answer : answers rows r
 
 -- the answer of a poll
-abbrev pub Answers : {M A F : Type 0} → (M → ArrayData → Result A F → Type 0) → SourceState → SourceState → StreamData M → StreamData M → StreamPoll A F → Type 0
+abbrev pub Answers : {M A F : Type 0} → (M → ArrayData → Result A F → Type 0) → SourceState → SourceState
+    → StreamData M → StreamData M → StreamPoll A F → Type 0
 Answers answers s t old new poll.Pending = PutsOff s t old.feed new.feed
 Answers answers s t old new (poll.Item x) = GoesOn old.feed new.feed × MapsRows (answers old.step) s.holds old new (Ok x)
 Answers answers s t old new poll.End = HasEnded new.feed × Ends s.holds old.feed new.feed

@@ -92,19 +92,24 @@ mutual
   same_type-is : (d e : DataType) → same_type d e ≡ true → d ≡ e
   same_type-is (bool_type n) (bool_type m) h = ap bool_type (same_nullability-is n m h)
   same_type-is (int_type p n) (int_type q m) h =
-      λ i. int_type (same_ptype-is p q (and_left (same_ptype p q) (same_nullability n m) h) i) (same_nullability-is n m (and_right (same_ptype p q) (same_nullability n m) h) i)
+      λ i. int_type (same_ptype-is p q (and_left (same_ptype p q) (same_nullability n m) h) i)
+      (same_nullability-is n m (and_right (same_ptype p q) (same_nullability n m) h) i)
   same_type-is (utf8_type n) (utf8_type m) h = ap utf8_type (same_nullability-is n m h)
   same_type-is (list_type d n) (list_type e m) h =
-      λ i. list_type (same_type-is d e (and_left (same_type d e) (same_nullability n m) h) i) (same_nullability-is n m (and_right (same_type d e) (same_nullability n m) h) i)
+      λ i. list_type (same_type-is d e (and_left (same_type d e) (same_nullability n m) h) i)
+      (same_nullability-is n m (and_right (same_type d e) (same_nullability n m) h) i)
   same_type-is (struct_type fs n) (struct_type gs m) h =
-      λ i. struct_type (same_fields-are fs gs (and_left (same_fields fs gs) (same_nullability n m) h) i) (same_nullability-is n m (and_right (same_fields fs gs) (same_nullability n m) h) i)
+      λ i. struct_type (same_fields-are fs gs (and_left (same_fields fs gs) (same_nullability n m) h) i)
+      (same_nullability-is n m (and_right (same_fields fs gs) (same_nullability n m) h) i)
   same_type-is d e h = absurd cc
 
   same_fields-are : (fs gs : Fields) → same_fields fs gs ≡ true → fs ≡ gs
   same_fields-are no_fields no_fields h = refl
   same_fields-are (field n d fs) (field m e gs) h =
       let others = and_right (bytes_eq n m) (same_type d e && same_fields fs gs) h in
-      λ i. field ((bytes_eq-Decides n m).0 (and_left (bytes_eq n m) (same_type d e && same_fields fs gs) h) i) (same_type-is d e (and_left (same_type d e) (same_fields fs gs) others) i) (same_fields-are fs gs (and_right (same_type d e) (same_fields fs gs) others) i)
+      λ i. field ((bytes_eq-Decides n m).0 (and_left (bytes_eq n m) (same_type d e && same_fields fs gs) h) i)
+      (same_type-is d e (and_left (same_type d e) (same_fields fs gs) others) i)
+      (same_fields-are fs gs (and_right (same_type d e) (same_fields fs gs) others) i)
   same_fields-are fs gs h = absurd cc
 
 mutual

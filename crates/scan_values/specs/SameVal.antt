@@ -116,7 +116,8 @@ mutual
   same_vals-are no_vals no_vals h = refl
   same_vals-are no_vals (val w ws) h = cc
   same_vals-are (val v vs) no_vals h = cc
-  same_vals-are (val v vs) (val w ws) h = λ i. val (same_val-is v w (and_left (same_val v w) (same_vals vs ws) h) i) (same_vals-are vs ws (and_right (same_val v w) (same_vals vs ws) h) i)
+  same_vals-are (val v vs) (val w ws) h = λ i. val (same_val-is v w (and_left (same_val v w) (same_vals vs ws) h) i)
+      (same_vals-are vs ws (and_right (same_val v w) (same_vals vs ws) h) i)
 
 same_bool-self : (b : Bool) → same_bool b b ≡ true
 same_bool-self true = refl

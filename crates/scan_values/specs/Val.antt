@@ -127,7 +127,8 @@ mutual
 
   pub marked-read_all : (ms : Markeds) → are_clean ms ≡ true → marked_all (read_all ms) ≡ ms
   marked-read_all none h = refl
-  marked-read_all (more m ms) h = λ i. more (marked-read m (and_left (is_clean m) (are_clean ms) h) i) (marked-read_all ms (and_right (is_clean m) (are_clean ms) h) i)
+  marked-read_all (more m ms) h = λ i. more (marked-read m (and_left (is_clean m) (are_clean ms) h) i)
+      (marked-read_all ms (and_right (is_clean m) (are_clean ms) h) i)
 
 -- ---- how a value is kept: as its marked value is
 abbrev pub val_code : Coded Val

@@ -15,7 +15,16 @@ use Rattle.scan_multi.specs.Output.{ChunkData}
 
 -- a request for one row, where the filter keeps it
 abbrev pub row_request : Expr → Option Expr → ℕ → ScanRequest
-row_request e filter row = record { projection = e; filter = filter; row_range = None; selection = IncludeByIndex (row ∷ []); partition_selection = All; partition_range = None; ordered = true; limit = None }
+row_request e filter row = record {
+  projection = e;
+  filter = filter;
+  row_range = None;
+  selection = IncludeByIndex (row ∷ []);
+  partition_selection = All;
+  partition_range = None;
+  ordered = true;
+  limit = None;
+}
 
 -- the first value of the first chunk
 abbrev pub first_value : List ChunkData → Option Val

@@ -25,7 +25,16 @@ wanted opener source d request files = limited request.limit (answer d request (
 
 -- a request for the first rows, in order
 abbrev pub first_of : Expr → ℕ → ScanRequest
-first_of e most = record { projection = e; filter = None; row_range = None; selection = All; partition_selection = All; partition_range = None; ordered = true; limit = Some most }
+first_of e most = record {
+  projection = e;
+  filter = None;
+  row_range = None;
+  selection = All;
+  partition_selection = All;
+  partition_range = None;
+  ordered = true;
+  limit = Some most;
+}
 
 -- the lines of an output that the manifest with these bytes admits
 pub record AreLinesOf (bytes lines : List ℕ) : Type 0 where

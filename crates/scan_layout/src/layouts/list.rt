@@ -128,8 +128,11 @@ impl Layout<List> {
         offsets: LayoutRef,
         validity: Option<LayoutRef>,
     ) -> Result<Self, LayoutFault>
-        ensures made { IfOk result (λ l. list_made_of dtype (offsets_type (dtype_of offsets.value)) elements.value offsets.value (optional_node validity) ≡ Some l) }
-        ensures first { TellsOrNoMemory result (level_fault_of (list_made_of dtype (offsets_type (dtype_of offsets.value)) elements.value offsets.value (optional_node validity))) }
+        ensures made { IfOk result (λ l. list_made_of dtype (offsets_type (dtype_of offsets.value))
+            elements.value offsets.value (optional_node validity) ≡ Some l) }
+        ensures first { TellsOrNoMemory result (level_fault_of
+            (list_made_of dtype (offsets_type (dtype_of offsets.value)) elements.value offsets.value
+            (optional_node validity))) }
     {
         let Some(ptype) = offsets_type(offsets.dtype()) else {
             return Err(LayoutFault::ChildDType);

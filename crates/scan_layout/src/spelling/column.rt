@@ -53,7 +53,10 @@ impl Model for LeafColumn {
 
     ghost view = { λ a. record { dtype = a.dtype; items = spelled a.spelling a.dtype a.rows a.bytes } };
 
-    ghost invariant = { λ a. (decode a.spelling a.dtype a.rows a.bytes ≡ Some (spelled a.spelling a.dtype a.rows a.bytes)) × (has_width (kind_of a.dtype) ≡ false → (kind_of a.dtype ≡ DTypeKind.Utf8) × (ends_under a.spelling (nullability_of a.dtype) a.rows a.bytes ≡ Some a.ends.items)) };
+    ghost invariant = { λ a.
+        (decode a.spelling a.dtype a.rows a.bytes ≡ Some (spelled a.spelling a.dtype a.rows a.bytes))
+        × (has_width (kind_of a.dtype) ≡ false → (kind_of a.dtype ≡ DTypeKind.Utf8)
+        × (ends_under a.spelling (nullability_of a.dtype) a.rows a.bytes ≡ Some a.ends.items)) };
 }
 
 // The bytes of a slot.

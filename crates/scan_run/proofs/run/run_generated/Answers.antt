@@ -26,7 +26,8 @@ pub generated_text-requires-after_bounds : goal.generated_text-requires-after_bo
 generated_text-requires-after_bounds g c κs within = (rows_most _ c.in-Some.rows c.in-Some.spelling c.in-Some.ensures.some)
 
 pub returns-in-Ok-write_all-clause-done : goal.returns-in-Ok-write_all-clause-done
-returns-in-Ok-write_all-clause-done g c = λ e. line_written (map string_bytes c.args.words.now) c.in-Some.rows c.in-Some.spelling c.in-Ok.text.items c.as_slice.result.now (g.O.Output.output c.args.output.now) (g.O.Output.output c.write_all.new.output) c.as_slice.ensures.value c.in-Some.ensures.some c.in-Ok.ensures c.in-Ok-write_all.ensures.ok
+returns-in-Ok-write_all-clause-done g c = λ e. line_written (map string_bytes c.args.words.now) c.in-Some.rows c.in-Some.spelling c.in-Ok.text.items c.as_slice.result.now
+    (g.O.Output.output c.args.output.now) (g.O.Output.output c.write_all.new.output) c.as_slice.ensures.value c.in-Some.ensures.some c.in-Ok.ensures c.in-Ok-write_all.ensures.ok
 
 pub returns-in-Ok-write_all-clause-words : goal.returns-in-Ok-write_all-clause-words
 returns-in-Ok-write_all-clause-words g c = (λ e. absurd (omega arith), λ h. absurd (h c.in-Some.rows c.in-Some.spelling c.in-Some.ensures.some))
@@ -38,7 +39,8 @@ pub returns-in-Ok-write_all-clause-nothing : goal.returns-in-Ok-write_all-clause
 returns-in-Ok-write_all-clause-nothing g c = λ e. absurd (omega arith)
 
 pub returns-in-Ok-write_all-clause-front : goal.returns-in-Ok-write_all-clause-front
-returns-in-Ok-write_all-clause-front g c = line_begun (map string_bytes c.args.words.now) c.in-Some.rows c.in-Some.spelling c.in-Ok.text.items c.as_slice.result.now (g.O.Output.output c.args.output.now) (g.O.Output.output c.write_all.new.output) c.as_slice.ensures.value c.in-Some.ensures.some c.in-Ok.ensures c.write_all.ensures.front
+returns-in-Ok-write_all-clause-front g c = line_begun (map string_bytes c.args.words.now) c.in-Some.rows c.in-Some.spelling c.in-Ok.text.items c.as_slice.result.now
+    (g.O.Output.output c.args.output.now) (g.O.Output.output c.write_all.new.output) c.as_slice.ensures.value c.in-Some.ensures.some c.in-Ok.ensures c.write_all.ensures.front
 
 pub returns-in-Ok-write_all-clause-ends : goal.returns-in-Ok-write_all-clause-ends
 returns-in-Ok-write_all-clause-ends g c = inl refl
@@ -56,7 +58,8 @@ pub returns-in-Err-Failed-clause-nothing : goal.returns-in-Err-Failed-clause-not
 returns-in-Err-Failed-clause-nothing g c = λ e. absurd (omega arith)
 
 pub returns-in-Err-Failed-clause-front : goal.returns-in-Err-Failed-clause-front
-returns-in-Err-Failed-clause-front g c = line_begun (map string_bytes c.args.words.now) c.in-Some.rows c.in-Some.spelling c.in-Ok.text.items c.as_slice.result.now (g.O.Output.output c.args.output.now) (g.O.Output.output c.write_all.new.output) c.as_slice.ensures.value c.in-Some.ensures.some c.in-Ok.ensures c.write_all.ensures.front
+returns-in-Err-Failed-clause-front g c = line_begun (map string_bytes c.args.words.now) c.in-Some.rows c.in-Some.spelling c.in-Ok.text.items c.as_slice.result.now (g.O.Output.output c.args.output.now)
+    (g.O.Output.output c.write_all.new.output) c.as_slice.ensures.value c.in-Some.ensures.some c.in-Ok.ensures c.write_all.ensures.front
 
 pub returns-in-Err-Failed-clause-ends : goal.returns-in-Err-Failed-clause-ends
 returns-in-Err-Failed-clause-ends g c = inr (inr (inl refl))
@@ -74,7 +77,8 @@ pub returns-in-Ok-clause-nothing : goal.returns-in-Ok-clause-nothing
 returns-in-Ok-clause-nothing g c = λ e. absurd (omega arith)
 
 pub returns-in-Ok-clause-front : goal.returns-in-Ok-clause-front
-returns-in-Ok-clause-front g c = line_begun (map string_bytes c.args.words.now) c.in-Some.rows c.in-Some.spelling c.in-Ok.text.items c.as_slice.result.now (g.O.Output.output c.args.output.now) (g.O.Output.output c.write_all.new.output) c.as_slice.ensures.value c.in-Some.ensures.some c.in-Ok.ensures c.write_all.ensures.front
+returns-in-Ok-clause-front g c = line_begun (map string_bytes c.args.words.now) c.in-Some.rows c.in-Some.spelling c.in-Ok.text.items c.as_slice.result.now (g.O.Output.output c.args.output.now)
+    (g.O.Output.output c.write_all.new.output) c.as_slice.ensures.value c.in-Some.ensures.some c.in-Ok.ensures c.write_all.ensures.front
 
 pub returns-in-Ok-clause-ends : goal.returns-in-Ok-clause-ends
 returns-in-Ok-clause-ends g c = inr (inr (inr refl))

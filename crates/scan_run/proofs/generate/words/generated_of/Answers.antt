@@ -10,4 +10,5 @@ returns-in-len2-clause-none c = λ e n s h.
 pub returns-in-len3-clause-none : goal.returns-in-len3-clause-none
 returns-in-len3-clause-none c = λ e n s h.
     c.asked_by-in-len3.ensures.none e n s
-    (three_words string_bytes n s c.args.words.now c.name-item-then-words-lt4.result c.rows-item-then-words-lt4.result c.spelling-item.result _ _ _ c.in-len3.len_at_least c.in-len3.len_below c.name-item-then-words-lt4.is c.rows-item-then-words-lt4.is c.spelling-item.is c.as_str-in-len3.ensures.value c.as_str-in-len3-2.ensures.value c.as_str-in-len3-3.ensures.value h)
+    (three_words string_bytes n s c.args.words.now c.name-item-then-words-lt4.result c.rows-item-then-words-lt4.result c.spelling-item.result _ _ _ c.in-len3.len_at_least c.in-len3.len_below
+    c.name-item-then-words-lt4.is c.rows-item-then-words-lt4.is c.spelling-item.is c.as_str-in-len3.ensures.value c.as_str-in-len3-2.ensures.value c.as_str-in-len3-3.ensures.value h)
