@@ -5,10 +5,9 @@ use Rattle.std.specs.List.{swap}
 use Rattle.std.proofs.lemmas.Bool.{cases_eq}
 use Rattle.std.proofs.lemmas.List.{get_or_default}
 use Rattle.scan_drive.specs.Desks.{Waiters}
-use Rattle.scan_drive.specs.Forward.{IsBehind, Spare, AreSpare, Rephased, BringsForward}
+use Rattle.scan_drive.specs.Forward.{Spare, AreSpare, Rephased, BringsForward}
 use Rattle.scan_drive.specs.Line.{exchanged}
 use Rattle.scan_drive.specs.Phases.{phase_at, is_unopened}
-use Rattle.scan_drive.specs.declared.delivery.Chunk.{Chunk}
 use Rattle.scan_drive.specs.declared.files.ScanFile.{ScanFile}
 use Rattle.scan_drive.specs.declared.phase.Phase.{Phase}
 use Rattle.scan_drive.specs.declared.phase.Phase.TheVariants as phase
@@ -28,10 +27,10 @@ nil_right (x ∷ xs) ys e = absurd cc
 some_place : {X : Type 0} (x : X) (P : Type 0) → x ∷ [] ≡ [] → P
 some_place x P e = absurd cc
 
-module _ {W R F : Type 0} where
-  spare_append : (ss ts : List (ℕ × ℕ)) (chunks : List (Chunk R)) (ps : List (Phase W F)) → AreSpare ss chunks ps → AreSpare ts chunks (exchanged ss ps) → AreSpare (ss ++ ts) chunks ps
-  spare_append [] ts chunks ps a b = b
-  spare_append (s ∷ ss) ts chunks ps a b = (a.0, spare_append ss ts chunks (swap ps s.0 s.1) a.1 b)
+module _ {W F : Type 0} where
+  spare_append : (ss ts : List (ℕ × ℕ)) (ps : List (Phase W F)) → AreSpare ss ps → AreSpare ts (exchanged ss ps) → AreSpare (ss ++ ts) ps
+  spare_append [] ts ps a b = b
+  spare_append (s ∷ ss) ts ps a b = (a.0, spare_append ss ts (swap ps s.0 s.1) a.1 b)
 
 module _ {O S W R F : Type 0} where
   pub brought_none : (last : ℕ) (log log' : List (ℕ × ℕ)) (files : List (ScanFile O S)) (desks : List Waiters) (d : Drive W R F) → log' ≡ log → BringsForward last log log' files files desks desks d d
@@ -40,14 +39,14 @@ module _ {O S W R F : Type 0} where
     log_is = e ∙ sym (append-nil log);
     files_are = refl;
     desks_are = refl;
-    rephased = record { phases_are = refl; active = refl; chunks = refl; first = refl; tally = refl; left = refl; report = refl };
+    rephased = record { phases_are = refl; active = refl; chunks = refl; first = refl; tally = refl; left = refl; report = refl; ordered = refl; budget = refl };
     spare = tt;
     within = tt;
     none = λ h. refl;
   }
 
   pub brought_one : (i j : ℕ) (log log' : List (ℕ × ℕ)) (files files' : List (ScanFile O S)) (desks desks' : List Waiters) (d e : Drive W R F) → log' ≡ log ++ (i, j) ∷ [] → files' ≡ swap files i j → desks' ≡ swap desks i j → Rephased (swap d.phases.items i j) d e →
-      Spare i j d.chunks.items d.phases.items → BringsForward (j + 1) log log' files files' desks desks' d e
+      Spare i j d.phases.items → BringsForward (j + 1) log log' files files' desks desks' d e
   brought_one i j log log' files files' desks desks' d e l f k r s = record {
     places = (i, j) ∷ [];
     log_is = l;
@@ -73,9 +72,10 @@ module _ {O S W R F : Type 0} where
       tally = q.rephased.tally ∙ p.rephased.tally;
       left = q.rephased.left ∙ p.rephased.left;
       report = q.rephased.report ∙ p.rephased.report;
+      ordered = q.rephased.ordered ∙ p.rephased.ordered;
+      budget = q.rephased.budget ∙ p.rephased.budget;
     };
-    spare = spare_append p.places q.places d.chunks.items d.phases.items p.spare
-        (subst (AreSpare q.places d.chunks.items) p.rephased.phases_are (subst (λ (cs : List (Chunk R)). AreSpare q.places cs e.phases.items) (ap (λ v. v.items) p.rephased.chunks) q.spare));
+    spare = spare_append p.places q.places d.phases.items p.spare (subst (AreSpare q.places) p.rephased.phases_are q.spare);
     within = range_append last p.places q.places p.within (range_more m last q.places le q.within);
     none = λ n. q.none (nil_right p.places q.places n) ∙ p.none (nil_left p.places q.places n);
   }
@@ -91,13 +91,12 @@ module _ {O S W R F : Type 0} where
     brought_desks = ap length p.desks_are ∙ length_exchanged p.places ks
 
 -- a place that is not open, before another that is
-pub spare_by : {W R F : Type 0} (i j : ℕ) (chunks : List (Chunk R)) (ps : List (Phase W F)) (x : Phase W F) → i ≤ j → j < length ps → x ≡ get_or ps i x → x ≡ phase.Unopened → is_unopened (phase_at ps j) ≡ 0 → IsBehind chunks i → Spare i j chunks ps
-spare_by i j chunks ps x le lt e shut free behind = record {
+pub spare_by : {W F : Type 0} (i j : ℕ) (ps : List (Phase W F)) (x : Phase W F) → i ≤ j → j < length ps → x ≡ get_or ps i x → x ≡ phase.Unopened → is_unopened (phase_at ps j) ≡ 0 → Spare i j ps
+spare_by i j ps x le lt e shut free = record {
   apart = apart (cases_eq i j);
   within = lt;
   shut = is;
   opened = free;
-  behind = behind;
 }
   where
     is : phase_at ps i ≡ phase.Unopened

@@ -9,8 +9,9 @@ use Rattle.scan_drive.specs.Before.{StopsBefore}
 use Rattle.scan_drive.specs.Chunks.{given, HasRow}
 use Rattle.scan_drive.specs.Drives.{SourcesMove, NoneOf}
 use Rattle.scan_drive.specs.Drivings.{StopsDrive}
-use Rattle.scan_drive.specs.Files.{Told, answer, limited}
+use Rattle.scan_drive.specs.Files.{Told, answer}
 use Rattle.scan_drive.specs.Forward.{LinePolls, fault_in}
+use Rattle.scan_drive.specs.Grants.{AreGiven}
 use Rattle.scan_drive.specs.Grounds.{IsGround}
 use Rattle.scan_drive.specs.Line.{exchanged, restored, placed_by, renamed, IsAnswered}
 use Rattle.scan_drive.specs.Moves.{EachMoves, tell, tells}
@@ -31,7 +32,7 @@ use Rattle.scan_drive.specs.declared.settling.RoundFault.{RoundFault}
 use Rattle.scan_drive.specs.declared.settling.RoundFault.TheVariants as why
 use Rattle.scan_segments.specs.Faults.{Rose}
 use Rattle.scan_drive.proofs.Exchanging.{length_exchanged}
-use Rattle.scan_drive.proofs.ExchangedAnswer.{any_order_given, rows_renamed}
+use Rattle.scan_drive.proofs.ExchangedAnswer.{given_placed, rows_renamed}
 use Rattle.scan_drive.proofs.ExchangedBack.{cache_exchanged, tells_exchanged, back_moves, back_stops}
 use Rattle.scan_drive.proofs.Lined.{lawful_exchanged}
 use Rattle.scan_drive.proofs.Moving.{each_then, each_under, each_sources}
@@ -46,12 +47,12 @@ named_same (c ∷ cs) = ap (λ l. c ∷ l) (named_same cs)
 
 module _ {R I : Type 0} (items : R → List I) (limit : Option ℕ) (tale : List (Told I)) (log : List (ℕ × ℕ)) where
   -- what is given, by files
-  answered : (ordered : Bool) → (ordered ≡ true → log ≡ []) → SwapsInRange (length tale) log → (chunks : List (Chunk R)) → given items chunks ≡ limited limit (answer (exchanged log tale)) → IsAnswered ordered limit tale (given items (map (renamed (placed_by log)) chunks))
+  answered : (ordered : Bool) → (ordered ≡ true → log ≡ []) → SwapsInRange (length tale) log → (chunks : List (Chunk R)) → AreGiven ordered limit (answer (exchanged log tale)) (given items chunks) → IsAnswered ordered limit tale (given items (map (renamed (placed_by log)) chunks))
   answered true order r chunks e =
-      let P : List (ℕ × ℕ) → Type 0 = λ ss. given items (map (renamed (placed_by ss)) chunks) ≡ limited limit (answer tale) in
-      let Q : List (ℕ × ℕ) → Type 0 = λ ss. given items chunks ≡ limited limit (answer (exchanged ss tale)) in
+      let P : List (ℕ × ℕ) → Type 0 = λ ss. AreGiven true limit (answer tale) (given items (map (renamed (placed_by ss)) chunks)) in
+      let Q : List (ℕ × ℕ) → Type 0 = λ ss. AreGiven true limit (answer (exchanged ss tale)) (given items chunks) in
       subst P (sym (order refl)) (ap (given items) (named_same chunks) ∙ subst Q (order refl) e)
-  answered false order r chunks e = any_order_given items limit tale log chunks r e
+  answered false order r chunks e = given_placed items limit tale log chunks r e
 
 module _ {O S I R : Type 0} (state : O → OpenerState I) (source : S → SourceState) (items : R → List I) where
   -- the openers are as they were
@@ -59,7 +60,7 @@ module _ {O S I R : Type 0} (state : O → OpenerState I) (source : S → Source
       LinePolls state source items ordered workers limit c files log b → LinePolls state source items ordered workers limit c files log e
   line_rest ordered workers limit c files log b e same h = record {
     fit = fit_rest state (exchanged log files) b e same h.fit;
-    late = λ o law. late_rest state items workers limit (tells state source files) files b e same (h.late o law);
+    late = λ o law. late_rest state items true workers limit (tells state source files) files b e same (h.late o law);
     line = record {
       edge = h.line.edge;
       within = h.line.within;
@@ -107,14 +108,14 @@ module _ {R F : Type 0} (cs : List (Chunk R)) (report : ScanReport) (log : List 
       (λ o w. subst (All (HasRow items)) (sym w.2) (rows_renamed items (placed_by log) cs (subst (λ (z : Result (Unit {0}) (RoundFault F)). OnOk z (All (HasRow items) cs)) w.0 k))) out h
 
   pub out_answer : {O S I : Type 0} (state : O → OpenerState I) (source : S → SourceState) (items : R → List I) (limit : Option ℕ) (ordered : Bool) (c : Cache) (a : List (ScanFile O S)) → (ordered ≡ true → log ≡ []) → SwapsInRange (length a) log → GivesOut →
-      OnOk done (IsLawful state source (exchanged log a) c → given items cs ≡ limited limit (answer (tells state source (exchanged log a)))) →
+      OnOk done (IsLawful state source (exchanged log a) c → AreGiven ordered limit (answer (tells state source (exchanged log a))) (given items cs)) →
       IfOk out (λ o. IsLawful state source a c → IsAnswered ordered limit (tells state source a) (given items o.chunks.items))
-  out_answer state source items limit ordered c a order r h k =
-      let K : Type 0 = IsLawful state source (exchanged log a) c → given items cs ≡ limited limit (answer (tells state source (exchanged log a))) in
+  out_answer {I = I} state source items limit ordered c a order r h k =
+      let K : Type 0 = IsLawful state source (exchanged log a) c → AreGiven ordered limit (answer (tells state source (exchanged log a))) (given items cs) in
       let Q : DriveOutput R → Type 0 = λ o. IsLawful state source a c → IsAnswered ordered limit (tells state source a) (given items o.chunks.items) in
       let A : List (Chunk R) → Type 0 = λ xs. IsAnswered ordered limit (tells state source a) (given items xs) in
       ok_to Here Q (λ o w law. subst A (sym w.2) (answered items limit (tells state source a) log ordered order (subst (λ n. SwapsInRange n log) (sym (length-map a (tell state source))) r) cs
-      (subst (λ (z : Result (Unit {0}) (RoundFault F)). OnOk z K) w.0 k (lawful_exchanged state source log a c r law) ∙ ap (λ ts. limited limit (answer ts)) (tells_exchanged log a r state source)))) out h
+      (subst (λ (ts : List (Told I)). AreGiven ordered limit (answer ts) (given items cs)) (tells_exchanged log a r state source) (subst (λ (z : Result (Unit {0}) (RoundFault F)). OnOk z K) w.0 k (lawful_exchanged state source log a c r law))))) out h
 
   pub out_fault : {O S W I : Type 0} (state : O → OpenerState I) (polls : O → O → Type 0) (refuses : O → O → F → Type 0) (admits : O → O → List W → Type 0) (source : S → SourceState) (split : W → SplitState I) (comes : W → Arrivals → Store → Event → Type 0) (items : R → List I)
       (limit : Option ℕ) (ordered : Bool) (c : Cache) (a b e : List (ScanFile O S)) (d0 d1 : Drive W R F) → Starts (length a) limit d0 → (ordered ≡ true → log ≡ []) → SwapsInRange (length a) log → length b ≡ length a → SourcesMove source NoneOf b e → FaultsOut →

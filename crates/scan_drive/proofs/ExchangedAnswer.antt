@@ -1,21 +1,23 @@
 -- The answer of a scan of files that stand at other places, by the files.
-use Rattle.std.proofs.Common.{◌≡◌, ◌⊎◌, ℕ, zero, suc, ◌+◌, ◌-◌, ◌<◌, ◌≤◌, List, [], ◌∷◌, ◌++◌, length, map, take, get_or, Bool, true, false, not, ◌&&◌, ◌||◌, eqb, All, Option, Some, None, IsPermutation, inl, inr, refl, sym, ap, ◌∙◌, subst, arith}
+use Rattle.std.proofs.Common.{◌≡◌, ◌⊎◌, ℕ, zero, suc, ◌+◌, ◌<◌, ◌≤◌, List, [], ◌∷◌, ◌++◌, length, map, take, get_or, Bool, true, false, not, ◌&&◌, ◌||◌, eqb, All, Option, IsPermutation, inl, inr, refl, sym, ap, ◌∙◌, subst, arith}
 use Rattle.std.specs.List.{flat_map, range_with_len}
 use Rattle.std.specs.List.Sorted.{SwapsInRange}
 use Rattle.std.proofs.lemmas.Bool.Decides.{nat_tests}
-use Rattle.std.proofs.lemmas.List.{length-map, take_all, same_lists}
+use Rattle.std.proofs.lemmas.List.{length-map, map-append, take_all, same_lists}
 use Rattle.std.proofs.lemmas.List.FromFn.{length-range_with_len, get_or-range_with_len}
-use Rattle.std.proofs.lemmas.List.Sorted.{IsPermutation-sym}
+use Rattle.std.proofs.lemmas.List.Sorted.{IsPermutation-sym, IsPermutation-map}
 use Rattle.scan_values.specs.Selections.{is_among}
 use Rattle.scan_splits.specs.Wanted.{no_repeats}
 use Rattle.scan_drive.specs.Chunks.{given, HasRow, Fits}
 use Rattle.scan_drive.specs.Drivings.{GivesBefore}
-use Rattle.scan_drive.specs.Files.{Group, grouped, Told, told_at, untold, part_groups, answer, answer_from, count, cut, limited}
-use Rattle.scan_drive.specs.Line.{exchange, exchanged, placed_by, relabelled, renamed, answer_in, IsAnyOrder, GivesSome}
+use Rattle.scan_drive.specs.Files.{Group, grouped, Told, told_at, untold, part_groups, answer, answer_from, count}
+use Rattle.scan_drive.specs.Grants.{AreFronts, AreSome, AreGiven}
+use Rattle.scan_drive.specs.Line.{exchange, exchanged, placed_by, relabelled, renamed, answer_in, GivesSome}
 use Rattle.scan_drive.specs.declared.delivery.Chunk.{Chunk}
 use Rattle.scan_drive.proofs.Handing.{le_or_lt}
 use Rattle.scan_drive.proofs.Exchanging.{exchange_twice, exchanged_at, length_exchanged, placed_below, placed_behind, permutation_exchanged}
 use Rattle.scan_drive.proofs.ExchangedGroups.{relabel_append, relabel_grouped, relabel_part}
+use Rattle.scan_drive.proofs.Same.{joined_alike, same_any, given_same, rows_limited}
 
 -- ---- numbers of files
 pub placed_once : (ss : List (ℕ × ℕ)) (x y : ℕ) → placed_by ss x ≡ placed_by ss y → x ≡ y
@@ -88,22 +90,36 @@ module _ {I : Type 0} where
         let l = length_exchanged ss tale in
         ap (λ ts. map (relabelled (placed_by ss)) (answer ts)) (sym (take_all (length tale) (exchanged ss tale) (omega arith))) ∙ relabel_front (length tale)
 
--- ---- groups up to a limit
+    -- the groups of all places, by the files there, are those of the files
+    pub answer_alike : IsPermutation (map (relabelled (placed_by ss)) (answer (exchanged ss tale))) (answer tale)
+    answer_alike =
+        let places = range_with_len 0 (length tale) in
+        let here : answer_in places tale ≡ answer tale = sym (answer_places tale (length tale)) ∙ ap answer (take_all (length tale) tale (omega arith)) in
+        subst (λ gs. IsPermutation gs (answer tale)) (sym answer_relabel) (subst (IsPermutation (answer_in (map (placed_by ss) places) tale)) here
+        (joined_alike (λ k. part_groups k (told_at tale k)) (map (placed_by ss) places) places (order_permutes ss (length tale) r)))
+
+-- ---- groups by the files of their places
 module _ {I : Type 0} (f : ℕ → ℕ) where
   pub count_relabel : (gs : List (Group I)) → count (map (relabelled f) gs) ≡ count gs
   count_relabel [] = refl
   count_relabel (g ∷ gs) = ap (λ n. length g.1 + n) (count_relabel gs)
 
-  cut_relabel : (n : ℕ) (gs : List (Group I)) → map (relabelled f) (cut n gs) ≡ cut n (map (relabelled f) gs)
-  cut_relabel n [] = refl
-  cut_relabel n (g ∷ gs) =
-      let here = relabel_grouped f g.0 (take n g.1) in
-      let later = cut_relabel (n - length g.1) gs in
-      relabel_append f (grouped g.0 (take n g.1)) (cut (n - length g.1) gs) ∙ (λ i. here i ++ later i)
+  fronts_relabel : (gs ws : List (Group I)) → AreFronts gs ws → AreFronts (map (relabelled f) gs) (map (relabelled f) ws)
+  fronts_relabel [] [] h = tt
+  fronts_relabel [] (w ∷ ws) h = absurd h
+  fronts_relabel (g ∷ gs) [] h = absurd h
+  fronts_relabel (g ∷ gs) (w ∷ ws) h = (record { file = ap f h.0.file; most = h.0.most; rows = h.0.rows }, fronts_relabel gs ws h.1)
 
-  pub limited_relabel : (limit : Option ℕ) (gs : List (Group I)) → map (relabelled f) (limited limit gs) ≡ limited limit (map (relabelled f) gs)
-  limited_relabel None gs = refl
-  limited_relabel (Some n) gs = cut_relabel n gs
+  -- the first rows of some of them
+  some_relabel : (limit : Option ℕ) (all gs : List (Group I)) → AreSome limit all gs → AreSome limit (map (relabelled f) all) (map (relabelled f) gs)
+  some_relabel limit all gs h = record {
+    whole = map (relabelled f) h.whole;
+    others = map (relabelled f) h.others;
+    among = subst (λ xs. IsPermutation xs (map (relabelled f) all)) (map-append (relabelled f) h.whole h.others) (IsPermutation-map (relabelled f) (h.whole ++ h.others) all h.among);
+    fronts = fronts_relabel gs h.whole h.fronts;
+    rows = count_relabel gs ∙ h.rows ∙ rows_limited limit all (map (relabelled f) all) (sym (count_relabel all));
+    free = λ none. IsPermutation-map (relabelled f) gs all (h.free none);
+  }
 
 -- ---- chunks
 module _ {R I : Type 0} (items : R → List I) (f : ℕ → ℕ) where
@@ -119,18 +135,13 @@ module _ {R I : Type 0} (items : R → List I) (f : ℕ → ℕ) where
   rows_renamed (c ∷ cs) h zero d lt = h 0 c (omega arith)
   rows_renamed (c ∷ cs) h (suc k) d lt = rows_renamed cs (λ n x nt. h (suc n) x (omega arith)) k d (omega arith)
 
--- ---- what is given in the order of places, by the files
+-- ---- what is given of places in no order, by the files
 module _ {R I : Type 0} (items : R → List I) (limit : Option ℕ) (tale : List (Told I)) where
-  pub any_order : (ss : List (ℕ × ℕ)) (gs : List (Group I)) → SwapsInRange (length tale) ss → gs ≡ limited limit (answer (exchanged ss tale)) → IsAnyOrder limit tale (map (relabelled (placed_by ss)) gs)
-  any_order ss gs r e = record {
-    order = map (placed_by ss) (range_with_len 0 (length tale));
-    all = order_permutes ss (length tale) r;
-    groups = ap (map (relabelled (placed_by ss))) e ∙ limited_relabel (placed_by ss) limit (answer (exchanged ss tale)) ∙ ap (limited limit) (answer_relabel ss tale r);
-  }
-
-  -- the same of chunks
-  pub any_order_given : (ss : List (ℕ × ℕ)) (chunks : List (Chunk R)) → SwapsInRange (length tale) ss → given items chunks ≡ limited limit (answer (exchanged ss tale)) → IsAnyOrder limit tale (given items (map (renamed (placed_by ss)) chunks))
-  any_order_given ss chunks r e = subst (IsAnyOrder limit tale) (sym (given_renamed items (placed_by ss) chunks)) (any_order ss (given items chunks) r e)
+  pub given_placed : (ss : List (ℕ × ℕ)) (chunks : List (Chunk R)) → SwapsInRange (length tale) ss → AreGiven false limit (answer (exchanged ss tale)) (given items chunks) → AreGiven false limit (answer tale) (given items (map (renamed (placed_by ss)) chunks))
+  given_placed ss chunks r h =
+      subst (AreGiven false limit (answer tale)) (sym (given_renamed items (placed_by ss) chunks))
+      (given_same false limit (map (relabelled (placed_by ss)) (answer (exchanged ss tale))) (answer tale) (map (relabelled (placed_by ss)) (given items chunks)) (answer_alike ss tale r)
+      (some_relabel (placed_by ss) limit (answer (exchanged ss tale)) (given items chunks) h))
 
 -- ---- so many files up to a place
 among_cases : (x : ℕ) (xs : List ℕ) (y : ℕ) → is_among (x ∷ xs) y ≡ true → (x ≡ y) ⊎ (is_among xs y ≡ true)
@@ -168,18 +179,17 @@ module _ {R I : Type 0} (items : R → List I) (limit : Option ℕ) (tale : List
       go (inl behind) = let z = placed_behind m log q w behind in omega (arith, z, lt, le)
       go (inr before) = let z = placed_below m log q w before in omega (arith, z, past)
 
-  pub gives_some : SwapsInRange (length tale) log → SwapsInRange m log → m ≤ k → n ≤ k → GivesBefore items limit (exchanged log tale) n → GivesSome items limit tale k n
-  gives_some r w past le g = record {
+  pub gives_some : (b : Bool) → SwapsInRange (length tale) log → SwapsInRange m log → m ≤ k → n ≤ k → GivesBefore items b limit (exchanged log tale) n → GivesSome items limit tale k n
+  gives_some b r w past le g = record {
     places = map f (range_with_len 0 n);
     once = map_range_once f 0 n (placed_once log);
     within = map_range_within (λ p. p ≤ k) f 0 n (λ q from lt. near w past le q lt);
     as_many = length-map (range_with_len 0 n) f ∙ length-range_with_len 0 n;
     chunks = map (renamed f) g.chunks;
     more = map (relabelled f) g.more;
-    groups =
-        given_renamed items f g.chunks
-        ∙ ap (map (relabelled f)) g.groups
-        ∙ relabel_append f (answer (take n (exchanged log tale))) g.more
-        ∙ ap (λ gs. gs ++ map (relabelled f) g.more) (relabel_front log tale r n);
+    groups = subst (λ gs. IsPermutation gs (answer_in (map f (range_with_len 0 n)) tale ++ map (relabelled f) g.more)) (sym (given_renamed items f g.chunks))
+        (subst (IsPermutation (map (relabelled f) (given items g.chunks)))
+        (relabel_append f (answer (take n (exchanged log tale))) g.more ∙ ap (λ gs. gs ++ map (relabelled f) g.more) (relabel_front log tale r n))
+        (IsPermutation-map (relabelled f) (given items g.chunks) (answer (take n (exchanged log tale)) ++ g.more) (same_any b (given items g.chunks) (answer (take n (exchanged log tale)) ++ g.more) g.groups)));
     room = subst (λ c. Fits c limit) (sym (ap count (given_renamed items f g.chunks) ∙ count_relabel f (given items g.chunks))) g.room;
   }

@@ -104,11 +104,12 @@ module _ {O S : Type 0} (ss : List (ℕ × ℕ)) (a : List (ScanFile O S)) (r : 
       came_back name id (inr h) = inr h
 
       -- in order no place was exchanged
-      before_back : (k : ℕ) → (ordered ≡ true → IsLawful state source (exchanged ss a) c → GivesBefore items limit (tells state source (exchanged ss a)) k) → ordered ≡ true → IsLawful state source a c → GivesBefore items limit (tells state source a) (placed_by ss k)
+      before_back : (k : ℕ) → (ordered ≡ true → IsLawful state source (exchanged ss a) c → GivesBefore items true limit (tells state source (exchanged ss a)) k) → ordered ≡ true → IsLawful state source a c
+          → GivesBefore items true limit (tells state source a) (placed_by ss k)
       before_back k h o =
           let none : ss ≡ [] = order o in
-          subst (λ n. IsLawful state source a c → GivesBefore items limit (tells state source a) n) (sym (ap (λ xs. placed_by xs k) none))
-          (subst (λ xs. IsLawful state source (exchanged xs a) c → GivesBefore items limit (tells state source (exchanged xs a)) k) none (h o))
+          subst (λ n. IsLawful state source a c → GivesBefore items true limit (tells state source a) n) (sym (ap (λ xs. placed_by xs k) none))
+          (subst (λ xs. IsLawful state source (exchanged xs a) c → GivesBefore items true limit (tells state source (exchanged xs a)) k) none (h o))
 
       fault_back : (P Q : ScanFile O S → ScanFile O S → Type 0) → ((f g : ScanFile O S) → P f g → Q f g) → (k : ℕ) → IsFaultOf state polls refuses admits source items limit ordered c (exchanged ss a) e k P
           → IsFaultOf state polls refuses admits source items limit ordered c a (restored ss e) (placed_by ss k) Q

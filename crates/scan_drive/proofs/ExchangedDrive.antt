@@ -1,5 +1,4 @@
 -- A drive of which two files are exchanged that have no active split.
-use Rattle.scan_drive.specs.declared.delivery.Chunk.{Chunk}
 use Rattle.std.proofs.Common.{◌≡◌, ◌⊎◌, ℕ, ◌<◌, ◌≤◌, List, [], length, get_or, true, false, swap, inl, inr, refl, sym, ap, ◌∙◌, subst, arith, IsSome}
 use Rattle.std.proofs.lemmas.List.{length-map}
 use Rattle.std.proofs.lemmas.List.Edits.{length-swap}
@@ -7,7 +6,7 @@ use Rattle.scan_segments.specs.Source.{SourceState, Store}
 use Rattle.scan_splits.specs.Arrivals.{Arrivals}
 use Rattle.scan_drive.specs.Before.{InOrder}
 use Rattle.scan_drive.specs.Desks.{Waiters, waits}
-use Rattle.scan_drive.specs.Drives.{desk_at, EachLinked}
+use Rattle.scan_drive.specs.Drives.{desk_at, EachLinked, FilesWithin}
 use Rattle.scan_drive.specs.Drivings.{IsAskedUnder, CameOf, NoneAsked, WasAdmitted, HasSplits, SourceFailed}
 use Rattle.scan_drive.specs.Ends.{limit_in}
 use Rattle.scan_drive.specs.Files.{Told, told_at, untold, AllGive}
@@ -55,12 +54,8 @@ module _ {W R : Type 0} where
   there_takes (stage.Read rows) id h = refl
   there_takes (stage.Halted r x) id h = refl
 
-  -- each active split is of a file before this one
-  abbrev pub FilesBelow : ℕ → List (Slot W R) → Type 0
-  FilesBelow n slots = (place : ℕ) → is_there (slot_at slots place).stage ≡ true → (slot_at slots place).file < n
-
   -- the desks of files without active splits may be exchanged
-  pub desks_swapped : (ks : List Waiters) (i j n : ℕ) (slots : List (Slot W R)) → i < length ks → j < length ks → n ≤ i → n ≤ j → FilesBelow n slots → EachLinked ks slots → EachLinked (swap ks i j) slots
+  pub desks_swapped : (ks : List Waiters) (i j n : ℕ) (slots : List (Slot W R)) → i < length ks → j < length ks → n ≤ i → n ≤ j → FilesWithin n slots → EachLinked ks slots → EachLinked (swap ks i j) slots
   desks_swapped ks i j n slots p q a b low h k lt = go (which i j k)
     where
       l : length (swap ks i j) ≡ length ks
@@ -104,7 +99,7 @@ tally_swapped {I} tale t i j le le' pt qt h = record {
     l = length-swap tale i j
 
 -- ---- two spare files
-module _ {W R F : Type 0} (i j : ℕ) (chunks : List (Chunk R)) (ps : List (Phase W F)) (s : Spare i j chunks ps) where
+module _ {W F : Type 0} (i j : ℕ) (ps : List (Phase W F)) (s : Spare i j ps) where
   pub spare_within : i < length ps
   spare_within = let a = s.apart in let b = s.within in omega arith
 
@@ -125,7 +120,7 @@ module _ {W R F : Type 0} (i j : ℕ) (chunks : List (Chunk R)) (ps : List (Phas
 module _ {W R F : Type 0} (i j : ℕ) (v w : Drive W R F) (r : Rephased (swap v.phases.items i j) v w) where
   -- the drive is as before, but for the phases
   pub rephase : w ≡ record v { phases = w.phases }
-  rephase = λ k. record { phases = w.phases; active = r.active k; chunks = r.chunks k; first = r.first k; tally = r.tally k; left = r.left k; report = r.report k }
+  rephase = λ k. record { phases = w.phases; active = r.active k; chunks = r.chunks k; first = r.first k; tally = r.tally k; left = r.left k; report = r.report k; ordered = r.ordered k; budget = r.budget k }
 
   -- what holds of it with the others' phases
   pub of_rephased : (P : Drive W R F → Type 0) → P (record v { phases = w.phases }) → P w
@@ -137,9 +132,9 @@ module _ {W R F : Type 0} (i j : ℕ) (v w : Drive W R F) (r : Rephased (swap v.
   pub swap_limit : {I : Type 0} (split : W → SplitState I) (comes : W → Arrivals → Store → Event → Type 0) (items : R → List I) → limit_in split comes items w ≡ limit_in split comes items v
   swap_limit split comes items = of_rephased (λ x. limit_in split comes items x ≡ limit_in split comes items v) refl
 
-  module _ (s : Spare i j v.chunks.items v.phases.items) where
+  module _ (s : Spare i j v.phases.items) where
     p : i < length v.phases.items
-    p = spare_within i j v.chunks.items v.phases.items s
+    p = spare_within i j v.phases.items s
 
     q : j < length v.phases.items
     q = s.within
@@ -152,15 +147,16 @@ module _ {W R F : Type 0} (i j : ℕ) (v w : Drive W R F) (r : Rephased (swap v.
       lens = ap length r.phases_are ∙ length-swap v.phases.items i j ∙ h.lens;
       first = h.first;
       below = λ k lt.
-          (let le = spare_first i j v.chunks.items v.phases.items s v.first h.below in
+          (let le = spare_first i j v.phases.items s v.first h.below in
           let ap1 = s.apart in
           subst (λ (ps : List (Phase W F)). IsSpent (phase_at ps k)) (sym r.phases_are)
           (at_swapped IsSpent v.phases.items i j k phase.Unopened p q (subst (λ m. IsSpent (phase_at v.phases.items m)) (sym (exchange_before v.first i j k le (omega arith) lt)) (h.below k lt))));
       ready = h.ready;
       room = h.room;
+      budget = h.budget;
     })
 
-    pub swap_linked : (ks : List Waiters) → length ks ≡ length v.phases.items → FilesBelow i v.active.slots.items → EachLinked ks v.active.slots.items → EachLinked (swap ks i j) w.active.slots.items
+    pub swap_linked : (ks : List Waiters) → length ks ≡ length v.phases.items → FilesWithin i v.active.slots.items → EachLinked ks v.active.slots.items → EachLinked (swap ks i j) w.active.slots.items
     swap_linked ks l low h =
         let apart = s.apart in
         of_rephased (λ x. EachLinked (swap ks i j) x.active.slots.items) (desks_swapped ks i j i v.active.slots.items (omega (arith, p)) (omega (arith, q)) (omega arith) (omega arith) low h)
@@ -214,13 +210,13 @@ module _ {W R F : Type 0} (i j : ℕ) (v w : Drive W R F) (r : Rephased (swap v.
 
       module _ {I : Type 0} (state : O → OpenerState I) (polls : O → O → Type 0) (admits : O → O → List W → Type 0) (c d : Cache) (h : Grounded state polls admits source a b c d v) where
         le : v.tally.files ≤ i
-        le = spare_counted i j v.chunks.items v.phases.items s v.first v.tally h.counted
+        le = spare_counted i j v.phases.items s v.first v.tally h.counted
 
         le' : v.tally.files ≤ j
         le' = let z = s.apart in omega (arith, le)
 
         -- active splits are of files before both
-        pub grounded_low : FilesBelow i v.active.slots.items
+        pub grounded_low : FilesWithin i v.active.slots.items
         grounded_low place there = let z = (h.slots place there).counted in omega (arith, le)
 
         abbrev tale : List (Told I)
@@ -260,5 +256,6 @@ module _ {W R F : Type 0} (i j : ℕ) (v w : Drive W R F) (r : Rephased (swap v.
                 (both_swapped (λ (t : Told I) (x : Phase W F). RowsOk t x) tale v.phases.items i j k untold phase.Unopened (omega (arith, pa, lt)) (omega (arith, qa, lt)) p q (h.rows.rows (exchange i j k)));
             tally = tally_swapped tale v.tally i j le le' (omega (arith, pa, lt)) (omega (arith, qa, lt)) h.rows.tally;
           });
+          given = h.given;
           slots = λ place there. slot_swapped (slot_at v.active.slots.items place) (h.slots place there);
         })

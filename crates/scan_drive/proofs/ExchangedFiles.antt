@@ -6,7 +6,7 @@ use Rattle.scan_segments.specs.Source.{SourceState}
 use Rattle.scan_drive.specs.Desks.{Waiters, Agree}
 use Rattle.scan_drive.specs.Drives.{DesksAgree}
 use Rattle.scan_drive.specs.Files.{Tells, AllTell}
-use Rattle.scan_drive.specs.Line.{exchange, exchanged}
+use Rattle.scan_drive.specs.Line.{exchange}
 use Rattle.scan_drive.specs.Moves.{FileMoves, EachMoves, tell, tells}
 use Rattle.scan_drive.specs.Openers.{OpenerState}
 use Rattle.scan_drive.specs.Rounds.{IsLawful}

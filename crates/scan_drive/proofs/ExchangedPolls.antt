@@ -7,17 +7,15 @@ use Rattle.scan_drive.specs.Line.{exchange}
 use Rattle.scan_drive.specs.Openers.{OpenerState}
 use Rattle.scan_drive.specs.Phases.{phase_at, is_unopened}
 use Rattle.scan_drive.specs.Polls.{StandsIn, opener_at, PollsFirst, OpensFirst, PollsStand}
-use Rattle.scan_drive.specs.declared.delivery.Chunk.{Chunk}
 use Rattle.scan_drive.specs.declared.files.ScanFile.{ScanFile}
 use Rattle.scan_drive.specs.declared.phase.Phase.{Phase}
 use Rattle.scan_drive.specs.declared.phase.Phase.TheVariants as phase
 use Rattle.scan_drive.specs.declared.round.Drive.{Drive}
 use Rattle.scan_drive.proofs.Exchanging.{Which, which, exchange_first, exchange_second, exchange_other, swap_at, both_swapped}
-use Rattle.scan_drive.proofs.ExchangedDrive.{spare_within}
 
-module _ {O S W R F I : Type 0} (state : O → OpenerState I) (i j : ℕ) (chunks : List (Chunk R)) (ps : List (Phase W F)) (s : Spare i j chunks ps) (a b : List (ScanFile O S)) (l : length a ≡ length ps) (m : length b ≡ length a) (h : PollsStand state a b ps) where
+module _ {O S W F I : Type 0} (state : O → OpenerState I) (i j : ℕ) (ps : List (Phase W F)) (s : Spare i j ps) (a b : List (ScanFile O S)) (l : length a ≡ length ps) (m : length b ≡ length a) (h : PollsStand state a b ps) where
   p : i < length ps
-  p = spare_within i j chunks ps s
+  p = let x = s.apart in let y = s.within in omega (arith, x, y)
 
   q : j < length ps
   q = s.within
@@ -116,6 +114,6 @@ module _ {O S W R F I : Type 0} (state : O → OpenerState I) (i j : ℕ) (chunk
     opened = opens_swapped;
   }
 
-module _ {O S W R F I : Type 0} (state : O → OpenerState I) (i j : ℕ) (v w : Drive W R F) (r : Rephased (swap v.phases.items i j) v w) (s : Spare i j v.chunks.items v.phases.items) where
+module _ {O S W R F I : Type 0} (state : O → OpenerState I) (i j : ℕ) (v w : Drive W R F) (r : Rephased (swap v.phases.items i j) v w) (s : Spare i j v.phases.items) where
   pub swap_stand : (a b : List (ScanFile O S)) → length a ≡ length v.phases.items → length b ≡ length a → PollsStand state a b v.phases.items → PollsStand state (swap a i j) (swap b i j) w.phases.items
-  swap_stand a b l m h = subst (PollsStand state (swap a i j) (swap b i j)) (sym r.phases_are) (stand_swapped state i j v.chunks.items v.phases.items s a b l m h)
+  swap_stand a b l m h = subst (PollsStand state (swap a i j) (swap b i j)) (sym r.phases_are) (stand_swapped state i j v.phases.items s a b l m h)

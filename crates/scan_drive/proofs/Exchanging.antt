@@ -1,11 +1,13 @@
 -- Lists of which two places are exchanged, and of which places were exchanged time and again.
 use Rattle.std.proofs.Common.{◌≡◌, ◌≢◌, ◌⊎◌, ℕ, zero, suc, ◌+◌, ◌<◌, ◌≤◌, List, [], ◌∷◌, ◌++◌, length, map, get_or, set, take, min, true, false, cond, eqb, All, sum_by, swap, IsPermutation, inl, inr, refl, sym, ap, ◌∙◌, subst, arith}
+use Rattle.std.specs.List.{range_with_len}
 use Rattle.std.specs.List.Sorted.{SwapsInRange}
 use Rattle.std.proofs.lemmas.Bool.{cases_eq}
 use Rattle.std.proofs.lemmas.Bool.Decides.{nat_tests}
 use Rattle.std.proofs.lemmas.List.{get_or-set_same, get_or-set_other, get_or-take, length-take, length-map, same_lists, length-set}
 use Rattle.std.proofs.lemmas.List.Edits.{length-swap, swap_is}
-use Rattle.std.proofs.lemmas.List.Sorted.{IsPermutation-refl, IsPermutation-trans, sum_by-IsPermutation}
+use Rattle.std.proofs.lemmas.List.FromFn.{length-range_with_len, get_or-range_with_len}
+use Rattle.std.proofs.lemmas.List.Sorted.{IsPermutation-refl, IsPermutation-sym, IsPermutation-trans, sum_by-IsPermutation}
 use Rattle.scan_drive.specs.Line.{exchanged, restored, exchange, placed_by}
 
 -- ---- places
@@ -141,6 +143,30 @@ module _ {X Y : Type 0} (f : X → Y) where
 
       m : length (map f xs) ≡ length xs
       m = length-map xs f
+
+-- the numbers of all places, where two are exchanged
+pub numbers_permute : (n i j : ℕ) → i < n → j < n → IsPermutation (map (exchange i j) (range_with_len 0 n)) (range_with_len 0 n)
+numbers_permute n i j p q = subst (λ xs. IsPermutation xs (range_with_len 0 n)) swapped (IsPermutation-sym (range_with_len 0 n) (swap (range_with_len 0 n) i j) (permutation_swap (range_with_len 0 n) i j pl ql))
+  where
+    long : length (range_with_len 0 n) ≡ n
+    long = length-range_with_len 0 n
+
+    pl : i < length (range_with_len 0 n)
+    pl = omega (arith, long, p)
+
+    ql : j < length (range_with_len 0 n)
+    ql = omega (arith, long, q)
+
+    number : (k d : ℕ) → k < n → get_or (range_with_len 0 n) k d ≡ k
+    number k d lt = get_or-range_with_len 0 n k d lt ∙ (let z : 0 + k ≡ k = omega arith in z)
+
+    swapped : swap (range_with_len 0 n) i j ≡ map (exchange i j) (range_with_len 0 n)
+    swapped = same_lists (swap (range_with_len 0 n) i j) (map (exchange i j) (range_with_len 0 n)) (length-swap (range_with_len 0 n) i j ∙ sym (length-map (range_with_len 0 n) (exchange i j))) (λ k d lt.
+        let l : length (swap (range_with_len 0 n) i j) ≡ length (range_with_len 0 n) = length-swap (range_with_len 0 n) i j in
+        let below : k < n = omega (arith, l, long, lt) in
+        let there : k < length (range_with_len 0 n) = omega (arith, l, lt) in
+        swap_at (range_with_len 0 n) i j k d pl ql ∙ number (exchange i j k) d (exchange_below n i j k p q below)
+        ∙ sym (at_map (exchange i j) (range_with_len 0 n) k d d there ∙ ap (exchange i j) (number k d below)))
 
 -- ---- exchanges, one after the other
 pub placed_below : (n : ℕ) (ss : List (ℕ × ℕ)) (k : ℕ) → SwapsInRange n ss → k < n → placed_by ss k < n

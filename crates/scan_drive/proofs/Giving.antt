@@ -1,14 +1,16 @@
 -- What is given moves from the active splits to the chunks, and a limit cuts it.
-use Rattle.std.proofs.Common.{◌≡◌, ◌≢◌, ℕ, suc, zero, ◌+◌, ◌-◌, ◌<◌, ◌≤◌, List, [], ◌∷◌, ◌++◌, length, take, Option, Some, None, refl, sym, ap, ◌∙◌, subst, arith, append_assoc, append-nil}
+use Rattle.std.proofs.Common.{◌≡◌, ◌≢◌, ℕ, suc, zero, ◌+◌, ◌-◌, ◌<◌, ◌≤◌, List, [], ◌∷◌, ◌++◌, length, take, Bool, true, false, Option, Some, None, inl, inr, refl, sym, ap, ◌∙◌, subst, arith, append_assoc, append-nil}
 use Rattle.std.specs.Prelude.{option_map, IsSome, IfSome}
 use Rattle.scan_values.specs.Selections.{is_among}
 use Rattle.scan_segments.specs.Source.{Store}
 use Rattle.scan_splits.specs.Arrivals.{Arrivals}
 use Rattle.scan_drive.specs.Actives.{GivesRows, IsHalted, Stays, AreSeats, Seated, SlotOk, AllOk, groups_in, groups_left}
-use Rattle.scan_drive.specs.Chunks.{limit_of, HasRoom, Fits, fault_of, given, GivesAll, GivesFirst, IsCause, IsCut, IsMore, IsDeliverFault}
+use Rattle.scan_drive.specs.Chunks.{limit_of, HasRoom, Fits, fault_of, given, AddsFile, KeepsFiles, GivesAll, GivesFirst, IsCause, IsCut, IsMore, IsDeliverFault}
 use Rattle.scan_drive.specs.Files.{Group, grouped, count, cut, Part, Told, told_at, untold, over, AllTell, IfTold}
-use Rattle.scan_drive.specs.Slots.{slot_at, slot_groups, StageOk, HaltAt}
+use Rattle.scan_drive.specs.Measures.{is_there}
+use Rattle.scan_drive.specs.Slots.{slot_at, is_read, slot_groups, StageOk, HaltAt}
 use Rattle.scan_drive.specs.Splits.{SplitState, Event}
+use Rattle.scan_drive.specs.Turns.{IsGone}
 use Rattle.scan_drive.specs.declared.active.Active.{Active}
 use Rattle.scan_drive.specs.declared.delivery.Chunk.{Chunk}
 use Rattle.scan_drive.specs.declared.slot.Halt.{Halt}
@@ -18,6 +20,7 @@ use Rattle.scan_drive.specs.declared.slot.Stage.TheVariants as stage
 use Rattle.scan_drive.proofs.Handing.{among_head, among_later}
 use Rattle.scan_drive.proofs.Ordering.{order_none, order_then, order_stays, order_rows}
 use Rattle.scan_drive.proofs.Resting.{groups_others}
+use Rattle.scan_drive.proofs.Same.{same_refl}
 use Rattle.scan_drive.proofs.Seating.{apart_front}
 
 -- counts after the rows of a split
@@ -46,6 +49,12 @@ module _ {I : Type 0} where
   take_all [] (suc n) le = refl
   take_all (x ∷ xs) zero le = absurd (omega arith)
   take_all (x ∷ xs) (suc n) le = ap (λ ys. x ∷ ys) (take_all xs n (omega arith))
+
+  take_some : (xs : List I) (n : ℕ) → n ≤ length xs → length (take n xs) ≡ n
+  take_some [] zero le = refl
+  take_some [] (suc n) le = absurd (omega arith)
+  take_some (x ∷ xs) zero le = refl
+  take_some (x ∷ xs) (suc n) le = let r = take_some xs n (omega arith) in omega arith
 
   -- a limit behind a group leaves it whole
   pub cut_group : (file : ℕ) (xs : List I) (n : ℕ) (rest : List (Group I)) → cut (length xs + n) (grouped file xs ++ rest) ≡ grouped file xs ++ cut n rest
@@ -109,8 +118,8 @@ module _ {W I R : Type 0} (split : W → SplitState I) (comes : W → Arrivals �
       ∙ ap (λ gs. grouped file (items rows) ++ gs) (sym (later_same tale file rows old new seats f))
 
   -- nothing is given yet
-  pub more_none : (a : Active W R) (chunks : List (Chunk R)) (left : Option ℕ) → HasRoom left → IsMore split comes items a a chunks chunks left left
-  more_none a chunks left room = record { groups = λ tale all ok. refl; counts = record { limit = refl; room = room }; order = order_none a }
+  pub more_none : (b : Bool) (a : Active W R) (chunks : List (Chunk R)) (left : Option ℕ) → HasRoom left → IsMore split comes items b a a chunks chunks left left
+  more_none b a chunks left room = record { groups = λ tale all ok. same_refl b (given items chunks ++ groups_left split comes items tale a); counts = record { limit = refl; room = room }; order = order_none a }
 
   stays_groups : (tale : List (Told I)) (old new : Active W R) → Stays old new → groups_left split comes items tale new ≡ groups_left split comes items tale old
   stays_groups tale old new s = ap (λ ts. groups_in split comes items tale ts.items new.slots.items) s.turns ∙ ap (groups_in split comes items tale old.turns.items) s.slots
@@ -118,12 +127,12 @@ module _ {W I R : Type 0} (split : W → SplitState I) (comes : W → Arrivals �
   pub stays_ok : (tale : List (Told I)) (old new : Active W R) → Stays old new → AllOk split comes items tale old → AllOk split comes items tale new
   stays_ok tale old new s ok q m = subst (λ (slots : List (Slot W R)). SlotOk split comes items tale (slot_at slots q)) (sym s.slots) (ok q (sym (ap (λ ts. is_among ts.items q) s.turns) ∙ m))
 
-  pub more_stays : (old mid new : Active W R) (chunks chunks' : List (Chunk R)) (left left' : Option ℕ) → IsMore split comes items old mid chunks chunks' left left' → Stays mid new → IsMore split comes items old new chunks chunks' left left'
+  pub more_stays : (old mid new : Active W R) (chunks chunks' : List (Chunk R)) (left left' : Option ℕ) → IsMore split comes items true old mid chunks chunks' left left' → Stays mid new → IsMore split comes items true old new chunks chunks' left left'
   more_stays old mid new chunks chunks' left left' m s = record { groups = λ tale all ok. ap (λ gs. given items chunks' ++ gs) (stays_groups tale mid new s) ∙ m.groups tale all ok; counts = m.counts; order = order_then old mid new m.order (order_stays mid new s) }
 
   -- the rows of the split whose turn it is are given
   pub more_rows : (file : ℕ) (rows : R) (old mid new : Active W R) (chunks now chunks' : List (Chunk R)) (left here left' : Option ℕ) → Seated mid → ((tale : List (Told I)) → AllOk split comes items tale old → AllOk split comes items tale mid) →
-      IsMore split comes items old mid chunks now left here → GivesRows file rows mid new → GivesAll items file (items rows) now chunks' here left' → IsMore split comes items old new chunks chunks' left left'
+      IsMore split comes items true old mid chunks now left here → GivesRows file rows mid new → GivesAll items file (items rows) now chunks' here left' → IsMore split comes items true old new chunks chunks' left left'
   more_rows file rows old mid new chunks now chunks' left here left' seats keeps m f g = record {
     groups = λ tale all ok.
         ap (λ gs. gs ++ groups_left split comes items tale new) g.groups
@@ -134,12 +143,22 @@ module _ {W I R : Type 0} (split : W → SplitState I) (comes : W → Arrivals �
     order = order_then old mid new m.order (order_rows file rows mid new f);
   }
 
+  -- as many rows are given then as the limit has
+  pub cut_count : (file : ℕ) (rows : R) (now chunks' : List (Chunk R)) (here : Option ℕ) → (g : GivesFirst items file (items rows) now chunks' here) → count (given items chunks') ≡ count (given items now) + g.most
+  cut_count file rows now chunks' here g =
+      let a : count (given items chunks') ≡ count (given items now ++ grouped file (take g.most (items rows))) = ap count g.groups in
+      let b = count_append (given items now) (grouped file (take g.most (items rows))) in
+      let c = count_grouped file (take g.most (items rows)) in
+      let d = take_some (items rows) g.most g.within in
+      omega (arith, a, b, c, d)
+
   -- the first of them are, and the limit is met
   pub cut_rows : (file : ℕ) (rows : R) (old mid new : Active W R) (chunks now chunks' : List (Chunk R)) (left here : Option ℕ) → Seated mid → ((tale : List (Told I)) → AllOk split comes items tale old → AllOk split comes items tale mid) →
-      IsMore split comes items old mid chunks now left here → GivesRows file rows mid new → GivesFirst items file (items rows) now chunks' here → IsCut split comes items old chunks chunks' left
+      IsMore split comes items true old mid chunks now left here → GivesRows file rows mid new → GivesFirst items file (items rows) now chunks' here → IsCut split comes items true old chunks chunks' left
   cut_rows file rows old mid new chunks now chunks' left here seats keeps m f g = record {
     most = count (given items now) + g.most;
     was = sym m.counts.limit ∙ ap (limit_of (count (given items now))) g.was;
+    met = met;
     groups = λ tale all ok later.
         let n = count (given items now) + g.most in
         let rows_now = grouped file (items rows) in
@@ -154,6 +173,9 @@ module _ {W I R : Type 0} (split : W → SplitState I) (comes : W → Arrivals �
         ∙ ap (λ gs. cut n (gs ++ later)) (m.groups tale all ok)
         ∙ ap (cut n) (append_assoc (given items chunks) (groups_left split comes items tale old) later);
   }
+    where
+      met : count (given items chunks') ≡ count (given items now) + g.most
+      met = cut_count file rows now chunks' here g
 
   halt_told : (o : Option (Part I)) (s : Option Store) (h : Halt) (P : Part I → Store → Type 0) → ((p : Part I) (store : Store) → P p store → HaltAt p store h) → IfSome o (λ p. IfSome s (λ store. P p store)) → IfSome o (λ p. IfSome s (λ store. HaltAt p store h))
   halt_told None s h P f i = tt
@@ -175,6 +197,17 @@ module _ {W I R : Type 0} (split : W → SplitState I) (comes : W → Arrivals �
       go halt.Overflow w = w
       go halt.NoMemory w = tt
 
+-- a chunk of a file of which an active split was
+pub files_rows : {W R : Type 0} (file : ℕ) (rows : R) (slots : List (Slot W R)) (mid new : Active W R) (chunks now chunks' : List (Chunk R)) → ((q : ℕ) → IsGone (slot_at slots q) (slot_at mid.slots.items q)) → GivesRows file rows mid new →
+    KeepsFiles slots chunks now → AddsFile file now chunks' → KeepsFiles slots chunks chunks'
+files_rows {W} {R} file rows slots mid new chunks now chunks' gone f keeps adds n within all = adds n (go (gone f.place)) (keeps n within all)
+  where
+    go : IsGone (slot_at slots f.place) (slot_at mid.slots.items f.place) → file < n
+    go (inl same) =
+        let was = sym same ∙ f.was in
+        subst (λ (s : Slot W R). s.file < n) was (within f.place (ap (λ (s : Slot W R). is_there s.stage) was))
+    go (inr e) = let bad : true ≡ false = sym (ap (λ (s : Slot W R). is_read s.stage) f.was) ∙ ap is_read e.2 in absurd cc
+
 pub stays_halted : {W R : Type 0} (file : ℕ) (h : Halt) (old new : Active W R) → IsHalted file h old → Stays old new → IsHalted file h new
 stays_halted file h old new is s = record {
   place = is.place;
@@ -190,7 +223,7 @@ stays_seated {W} {R} old new s h =
 
 -- the fault of a split that was given up
 pub held_fault : {W I R : Type 0} (split : W → SplitState I) (comes : W → Arrivals → Store → Event → Type 0) (items : R → List I) (file : ℕ) (h : Halt) (old new : Active W R) (chunks chunks' : List (Chunk R)) (left left' : Option ℕ) → IsHalted file h new →
-    IsMore split comes items old new chunks chunks' left left' → IsDeliverFault split comes items old new chunks chunks' left left' (fault_of file h)
+    IsMore split comes items true old new chunks chunks' left left' → IsDeliverFault split comes items old new chunks chunks' left left' (fault_of file h)
 held_fault split comes items file (halt.Source id) old new chunks chunks' left left' t m = record { turn = t; more = m }
 held_fault split comes items file (halt.Corrupt id) old new chunks chunks' left left' t m = record { turn = t; more = m }
 held_fault split comes items file halt.Overflow old new chunks chunks' left left' t m = record { turn = t; more = m }

@@ -28,7 +28,8 @@ use Rattle.scan_drive.specs.declared.slot.Stage.TheVariants as stage
 use Rattle.scan_drive.proofs.Asked.{reading_there}
 use Rattle.scan_drive.proofs.Filing.{files_ledger_same}
 use Rattle.scan_drive.proofs.Handing.{among_head}
-use Rattle.scan_drive.proofs.Lasting.{sources_le, source_lt}
+use Rattle.scan_drive.proofs.Same.{same_flag}
+use Rattle.scan_drive.proofs.Lasting.{sources_le, source_lt, budget_kept}
 use Rattle.scan_drive.proofs.Moving.{get_or-map, told_same, each_under, each_then, each_sources}
 use Rattle.scan_drive.proofs.Standing.{keeps_from, seated_advances, within_advances}
 use Rattle.scan_drive.proofs.Trading.{agrees_same}
@@ -71,17 +72,18 @@ module _ {O S W I R F : Type 0} (state : O → OpenerState I) (polls : O → O �
 
   -- slots after wants and polls
   pub sound_served : (a b : List (ScanFile O S)) (d e : Drive W R F) → EachMoves state polls source (Unit {0}) a b → EachAdvances split d.active.slots.items e.active.slots.items
-      → SlotsKeep source split comes items b d.active.slots.items e.active.slots.items → e.active.turns ≡ d.active.turns → e.phases ≡ d.phases → e.chunks ≡ d.chunks → e.tally ≡ d.tally
+      → SlotsKeep source split comes items b d.active.slots.items e.active.slots.items → e.active.turns ≡ d.active.turns → e.phases ≡ d.phases → e.chunks ≡ d.chunks → e.ordered ≡ d.ordered → e.tally ≡ d.tally
       → Stands (length a) d →
       Sound split comes items (tells state source a) d → Sound split comes items (tells state source a) e
-  sound_served a b d e m adv keep turns phases chunks tally stands s = record {
+  sound_served a b d e m adv keep turns phases chunks ordered tally stands s = record {
     phases = subst (λ ps. Rattle.scan_drive.specs.Phases.PhasesOk split comes tale ps.items) (sym phases) s.phases;
     ok = subst (λ ts. Rattle.scan_drive.specs.Actives.EachOk split comes items tale ts.items e.active.slots.items) (sym turns) (keeps.ok s.ok);
     tally = subst (Rattle.scan_drive.specs.Turns.IsTally tale) (sym tally) s.tally;
-    sums = λ all.
-        (λ j. given items (chunks j).items ++ (groups_in split comes items tale ((turns j).items) e.active.slots.items ++ rest split comes tale ((phases j).items)))
-        ∙ ap (λ gs. given items d.chunks.items ++ (gs ++ rest split comes tale d.phases.items)) (keeps.left all s.ok)
-        ∙ s.sums all;
+    sums = λ all. same_flag d.ordered e.ordered (given items e.chunks.items ++ (groups_left split comes items tale e.active ++ rest split comes tale e.phases.items))
+        (given items d.chunks.items ++ (groups_left split comes items tale d.active ++ rest split comes tale d.phases.items)) (answer tale) ordered
+        ((λ j. given items (chunks j).items ++ (groups_in split comes items tale ((turns j).items) e.active.slots.items ++ rest split comes tale ((phases j).items)))
+        ∙ ap (λ gs. given items d.chunks.items ++ (gs ++ rest split comes tale d.phases.items)) (keeps.left all s.ok))
+        (s.sums all);
   }
     where
       tale : List (Told I)
@@ -101,8 +103,8 @@ module _ {O S W I R F : Type 0} (state : O → OpenerState I) (polls : O → O �
 
   pub stands_served : (n : ℕ) (d e : Drive W R F) → EachAdvances split d.active.slots.items e.active.slots.items
       → (HasNews d.active.slots.items d.active.news.items → HasNews e.active.slots.items e.active.news.items) → e.active.turns ≡ d.active.turns → e.active.free ≡ d.active.free → e.phases ≡ d.phases
-      → e.first ≡ d.first → e.left ≡ d.left → Stands n d → Stands n e
-  stands_served n d e adv news turns free phases first left s = record {
+      → e.first ≡ d.first → e.left ≡ d.left → e.ordered ≡ d.ordered → e.budget ≡ d.budget → Stands n d → Stands n e
+  stands_served n d e adv news turns free phases first left ordered budget s = record {
     lens = ap (λ ps. length ps.items) phases ∙ s.lens;
     first = subst (λ k. k ≤ n) (sym first) s.first;
     below = subst (λ k. Rattle.scan_drive.specs.Phases.SpentBelow e.phases.items k) (sym first) (subst (λ ps. Rattle.scan_drive.specs.Phases.SpentBelow ps.items d.first) (sym phases) s.below);
@@ -115,6 +117,7 @@ module _ {O S W I R F : Type 0} (state : O → OpenerState I) (polls : O → O �
       news = news s.ready.news;
     };
     room = subst Rattle.scan_drive.specs.Chunks.HasRoom (sym left) s.room;
+    budget = budget_kept d.ordered e.ordered d.left e.left d.budget e.budget ordered left budget s.budget;
   }
 
   -- less is left after a round in which no opener has answered

@@ -1,14 +1,15 @@
 -- How much is left, as openers are polled and requests answered.
-use Rattle.std.proofs.Common.{◌≡◌, ℕ, suc, zero, ◌+◌, ◌-◌, ◌<◌, ◌≤◌, List, [], ◌∷◌, ◌++◌, length, get_or, Bool, true, false, Result, Ok, Err, OnOk, inl, inr, refl, sym, ap, ◌∙◌, subst, arith}
+use Rattle.std.proofs.Common.{◌≡◌, ℕ, suc, zero, ◌+◌, ◌-◌, ◌<◌, ◌≤◌, List, [], ◌∷◌, ◌++◌, length, get_or, Bool, true, false, Option, Result, Ok, Err, OnOk, inl, inr, refl, sym, ap, ◌∙◌, subst, arith}
 use Rattle.std.specs.Prelude.{◌⊎◌, filter}
 use Rattle.scan_values.specs.Selections.{is_among}
 use Rattle.scan_segments.specs.Source.{SourceState, Store}
 use Rattle.scan_splits.specs.Arrivals.{Arrivals}
 use Rattle.scan_drive.specs.Actives.{AllOk, groups_left}
+use Rattle.scan_drive.specs.Budgets.{BudgetData, IsBudget}
 use Rattle.scan_drive.specs.Chunks.{given}
 use Rattle.scan_drive.specs.Desks.{Waiters, waits}
 use Rattle.scan_drive.specs.Drives.{desk_at, EachLinked, SourcesMove, BringsFileNearer}
-use Rattle.scan_drive.specs.Files.{Told}
+use Rattle.scan_drive.specs.Files.{answer, Told}
 use Rattle.scan_drive.specs.Measures.{is_there, slots_steps, phases_steps, IsNearer, Advances, EachAdvances}
 use Rattle.scan_drive.specs.Moves.{EachMoves, AllWait, HoldsWhy, KeepsRest}
 use Rattle.scan_drive.specs.Openers.{OpenerState}
@@ -29,6 +30,7 @@ use Rattle.scan_drive.proofs.Handing.{le_or_lt, among_head, among_later}
 use Rattle.scan_drive.proofs.Moving.{rest_stays}
 use Rattle.scan_drive.proofs.Nearing.{nearer_then}
 use Rattle.scan_drive.proofs.Standing.{within_seated}
+use Rattle.scan_drive.proofs.Same.{same_flag}
 
 pub same_head : (x y : ℕ) (xs ys : List ℕ) → x ∷ xs ≡ y ∷ ys → x ≡ y
 same_head x y xs ys e = ap (λ (zs : List ℕ). get_or zs 0 x) e
@@ -176,12 +178,16 @@ module _ {O S W I R F : Type 0} (state : O → OpenerState I) (polls : O → O �
               stuck_by (inr (inr (inl h))) = shut (phase_at e.phases.items e.first) refl h (le_or_lt (length e.phases.items) e.first)
               stuck_by (inr (inr (inr h))) = end (inr (inr h))
 
+-- a budget that is left as it was
+pub budget_kept : (b c : Bool) (l m : Option ℕ) (x y : Option BudgetData) → c ≡ b → m ≡ l → y ≡ x → IsBudget b l x → IsBudget c m y
+budget_kept b c l m x y o e u h = subst (λ f. IsBudget f m y) (sym o) (subst (λ n. IsBudget b n y) (sym e) (subst (IsBudget b l) (sym u) h))
+
 module _ {W I R F : Type 0} (split : W → SplitState I) where
   pub stands_new : (n : ℕ) (d e : Drive W R F) (mid : List (Phase W F)) → Stands n d → length mid ≡ length d.phases.items → length e.phases.items ≡ length mid
       → (e.first ≤ length e.phases.items) × SpentBelow e.phases.items e.first → Rattle.scan_drive.specs.Actives.Seated e.active
       → (HasNews d.active.slots.items d.active.news.items → HasNews e.active.slots.items e.active.news.items) →
-      SeatsOn split d.first e.first d.active e.active mid e.phases.items → e.left ≡ d.left → Stands n e
-  stands_new n d e mid s a b below seated news seats left =
+      SeatsOn split d.first e.first d.active e.active mid e.phases.items → e.left ≡ d.left → e.ordered ≡ d.ordered → e.budget ≡ d.budget → Stands n e
+  stands_new n d e mid s a b below seated news seats left ordered budget =
       let m : length mid ≡ n = a ∙ s.lens in
       let l : length e.phases.items ≡ n = b ∙ m in
       record {
@@ -195,21 +201,23 @@ module _ {W I R F : Type 0} (split : W → SplitState I) where
           news = news s.ready.news;
         };
         room = subst Rattle.scan_drive.specs.Chunks.HasRoom (sym left) s.room;
+        budget = budget_kept d.ordered e.ordered d.left e.left d.budget e.budget ordered left budget s.budget;
       }
 
 module _ {W I R F : Type 0} (split : W → SplitState I) (comes : W → Arrivals → Store → Event → Type 0) (items : R → List I) where
-  pub sound_new : (tale : List (Told I)) (d e : Drive W R F) (mid : List (Phase W F)) → length mid ≡ length d.phases.items → length tale ≡ length mid → PhasesOk split comes tale mid → KeepsRest split comes tale d.phases.items mid → e.chunks ≡ d.chunks →
+  pub sound_new : (tale : List (Told I)) (d e : Drive W R F) (mid : List (Phase W F)) → length mid ≡ length d.phases.items → length tale ≡ length mid → PhasesOk split comes tale mid → KeepsRest split comes tale d.phases.items mid → e.chunks ≡ d.chunks → e.ordered ≡ d.ordered →
       groups_left split comes items tale e.active ++ rest split comes tale e.phases.items ≡ groups_left split comes items tale d.active ++ rest split comes tale mid →
       (PhasesOk split comes tale mid → AllOk split comes items tale d.active → PhasesOk split comes tale e.phases.items × AllOk split comes items tale e.active) →
       (PhasesOk split comes tale mid → AllOk split comes items tale d.active → IsTally tale d.tally → IsTally tale e.tally) → Sound split comes items tale d → Sound split comes items tale e
-  sound_new tale d e mid n m phases left chunks moved ok tally s = record {
+  sound_new tale d e mid n m phases left chunks ordered moved ok tally s = record {
     phases = (ok phases s.ok).0;
     ok = (ok phases s.ok).1;
     tally = tally phases s.ok s.tally;
-    sums = λ all.
-        ap (λ cs. given items cs.items ++ (groups_left split comes items tale e.active ++ rest split comes tale e.phases.items)) chunks
-        ∙ ap (λ gs. given items d.chunks.items ++ gs) (moved ∙ ap (λ gs. groups_left split comes items tale d.active ++ gs) (rest_stays split comes tale d.phases.items mid n all left))
-        ∙ s.sums all;
+    sums = λ all. same_flag d.ordered e.ordered (given items e.chunks.items ++ (groups_left split comes items tale e.active ++ rest split comes tale e.phases.items))
+        (given items d.chunks.items ++ (groups_left split comes items tale d.active ++ rest split comes tale d.phases.items)) (answer tale) ordered
+        (ap (λ cs. given items cs.items ++ (groups_left split comes items tale e.active ++ rest split comes tale e.phases.items)) chunks
+        ∙ ap (λ gs. given items d.chunks.items ++ gs) (moved ∙ ap (λ gs. groups_left split comes items tale d.active ++ gs) (rest_stays split comes tale d.phases.items mid n all left)))
+        (s.sums all);
   }
 
 pub why_after : {O S W F I : Type 0} (state : O → OpenerState I) (polls : O → O → Type 0) (refuses : O → O → F → Type 0) (files now : List (ScanFile O S)) (old mid new : List (Phase W F))

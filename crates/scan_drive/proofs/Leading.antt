@@ -1,6 +1,9 @@
 -- What stands before a file's turn was given.
-use Rattle.std.proofs.Common.{◌≡◌, ℕ, zero, suc, ◌+◌, ◌<◌, ◌≤◌, List, [], ◌∷◌, ◌++◌, get_or, drop, take, Option, Some, None, inl, inr, refl, sym, ap, ◌∙◌, subst, arith, append_assoc}
+use Rattle.std.proofs.Common.{◌≡◌, ℕ, zero, suc, ◌+◌, ◌<◌, ◌≤◌, Bool, true, false, cond, not, ltb, List, [], ◌∷◌, ◌++◌, filter, get_or, drop, take, Option, Some, None, IsPermutation, inl, inr, refl, sym, ap, ◌∙◌, subst, arith, append_assoc, append-nil}
 use Rattle.std.specs.Prelude.{◌⊎◌}
+use Rattle.std.proofs.lemmas.Bool.{lt-ltb, le-ltb}
+use Rattle.std.proofs.lemmas.List.Elements.{filter-append}
+use Rattle.std.proofs.lemmas.List.Sorted.{IsPermutation-trans, IsPermutation-append_left, IsPermutation-filter_both}
 use Rattle.std.specs.List.{flat_map}
 use Rattle.scan_segments.specs.Source.{Store}
 use Rattle.scan_splits.specs.Arrivals.{Arrivals}
@@ -10,6 +13,7 @@ use Rattle.scan_drive.specs.Chunks.{given, limit_of, HasRoom, Fits, IsMore, IsHe
 use Rattle.scan_drive.specs.Drivings.{GivesBefore}
 use Rattle.scan_drive.specs.Ends.{limit_in}
 use Rattle.scan_drive.specs.Files.{Part, Group, grouped, over, Told, AllTell, part_in, part_over, part_groups, answer, answer_from, count}
+use Rattle.scan_drive.specs.Grants.{AreSame}
 use Rattle.scan_drive.specs.Order.{Rises}
 use Rattle.scan_drive.specs.Phases.{phase_at, phase_left, work_groups, IsSpent, SpentBelow, rest, rest_from}
 use Rattle.scan_drive.specs.Rounds.{Sound}
@@ -30,6 +34,7 @@ use Rattle.scan_drive.proofs.Handing.{le_or_lt}
 use Rattle.scan_drive.proofs.Giving.{more_none}
 use Rattle.scan_drive.proofs.Ordering.{rises_from, rises_ends, rises_front}
 use Rattle.scan_drive.proofs.Resting.{spent_left}
+use Rattle.scan_drive.proofs.Same.{passed_alike, same_behind, same_is, same_path, same_trans}
 
 -- each group is of a file of which this holds
 abbrev Of : {I : Type 0} → (ℕ → Type 0) → List (Group I) → Type 0
@@ -71,6 +76,33 @@ module _ {I : Type 0} where
       let same : g ≡ x = ap (λ (zs : List (Group I)). get_or zs 0 g) e in
       (later.0, λ i. same i ∷ later.1 i)
 
+  -- those below one are all that pass the test, and no other is
+  passed : (k : ℕ) (gs : List (Group I)) → Of (λ n. n < k) gs → filter (λ (g : Group I). ltb g.0 k) gs ≡ gs
+  passed k [] h = refl
+  passed k (g ∷ gs) h = ap (λ b. cond b (g ∷ filter (λ (x : Group I). ltb x.0 k) gs) (filter (λ (x : Group I). ltb x.0 k) gs)) (lt-ltb g.0 k h.0) ∙ ap (λ xs. g ∷ xs) (passed k gs h.1)
+
+  none_passed : (k : ℕ) (gs : List (Group I)) → Of (λ n. k ≤ n) gs → filter (λ (g : Group I). ltb g.0 k) gs ≡ []
+  none_passed k [] h = refl
+  none_passed k (g ∷ gs) h = ap (λ b. cond b (g ∷ filter (λ (x : Group I). ltb x.0 k) gs) (filter (λ (x : Group I). ltb x.0 k) gs)) (le-ltb g.0 k h.0) ∙ none_passed k gs h.1
+
+  -- of these and others, those below one are these
+  below_in : (k : ℕ) (xs ys : List (Group I)) → Of (λ n. k ≤ n) ys → filter (λ (g : Group I). ltb g.0 k) (xs ++ ys) ≡ filter (λ (g : Group I). ltb g.0 k) xs
+  below_in k xs ys h = filter-append (λ (g : Group I). ltb g.0 k) xs ys ∙ ap (λ zs. filter (λ (g : Group I). ltb g.0 k) xs ++ zs) (none_passed k ys h) ∙ append-nil (filter (λ (g : Group I). ltb g.0 k) xs)
+
+  -- in no order it is among it
+  front_any : (k : ℕ) (gs ls xs ys : List (Group I)) → IsPermutation (gs ++ ls) (xs ++ ys) → Of (λ n. k ≤ n) ls → Of (λ n. n < k) xs → Of (λ n. k ≤ n) ys → (more : List (Group I)) × IsPermutation gs (xs ++ more)
+  front_any k gs ls xs ys e l a b =
+      let p : Group I → Bool = λ g. ltb g.0 k in
+      let q : Group I → Bool = λ g. not (p g) in
+      let same : IsPermutation (filter p gs) xs =
+      subst (IsPermutation (filter p gs)) (below_in k xs ys b ∙ passed k xs a) (subst (λ zs. IsPermutation zs (filter p (xs ++ ys))) (below_in k gs ls l) (passed_alike p (gs ++ ls) (xs ++ ys) e)) in
+      (filter q gs, IsPermutation-trans gs (filter p gs ++ filter q gs) (xs ++ filter q gs) (IsPermutation-filter_both p q (λ g. refl) gs) (IsPermutation-append_left (filter q gs) (filter p gs) xs same))
+
+  -- in order or in none
+  front_same : (b : Bool) (k : ℕ) (gs ls xs ys : List (Group I)) → AreSame b (gs ++ ls) (xs ++ ys) → Of (λ n. k ≤ n) ls → Of (λ n. n < k) xs → Of (λ n. k ≤ n) ys → (more : List (Group I)) × AreSame b gs (xs ++ more)
+  front_same true k gs ls xs ys e l a b = front k gs ls xs ys e l a
+  front_same false k gs ls xs ys e l a b = front_any k gs ls xs ys e l a b
+
   -- the groups of the first files, and those of the others
   answer_split : (place n : ℕ) (ts : List (Told I)) → answer_from place ts ≡ answer_from place (take n ts) ++ answer_from (place + n) (drop n ts)
   answer_split place zero ts = let z : place ≡ place + 0 = omega arith in ap (λ m. answer_from m ts) z
@@ -91,6 +123,11 @@ module _ {I : Type 0} where
   answer_below place (suc n) k (t ∷ ts) le =
       of_append (λ m. m < k) (part_groups place t) (answer_from (place + 1) (take n ts)) (of_part (λ m. m < k) place t.part t.store (omega (arith, le))) (answer_below (place + 1) n k ts (omega (arith, le)))
 
+  -- the others are not
+  answer_above : (k place : ℕ) (ts : List (Told I)) → k ≤ place → Of (λ m. k ≤ m) (answer_from place ts)
+  answer_above k place [] le = tt
+  answer_above k place (t ∷ ts) le = of_append (λ m. k ≤ m) (part_groups place t) (answer_from (place + 1) ts) (of_part (λ m. k ≤ m) place t.part t.store le) (answer_above k (place + 1) ts (omega (arith, le)))
+
   take_less : (n m : ℕ) (ts : List (Told I)) → n ≤ m → take n (take m ts) ≡ take n ts
   take_less zero m ts le = refl
   take_less (suc n) zero ts le = absurd (omega (arith, le))
@@ -98,14 +135,14 @@ module _ {I : Type 0} where
   take_less (suc n) (suc m) (t ∷ ts) le = ap (λ us. t ∷ us) (take_less n m ts (omega (arith, le)))
 
   -- what is given before a file is so before each file before it
-  pub gives_less : {R : Type 0} (items : R → List I) (limit : Option ℕ) (tale : List (Told I)) (k m : ℕ) → k ≤ m → GivesBefore items limit tale m → GivesBefore items limit tale k
-  gives_less items limit tale k m le g = record {
+  pub gives_less : {R : Type 0} (items : R → List I) (b : Bool) (limit : Option ℕ) (tale : List (Told I)) (k m : ℕ) → k ≤ m → GivesBefore items b limit tale m → GivesBefore items b limit tale k
+  gives_less items b limit tale k m le g = record {
     chunks = g.chunks;
     more = answer_from k (drop k (take m tale)) ++ g.more;
-    groups =
-        g.groups
-        ∙ ap (λ gs. gs ++ g.more) (answer_front k (take m tale) ∙ ap (λ ts. answer ts ++ answer_from k (drop k (take m tale))) (take_less k m tale le))
-        ∙ append_assoc (answer (take k tale)) (answer_from k (drop k (take m tale))) g.more;
+    groups = same_trans b (given items g.chunks) (answer (take m tale) ++ g.more) (answer (take k tale) ++ (answer_from k (drop k (take m tale)) ++ g.more)) g.groups
+        (same_is b (answer (take m tale) ++ g.more) (answer (take k tale) ++ (answer_from k (drop k (take m tale)) ++ g.more))
+        (ap (λ gs. gs ++ g.more) (answer_front k (take m tale) ∙ ap (λ ts. answer ts ++ answer_from k (drop k (take m tale))) (take_less k m tale le))
+        ∙ append_assoc (answer (take k tale)) (answer_from k (drop k (take m tale))) g.more));
     room = g.room;
   }
 
@@ -144,7 +181,7 @@ module _ {W I F : Type 0} (split : W → SplitState I) (comes : W → Arrivals �
 module _ {W I R F : Type 0} (split : W → SplitState I) (comes : W → Arrivals → Store → Event → Type 0) (items : R → List I) where
   -- the active splits, and the files that have splits left, are of no file before this one: those before it were given
   pub gives_before : (tale : List (Told I)) (d : Drive W R F) (a : Active W R) (chunks : List (Chunk R)) (left : Option ℕ) (k : ℕ) → AllTell tale → Sound split comes items tale d → SpentBelow d.phases.items d.first → k ≤ d.first →
-      IsMore split comes items d.active a d.chunks.items chunks d.left left → Of (λ n. k ≤ n) (groups_left split comes items tale a) → GivesBefore items (limit_in split comes items d) tale k
+      IsMore split comes items d.ordered d.active a d.chunks.items chunks d.left left → Of (λ n. k ≤ n) (groups_left split comes items tale a) → GivesBefore items d.ordered (limit_in split comes items d) tale k
   gives_before tale d a chunks left k all s below le m h = record {
     chunks = chunks;
     more = got.0;
@@ -161,57 +198,65 @@ module _ {W I R F : Type 0} (split : W → SplitState I) (comes : W → Arrivals
       others : List (Group I)
       others = rest split comes tale d.phases.items
 
-      same : given items chunks ++ (now ++ others) ≡ answer (take k tale) ++ answer_from k (drop k tale)
-      same =
-          sym (append_assoc (given items chunks) now others)
-          ∙ ap (λ gs. gs ++ others) (m.groups tale all s.ok)
-          ∙ append_assoc (given items d.chunks.items) old others
-          ∙ s.sums all
-          ∙ answer_front k tale
+      here : List (Group I)
+      here = given items chunks
 
-      got : (more : List (Group I)) × (given items chunks ≡ answer (take k tale) ++ more)
+      was : List (Group I)
+      was = given items d.chunks.items
+
+      parts : List (Group I)
+      parts = answer (take k tale) ++ answer_from k (drop k tale)
+
+      same : AreSame d.ordered (here ++ (now ++ others)) parts
+      same = same_path d.ordered (here ++ (now ++ others)) ((here ++ now) ++ others) parts (sym (append_assoc here now others))
+          (same_trans d.ordered ((here ++ now) ++ others) ((was ++ old) ++ others) parts (same_behind d.ordered (here ++ now) (was ++ old) others (m.groups tale all s.ok))
+          (same_path d.ordered ((was ++ old) ++ others) (was ++ (old ++ others)) parts (append_assoc was old others)
+          (subst (AreSame d.ordered (was ++ (old ++ others))) (answer_front k tale) (s.sums all))))
+
+      got : (more : List (Group I)) × AreSame d.ordered here (answer (take k tale) ++ more)
       got =
-          front k (given items chunks) (now ++ others) (answer (take k tale)) (answer_from k (drop k tale)) same
+          front_same d.ordered k here (now ++ others) (answer (take k tale)) (answer_from k (drop k tale)) same
           (of_append (λ n. k ≤ n) now others h (rest_after split comes k 0 tale d.phases.items (λ n lt. below n (omega (arith, lt, le)))))
-          (answer_below 0 k k tale (omega arith))
+          (answer_below 0 k k tale (omega arith)) (answer_above k k (drop k tale) (omega arith))
 
   -- in the order of their files
   pub gives_in_order : (tale : List (Told I)) (d : Drive W R F) (a : Active W R) (chunks : List (Chunk R)) (left : Option ℕ) (k : ℕ) → AllTell tale → Sound split comes items tale d → SpentBelow d.phases.items d.first →
-      IsMore split comes items d.active a d.chunks.items chunks d.left left → Rises k d.first a.turns.items a.slots.items → GivesBefore items (limit_in split comes items d) tale k
+      IsMore split comes items d.ordered d.active a d.chunks.items chunks d.left left → Rises k d.first a.turns.items a.slots.items → GivesBefore items d.ordered (limit_in split comes items d) tale k
   gives_in_order tale d a chunks left k all s below m h =
       gives_before tale d a chunks left k all s below (rises_ends k d.first a.turns.items a.slots.items h) m (left_from split comes items tale k d.first a.turns.items a.slots.items h)
 
   -- where no split is active
   pub gives_idle : (tale : List (Told I)) (d : Drive W R F) (a : Active W R) (chunks : List (Chunk R)) (left : Option ℕ) → AllTell tale → Sound split comes items tale d → SpentBelow d.phases.items d.first →
-      IsMore split comes items d.active a d.chunks.items chunks d.left left → a.turns.items ≡ [] → GivesBefore items (limit_in split comes items d) tale d.first
+      IsMore split comes items d.ordered d.active a d.chunks.items chunks d.left left → a.turns.items ≡ [] → GivesBefore items d.ordered (limit_in split comes items d) tale d.first
   gives_idle tale d a chunks left all s below m none =
       let low : d.first ≤ d.first = omega arith in
       gives_in_order tale d a chunks left d.first all s below m (subst (λ ts. Rises d.first d.first ts a.slots.items) (sym none) low)
 
   -- what a round has given before it polls openers
   pub gives_done : (tale : List (Told I)) (d : Drive W R F) (k : ℕ) → AllTell tale → Sound split comes items tale d → SpentBelow d.phases.items d.first → HasRoom d.left → Rises 0 d.first d.active.turns.items d.active.slots.items →
-      IsDone d.active.turns.items d.active.slots.items d.first k → GivesBefore items (limit_in split comes items d) tale k
+      IsDone d.active.turns.items d.active.slots.items d.first k → GivesBefore items d.ordered (limit_in split comes items d) tale k
   gives_done tale d k all s below room order done = go done
     where
-      none : IsMore split comes items d.active d.active d.chunks.items d.chunks.items d.left d.left
-      none = more_none split comes items d.active d.chunks.items d.left room
+      none : IsMore split comes items d.ordered d.active d.active d.chunks.items d.chunks.items d.left d.left
+      none = more_none split comes items d.ordered d.active d.chunks.items d.left room
 
-      go : IsDone d.active.turns.items d.active.slots.items d.first k → GivesBefore items (limit_in split comes items d) tale k
-      go (inl e) = subst (GivesBefore items (limit_in split comes items d) tale) (sym e.1) (gives_idle tale d d.active d.chunks.items d.left all s below none e.0)
-      go (inr f) = subst (GivesBefore items (limit_in split comes items d) tale) f.file_is
+      go : IsDone d.active.turns.items d.active.slots.items d.first k → GivesBefore items d.ordered (limit_in split comes items d) tale k
+      go (inl e) = subst (GivesBefore items d.ordered (limit_in split comes items d) tale) (sym e.1) (gives_idle tale d d.active d.chunks.items d.left all s below none e.0)
+      go (inr f) = subst (GivesBefore items d.ordered (limit_in split comes items d) tale) f.file_is
           (gives_in_order tale d d.active d.chunks.items d.left (slot_at d.active.slots.items f.place).file all s below none (rises_front 0 d.first f.place f.later d.active.turns.items d.active.slots.items f.turns_are order))
 
-  -- at the turn of a split that was given up
-  held_before : (tale : List (Told I)) (d : Drive W R F) (a : Active W R) (chunks : List (Chunk R)) (left : Option ℕ) (file : ℕ) (h : Halt) → AllTell tale → Sound split comes items tale d → SpentBelow d.phases.items d.first → Rises 0 d.first d.active.turns.items d.active.slots.items →
-      IsHeld split comes items file h d.active a d.chunks.items chunks d.left left → GivesBefore items (limit_in split comes items d) tale file
-  held_before tale d a chunks left file h all s below order x =
+  -- at the turn of a split that was given up, in order
+  held_before : (tale : List (Told I)) (d : Drive W R F) (a : Active W R) (chunks : List (Chunk R)) (left : Option ℕ) (file : ℕ) (h : Halt) → d.ordered ≡ true → AllTell tale → Sound split comes items tale d → SpentBelow d.phases.items d.first →
+      Rises 0 d.first d.active.turns.items d.active.slots.items → IsHeld split comes items file h d.active a d.chunks.items chunks d.left left → GivesBefore items true (limit_in split comes items d) tale file
+  held_before tale d a chunks left file h o all s below order x =
       let e : (slot_at a.slots.items x.turn.place).file ≡ file = ap (λ (y : Slot W R). y.file) x.turn.was in
-      subst (GivesBefore items (limit_in split comes items d) tale) e
-      (gives_in_order tale d a chunks left (slot_at a.slots.items x.turn.place).file all s below x.more (rises_front 0 d.first x.turn.place x.turn.later a.turns.items a.slots.items x.turn.turns (x.more.order 0 d.first order)))
+      let more : IsMore split comes items d.ordered d.active a d.chunks.items chunks d.left left = subst (λ b. IsMore split comes items b d.active a d.chunks.items chunks d.left left) (sym o) x.more in
+      subst (λ b. GivesBefore items b (limit_in split comes items d) tale file) o (subst (GivesBefore items d.ordered (limit_in split comes items d) tale) e
+      (gives_in_order tale d a chunks left (slot_at a.slots.items x.turn.place).file all s below more (rises_front 0 d.first x.turn.place x.turn.later a.turns.items a.slots.items x.turn.turns (x.more.order 0 d.first order))))
 
-  pub split_before : (tale : List (Told I)) (d : Drive W R F) (a : Active W R) (chunks : List (Chunk R)) (left : Option ℕ) (e : DriveFault) → AllTell tale → Sound split comes items tale d → SpentBelow d.phases.items d.first → Rises 0 d.first d.active.turns.items d.active.slots.items →
-      IsDeliverFault split comes items d.active a d.chunks.items chunks d.left left e → StopsBefore items {F = F} (limit_in split comes items d) tale (why.Split e)
-  split_before tale d a chunks left fault.NoMemory all s below order x = tt
-  split_before tale d a chunks left (fault.Source file id) all s below order x = held_before tale d a chunks left file (halt.Source id) all s below order x
-  split_before tale d a chunks left (fault.Corrupt file id) all s below order x = held_before tale d a chunks left file (halt.Corrupt id) all s below order x
-  split_before tale d a chunks left (fault.Overflow file) all s below order x = held_before tale d a chunks left file halt.Overflow all s below order x
+  pub split_before : (tale : List (Told I)) (d : Drive W R F) (a : Active W R) (chunks : List (Chunk R)) (left : Option ℕ) (e : DriveFault) → d.ordered ≡ true → AllTell tale → Sound split comes items tale d → SpentBelow d.phases.items d.first →
+      Rises 0 d.first d.active.turns.items d.active.slots.items → IsDeliverFault split comes items d.active a d.chunks.items chunks d.left left e → StopsBefore items {F = F} (limit_in split comes items d) tale (why.Split e)
+  split_before tale d a chunks left fault.NoMemory o all s below order x = tt
+  split_before tale d a chunks left (fault.Source file id) o all s below order x = held_before tale d a chunks left file (halt.Source id) o all s below order x
+  split_before tale d a chunks left (fault.Corrupt file id) o all s below order x = held_before tale d a chunks left file (halt.Corrupt id) o all s below order x
+  split_before tale d a chunks left (fault.Overflow file) o all s below order x = held_before tale d a chunks left file halt.Overflow o all s below order x

@@ -1,5 +1,6 @@
 pub mod Accounting
 pub mod Admitting
+pub mod Allowing
 pub mod Asked
 pub mod Asking
 pub mod Balancing
@@ -7,8 +8,10 @@ pub mod Books
 pub mod Bringing
 pub mod Brought
 pub mod Caching
+pub mod Claiming
 pub mod Counting
 pub mod Cutting
+pub mod Dealing
 pub mod Desking
 pub mod Driven
 pub mod DrivenBack
@@ -26,8 +29,10 @@ pub mod Filing
 pub mod Fillings
 pub mod Following
 pub mod Forwarding
+pub mod Freely
 pub mod Giving
 pub mod Going
+pub mod Granting
 pub mod Grounding
 pub mod Halting
 pub mod Handing
@@ -53,6 +58,7 @@ pub mod Resting
 pub mod Restoring
 pub mod Rounding
 pub mod Running
+pub mod Same
 pub mod Seating
 pub mod Serving
 pub mod Standing
@@ -63,6 +69,7 @@ pub mod Totalling
 pub mod Tracing
 pub mod Tracking
 pub mod Trading
+pub mod Trimming
 pub mod Turning
 pub mod Wanting
 pub mod Weighing

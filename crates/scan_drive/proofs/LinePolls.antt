@@ -142,12 +142,13 @@ module _ {O S R I : Type 0} (state : O → OpenerState I) (source : S → Source
   }
 
   -- what was given before a file at its place was given of files up to it
-  some_of : (log : List (ℕ × ℕ)) (m k n : ℕ) → SwapsInRange (length files) log → SwapsInRange m log → m ≤ k → n ≤ k → GivesBefore items limit (tells state source (exchanged log files)) n → GivesSome items limit (tells state source files) k n
-  some_of log m k n r w past le g = gives_some items limit (tells state source files) log m k n (subst (λ j. SwapsInRange j log) (sym (length-map files (tell state source))) r) w past le
-      (subst (λ (ts : List (Told I)). GivesBefore items limit ts n) (map_exchanged (tell state source) log files r) g)
+  some_of : (b : Bool) (log : List (ℕ × ℕ)) (m k n : ℕ) → SwapsInRange (length files) log → SwapsInRange m log → m ≤ k → n ≤ k → GivesBefore items b limit (tells state source (exchanged log files)) n → GivesSome items limit (tells state source files) k n
+  some_of b log m k n r w past le g = gives_some items limit (tells state source files) log m k n b (subst (λ j. SwapsInRange j log) (sym (length-map files (tell state source))) r) w past le
+      (subst (λ (ts : List (Told I)). GivesBefore items b limit ts n) (map_exchanged (tell state source) log files r) g)
 
-  pub known_wait : 0 < workers → (log : List (ℕ × ℕ)) (now new : List (ScanFile O S)) → SwapsInRange (length files) log → (IsLawful state source files c → ArePolledLate state items workers limit (tells state source (exchanged log files)) now new) → LineKnown log now → LineKnown log new
-  known_wait pos log now new r late h = record {
+  pub known_wait : (b : Bool) → 0 < workers → (log : List (ℕ × ℕ)) (now new : List (ScanFile O S)) → SwapsInRange (length files) log → (IsLawful state source files c → ArePolledLate state items b workers limit (tells state source (exchanged log files)) now new) →
+      LineKnown log now → LineKnown log new
+  known_wait b pos log now new r late h = record {
     edge = h.edge;
     within = h.within;
     gives = h.gives;
@@ -157,12 +158,12 @@ module _ {O S R I : Type 0} (state : O → OpenerState I) (source : S → Source
       go : IsLawful state source files c → (k : ℕ) (f : ScanFile O S) → h.edge ≤ k → (opener_at state (exchanged log files) k f).polled < (opener_at state new k f).polled →
           ((opener_at state now k f).polled ≤ (opener_at state (exchanged log files) k f).polled) ⊎ ((opener_at state (exchanged log files) k f).polled < (opener_at state now k f).polled) → GivesSome items limit (tells state source files) k (k + 1 - workers)
       go law k f past was (inr before) = h.later law k f past before
-      go law k f past was (inl le) = some_of log h.edge k (k + 1 - workers) r h.within past (omega (arith, pos)) (late law k f (omega (arith, le, was)))
+      go law k f past was (inl le) = some_of b log h.edge k (k + 1 - workers) r h.within past (omega (arith, pos)) (late law k f (omega (arith, le, was)))
 
   -- places are exchanged, up to which all that may wait had been given
-  pub known_line : 0 < workers → (log places : List (ℕ × ℕ)) (now : List (ScanFile O S)) (done last : ℕ) → length now ≡ length files → SwapsInRange (length files) log → SwapsInRange last places → last ≤ length files → last ≤ done + workers →
-      (IsLawful state source files c → GivesBefore items limit (tells state source (exchanged log files)) done) → LineKnown log now → LineKnown (log ++ places) (exchanged places now)
-  known_line pos log places now done last n r w there most g h = record {
+  pub known_line : (b : Bool) → 0 < workers → (log places : List (ℕ × ℕ)) (now : List (ScanFile O S)) (done last : ℕ) → length now ≡ length files → SwapsInRange (length files) log → SwapsInRange last places → last ≤ length files → last ≤ done + workers →
+      (IsLawful state source files c → GivesBefore items b limit (tells state source (exchanged log files)) done) → LineKnown log now → LineKnown (log ++ places) (exchanged places now)
+  known_line b pos log places now done last n r w there most g h = record {
     edge = top;
     within = range_append top log places (range_more h.edge top log (omega arith) h.within) range;
     gives = λ law k lt. subst (λ j. GivesSome items limit (tells state source files) j (j + 1 - workers)) (sym (placed_append log places k)) (front law (placed_by places k) (placed_below top places k range lt));
@@ -197,7 +198,7 @@ module _ {O S R I : Type 0} (state : O → OpenerState I) (source : S → Source
           go : (h.edge ≤ k) ⊎ (k < h.edge) → GivesSome items limit (tells state source files) (placed_by log k) (placed_by log k + 1 - workers)
           go (inr below) = h.gives law k below
           go (inl past) = subst (λ j. GivesSome items limit (tells state source files) j (j + 1 - workers)) (sym (placed_behind h.edge log k h.within past))
-              (some_of log h.edge k (k + 1 - workers) r h.within past (omega (arith, pos)) (gives_less items limit (tells state source (exchanged log files)) (k + 1 - workers) done (omega (arith, past, lt, most)) (g law)))
+              (some_of b log h.edge k (k + 1 - workers) r h.within past (omega (arith, pos)) (gives_less items b limit (tells state source (exchanged log files)) (k + 1 - workers) done (omega (arith, past, lt, most)) (g law)))
 
 -- ---- one exchange more
 module _ {O S W F I : Type 0} (state : O → OpenerState I) where

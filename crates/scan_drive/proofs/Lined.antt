@@ -1,5 +1,5 @@
 -- A drive in rounds since its start, of which places are exchanged after each answer of an opener.
-use Rattle.std.proofs.Common.{◌≡◌, ℕ, ◌+◌, ◌<◌, List, [], ◌∷◌, ◌++◌, length, Bool, true, refl, sym, ap, ◌∙◌, subst, arith}
+use Rattle.std.proofs.Common.{◌≡◌, ℕ, ◌<◌, List, [], ◌∷◌, ◌++◌, length, Bool, true, refl, sym, ap, ◌∙◌, subst, arith}
 use Rattle.std.specs.Prelude.{All, Option}
 use Rattle.std.specs.List.{swap}
 use Rattle.std.specs.List.Sorted.{SwapsInRange}
@@ -50,27 +50,27 @@ lawful_exchanged state source (s ∷ ss) a c r h = lawful_exchanged state source
 module _ {O S W R I F : Type 0} (state : O → OpenerState I) (polls : O → O → Type 0) (refuses : O → O → F → Type 0) (admits : O → O → List W → Type 0) (source : S → SourceState)
     (split : W → SplitState I) (comes : W → Arrivals → Store → Event → Type 0) (items : R → List I) (c0 : Cache) (d0 : Drive W R F) where
   -- a drive since its start, with the places that were exchanged
-  pub record Lined (ordered : Bool) (workers : ℕ) (files : List (ScanFile O S)) (log : List (ℕ × ℕ)) (b : List (ScanFile O S)) (ks : List Waiters) (c : Cache) (v : Drive W R F) : Type 0 where
+  pub record Lined (workers : ℕ) (files : List (ScanFile O S)) (log : List (ℕ × ℕ)) (b : List (ScanFile O S)) (ks : List Waiters) (c : Cache) (v : Drive W R F) : Type 0 where
     pub places : SwapsInRange (length files) log
-    pub order : ordered ≡ true → log ≡ []
+    pub order : d0.ordered ≡ true → log ≡ []
     pub runs : Runs state polls refuses admits source split comes items c0 d0 (exchanged log files) b ks c v
-    pub late : ordered ≡ true → IsLawful state source files c0 → ArePolledLate state items workers d0.left (tells state source files) files b
+    pub late : d0.ordered ≡ true → IsLawful state source files c0 → ArePolledLate state items d0.ordered workers d0.left (tells state source files) files b
     pub edge : LineEdge state log (exchanged log files) b
     pub known : LineKnown state source items workers d0.left c0 files log b
 
-  pub lined_start : (ordered : Bool) (workers : ℕ) (files : List (ScanFile O S)) (log : List (ℕ × ℕ)) (ks : List Waiters) → log ≡ [] → Starts (length files) d0.left d0 → HasRoom d0.left → All (IsIdle source) files → DesksAgree source files ks → Lined ordered workers files log files ks c0
+  pub lined_start : (workers : ℕ) (files : List (ScanFile O S)) (log : List (ℕ × ℕ)) (ks : List Waiters) → log ≡ [] → Starts (length files) d0.left d0 → HasRoom d0.left → All (IsIdle source) files → DesksAgree source files ks → Lined workers files log files ks c0
       d0
-  lined_start ordered workers files log ks none s room idle agree = subst (λ ss. Lined ordered workers files ss files ks c0 d0) (sym none) (record {
+  lined_start workers files log ks none s room idle agree = subst (λ ss. Lined workers files ss files ks c0 d0) (sym none) (record {
     places = tt;
     order = λ o. refl;
     runs = runs_start state polls refuses admits source split comes items c0 d0 (length files) d0.left files ks refl s room idle agree;
-    late = λ o law. late_first state items workers d0.left (tells state source files) files;
+    late = λ o law. late_first state items d0.ordered workers d0.left (tells state source files) files;
     edge = edge_start state files;
     known = known_start state source items workers d0.left c0 files;
   })
 
-  module _ (ordered : Bool) (workers : ℕ) (pos : 0 < workers) (files : List (ScanFile O S)) (log : List (ℕ × ℕ)) (b : List (ScanFile O S)) (ks : List Waiters) (c : Cache) (v : Drive W R F) (lim : limit_in split comes items d0 ≡ d0.left)
-      (h : Lined ordered workers files log b ks c v) where
+  module _ (workers : ℕ) (pos : 0 < workers) (files : List (ScanFile O S)) (log : List (ℕ × ℕ)) (b : List (ScanFile O S)) (ks : List Waiters) (c : Cache) (v : Drive W R F) (lim : limit_in split comes items d0 ≡ d0.left)
+      (h : Lined workers files log b ks c v) where
     a : List (ScanFile O S)
     a = exchanged log files
 
@@ -78,7 +78,7 @@ module _ {O S W R I F : Type 0} (state : O → OpenerState I) (polls : O → O �
     lined_lawful law = lawful_exchanged state source log files c0 h.places law
 
     -- where files are read in order, none has moved
-    pub lined_files : ordered ≡ true → exchanged log files ≡ files
+    pub lined_files : d0.ordered ≡ true → exchanged log files ≡ files
     lined_files o = ap (λ ss. exchanged ss files) (h.order o)
 
     told : tells state source b ≡ tells state source (exchanged log files)
@@ -90,35 +90,35 @@ module _ {O S W R I F : Type 0} (state : O → OpenerState I) (polls : O → O �
       (subst AllTell (sym told) l.tell, runs_sound state polls refuses admits source split comes items c0 d0 (exchanged log files) b ks c v h.runs l.cache, h.runs.order),
     ))
 
-    OnWait : List (ScanFile O S) → Type 0
-    OnWait e = PollsOn state items workers (limit_in split comes items v) (tells state source b) (CacheAgrees source b c × SoundInOrder split comes items (tells state source b) v) v.phases.items b e
+    later : (e : List (ScanFile O S)) → PollsOn state items v.ordered workers (limit_in split comes items v) (tells state source b) (CacheAgrees source b c × SoundInOrder split comes items (tells state source b) v) v.phases.items b e → IsLawful state source files c0 →
+        (start : List (ScanFile O S)) → ArePolledLate state items d0.ordered workers d0.left (tells state source (exchanged log files)) start b → ArePolledLate state items d0.ordered workers d0.left (tells state source (exchanged log files)) start e
+    later e on law =
+        subst (λ (x : Bool). (start : List (ScanFile O S)) → ArePolledLate state items x workers d0.left (tells state source (exchanged log files)) start b → ArePolledLate state items x workers d0.left (tells state source (exchanged log files)) start e) h.runs.ordered
+        (subst (λ (o : Option ℕ). (start : List (ScanFile O S)) → ArePolledLate state items v.ordered workers o (tells state source (exchanged log files)) start b → ArePolledLate state items v.ordered workers o (tells state source (exchanged log files)) start e) (h.runs.limit ∙ lim)
+        (subst (λ (ts : List (Told I)). (start : List (ScanFile O S)) → ArePolledLate state items v.ordered workers (limit_in split comes items v) ts start b → ArePolledLate state items v.ordered workers (limit_in split comes items v) ts start e) told (on.late (premise law))))
 
-    later : (e : List (ScanFile O S)) → PollsOn state items workers (limit_in split comes items v) (tells state source b) (CacheAgrees source b c × SoundInOrder split comes items (tells state source b) v) v.phases.items b e → IsLawful state source files c0 →
-        (start : List (ScanFile O S)) → ArePolledLate state items workers d0.left (tells state source (exchanged log files)) start b → ArePolledLate state items workers d0.left (tells state source (exchanged log files)) start e
-    later e on law = subst (λ (o : Option ℕ). (start : List (ScanFile O S)) → ArePolledLate state items workers o (tells state source (exchanged log files)) start b → ArePolledLate state items workers o (tells state source (exchanged log files)) start e) (h.runs.limit ∙ lim)
-        (subst (λ (ts : List (Told I)). (start : List (ScanFile O S)) → ArePolledLate state items workers (limit_in split comes items v) ts start b → ArePolledLate state items workers (limit_in split comes items v) ts start e) told (on.late (premise law)))
+    late_on : (e : List (ScanFile O S)) → PollsOn state items v.ordered workers (limit_in split comes items v) (tells state source b) (CacheAgrees source b c × SoundInOrder split comes items (tells state source b) v) v.phases.items b e →
+        d0.ordered ≡ true → IsLawful state source files c0 → ArePolledLate state items d0.ordered workers d0.left (tells state source files) files e
+    late_on e on o law = subst (λ ss. ArePolledLate state items d0.ordered workers d0.left (tells state source (exchanged ss files)) files b → ArePolledLate state items d0.ordered workers d0.left (tells state source (exchanged ss files)) files e) (h.order o) (later e on law files) (h.late o law)
 
-    late_on : (e : List (ScanFile O S)) → PollsOn state items workers (limit_in split comes items v) (tells state source b) (CacheAgrees source b c × SoundInOrder split comes items (tells state source b) v) v.phases.items b e → ordered ≡ true → IsLawful state source files c0 →
-        ArePolledLate state items workers d0.left (tells state source files) files e
-    late_on e on o law = subst (λ ss. ArePolledLate state items workers d0.left (tells state source (exchanged ss files)) files b → ArePolledLate state items workers d0.left (tells state source (exchanged ss files)) files e) (h.order o) (later e on law files) (h.late o law)
-
-    known_on : (e : List (ScanFile O S)) → PollsOn state items workers (limit_in split comes items v) (tells state source b) (CacheAgrees source b c × SoundInOrder split comes items (tells state source b) v) v.phases.items b e → LineKnown state source items workers d0.left c0 files log e
-    known_on e on = known_wait state source items workers d0.left c0 files pos log b e h.places (λ law. later e on law b (late_first state items workers d0.left (tells state source (exchanged log files)) b)) h.known
+    known_on : (e : List (ScanFile O S)) → PollsOn state items v.ordered workers (limit_in split comes items v) (tells state source b) (CacheAgrees source b c × SoundInOrder split comes items (tells state source b) v) v.phases.items b e →
+        LineKnown state source items workers d0.left c0 files log e
+    known_on e on = known_wait state source items workers d0.left c0 files d0.ordered pos log b e h.places (λ law. later e on law b (late_first state items d0.ordered workers d0.left (tells state source (exchanged log files)) b)) h.known
 
     -- how early openers were polled, after rounds that follow
-    pub polls_wait : (e : List (ScanFile O S)) → PollsOn state items workers (limit_in split comes items v) (tells state source b) (CacheAgrees source b c × SoundInOrder split comes items (tells state source b) v) v.phases.items b e →
-        LinePolls state source items ordered workers d0.left c0 files log e
+    pub polls_wait : (e : List (ScanFile O S)) → PollsOn state items v.ordered workers (limit_in split comes items v) (tells state source b) (CacheAgrees source b c × SoundInOrder split comes items (tells state source b) v) v.phases.items b e →
+        LinePolls state source items d0.ordered workers d0.left c0 files log e
     polls_wait e on = record {
       fit = on.fit (exchanged log files) h.runs.stand;
-      late = late_on e on;
+      late = λ o law. subst (λ x. ArePolledLate state items x workers d0.left (tells state source files) files e) o (late_on e on o law);
       line = edge_on state log (exchanged log files) b e on.grows h.edge;
       gives = known_gives state source items workers d0.left c0 files log e (known_on e on);
     }
 
-    pub polls_now : LinePolls state source items ordered workers d0.left c0 files log b
+    pub polls_now : LinePolls state source items d0.ordered workers d0.left c0 files log b
     polls_now = record {
       fit = runs_fit state polls refuses admits source split comes items c0 d0 (exchanged log files) b ks c v h.runs;
-      late = h.late;
+      late = λ o law. subst (λ x. ArePolledLate state items x workers d0.left (tells state source files) files b) o (h.late o law);
       line = h.edge;
       gives = known_gives state source items workers d0.left c0 files log b h.known;
     }
@@ -126,7 +126,7 @@ module _ {O S W R I F : Type 0} (state : O → OpenerState I) (polls : O → O �
     pub lined_wait : (e : List (ScanFile O S)) (ls : List Waiters) (d : Cache) (w : Drive W R F) → DesksAgree source e ls → EachMoves state polls source (CacheAgrees source b c × Sound split comes items (tells state source b) v) b e → FilesTrade source b e c d →
         GoesOn state polls refuses source split comes items 1 b e ls c v w → Goes source b e c d v.report w.report v.active.slots.items w.active.slots.items → KeepsRows items v.chunks.items w.chunks.items →
         KeepsGrounds state polls admits source b e c d v w →
-        PollsOn state items workers (limit_in split comes items v) (tells state source b) (CacheAgrees source b c × SoundInOrder split comes items (tells state source b) v) v.phases.items b e → Lined ordered workers files log e ls d w
+        PollsOn state items v.ordered workers (limit_in split comes items v) (tells state source b) (CacheAgrees source b c × SoundInOrder split comes items (tells state source b) v) v.phases.items b e → Lined workers files log e ls d w
     lined_wait e ls d w agree m t g bal rows grounds on = record {
       places = h.places;
       order = h.order;
@@ -149,34 +149,35 @@ module _ {O S W R I F : Type 0} (state : O → OpenerState I) (polls : O → O �
       pub line_unopened : unopened w.phases.items ≡ unopened v.phases.items
       line_unopened = ap unopened k.brings.rephased.phases_are ∙ unopened_exchanged k.brings.places v.phases.items range_phases
 
-      given_done : IsLawful state source files c0 → GivesBefore items d0.left (tells state source (exchanged log files)) k.done
+      given_done : IsLawful state source files c0 → GivesBefore items d0.ordered d0.left (tells state source (exchanged log files)) k.done
       given_done law =
           let l = lined_lawful law in
-          subst (λ (o : Option ℕ). GivesBefore items o (tells state source (exchanged log files)) k.done) (h.runs.limit ∙ lim)
-          (gives_done split comes items (tells state source (exchanged log files)) v k.done l.tell (h.runs.sound l.cache) h.runs.stands.below h.runs.stands.room h.runs.order k.is_done)
+          subst (λ (x : Bool). GivesBefore items x d0.left (tells state source (exchanged log files)) k.done) h.runs.ordered
+          (subst (λ (o : Option ℕ). GivesBefore items v.ordered o (tells state source (exchanged log files)) k.done) (h.runs.limit ∙ lim)
+          (gives_done split comes items (tells state source (exchanged log files)) v k.done l.tell (h.runs.sound l.cache) h.runs.stands.below h.runs.stands.room h.runs.order k.is_done))
 
-      both : Runs state polls refuses admits source split comes items c0 d0 (exchanged k.brings.places (exchanged log files)) (exchanged k.brings.places b) (exchanged k.brings.places ks) c w × LineEdge state (log ++ k.brings.places) (exchanged k.brings.places (exchanged log files))
-          (exchanged k.brings.places b)
-      both = runs_line state polls refuses admits source split comes items c0 d0 k.brings.places log (exchanged log files) b ks c v w k.brings.spare k.brings.rephased k.brings.none h.runs h.edge
+      none_joined : (v.ordered ≡ true → log' ≡ log) → d0.ordered ≡ true → log ++ k.brings.places ≡ []
+      none_joined same o = sym k.brings.log_is ∙ same (h.runs.ordered ∙ o) ∙ h.order o
+
+      both : (v.ordered ≡ true → log' ≡ log) → Runs state polls refuses admits source split comes items c0 d0 (exchanged k.brings.places (exchanged log files)) (exchanged k.brings.places b) (exchanged k.brings.places ks) c w ×
+          LineEdge state (log ++ k.brings.places) (exchanged k.brings.places (exchanged log files)) (exchanged k.brings.places b)
+      both same = runs_line state polls refuses admits source split comes items c0 d0 k.brings.places log (exchanged log files) b ks c v w k.brings.spare k.brings.rephased k.brings.none (λ o. nil_right log k.brings.places (none_joined same (sym h.runs.ordered ∙ o))) h.runs h.edge
 
       joined : exchanged k.brings.places (exchanged log files) ≡ exchanged (log ++ k.brings.places) files
       joined = sym (exchanged_append log k.brings.places files)
 
-      lined_there : (ordered ≡ true → log' ≡ log) → Lined ordered workers files (log ++ k.brings.places) (exchanged k.brings.places b) (exchanged k.brings.places ks) c w
+      lined_there : (v.ordered ≡ true → log' ≡ log) → Lined workers files (log ++ k.brings.places) (exchanged k.brings.places b) (exchanged k.brings.places ks) c w
       lined_there same = record {
         places = range_append (length files) log k.brings.places h.places range;
-        order = none_joined;
-        runs = subst (λ (xs : List (ScanFile O S)). Runs state polls refuses admits source split comes items c0 d0 xs (exchanged k.brings.places b) (exchanged k.brings.places ks) c w) joined both.0;
-        late = λ o law. subst (λ ss. ArePolledLate state items workers d0.left (tells state source files) files (exchanged ss b)) (sym (nil_right log k.brings.places (none_joined o))) (h.late o law);
-        edge = subst (λ (xs : List (ScanFile O S)). LineEdge state (log ++ k.brings.places) xs (exchanged k.brings.places b)) joined both.1;
-        known = known_line state source items workers d0.left c0 files pos log k.brings.places b k.done k.last count h.places k.brings.within (let x = k.there in let y = count in omega (arith, x, y)) k.most given_done h.known;
+        order = none_joined same;
+        runs = subst (λ (xs : List (ScanFile O S)). Runs state polls refuses admits source split comes items c0 d0 xs (exchanged k.brings.places b) (exchanged k.brings.places ks) c w) joined (both same).0;
+        late = λ o law. subst (λ ss. ArePolledLate state items d0.ordered workers d0.left (tells state source files) files (exchanged ss b)) (sym (nil_right log k.brings.places (none_joined same o))) (h.late o law);
+        edge = subst (λ (xs : List (ScanFile O S)). LineEdge state (log ++ k.brings.places) xs (exchanged k.brings.places b)) joined (both same).1;
+        known = known_line state source items workers d0.left c0 files d0.ordered pos log k.brings.places b k.done k.last count h.places k.brings.within (let x = k.there in let y = count in omega (arith, x, y)) k.most given_done h.known;
       }
-        where
-          none_joined : ordered ≡ true → log ++ k.brings.places ≡ []
-          none_joined o = sym k.brings.log_is ∙ same o ∙ h.order o
 
-      pub lined_line : (ordered ≡ true → log' ≡ log) → Lined ordered workers files log' b' ks' c w
+      pub lined_line : (v.ordered ≡ true → log' ≡ log) → Lined workers files log' b' ks' c w
       lined_line same =
-          subst (λ ss. Lined ordered workers files ss b' ks' c w) (sym k.brings.log_is)
-          (subst (λ (xs : List (ScanFile O S)). Lined ordered workers files (log ++ k.brings.places) xs ks' c w) (sym k.brings.files_are)
-          (subst (λ (xs : List Waiters). Lined ordered workers files (log ++ k.brings.places) (exchanged k.brings.places b) xs c w) (sym k.brings.desks_are) (lined_there same)))
+          subst (λ ss. Lined workers files ss b' ks' c w) (sym k.brings.log_is)
+          (subst (λ (xs : List (ScanFile O S)). Lined workers files (log ++ k.brings.places) xs ks' c w) (sym k.brings.files_are)
+          (subst (λ (xs : List Waiters). Lined workers files (log ++ k.brings.places) (exchanged k.brings.places b) xs c w) (sym k.brings.desks_are) (lined_there same)))

@@ -1,5 +1,5 @@
 -- A drive since its start, of which places are exchanged.
-use Rattle.std.proofs.Common.{◌≡◌, ℕ, ◌<◌, List, length, get_or, inl, inr, refl, sym, ap, ◌∙◌, subst}
+use Rattle.std.proofs.Common.{◌≡◌, ℕ, ◌<◌, List, length, get_or, true, inl, inr, refl, sym, ◌∙◌, subst}
 use Rattle.std.specs.Prelude.{◌⊎◌, All, Option, None}
 use Rattle.scan_segments.specs.Source.{SourceState, Store}
 use Rattle.scan_splits.specs.Arrivals.{Arrivals}
@@ -10,7 +10,8 @@ use Rattle.scan_drive.specs.Desks.{Waiters}
 use Rattle.scan_drive.specs.Drives.{DesksAgree, EachLinked, IsIdle}
 use Rattle.scan_drive.specs.Drivings.{WasAdmitted}
 use Rattle.scan_drive.specs.Ends.{Stops, limit_in}
-use Rattle.scan_drive.specs.Files.{Told, AllTell, answer, limited, count}
+use Rattle.scan_drive.specs.Files.{Told, AllTell, answer, count}
+use Rattle.scan_drive.specs.Grants.{AreGiven}
 use Rattle.scan_drive.specs.Grounds.{Grounded, At, IsGround, KeepsGrounds, AdmitsAll, EndsGrounded}
 use Rattle.scan_drive.specs.Moves.{EachMoves, HoldsWhy, tell, tells}
 use Rattle.scan_drive.specs.Openers.{OpenerState, IsRefused}
@@ -57,6 +58,7 @@ module _ {O S W R I F : Type 0} (state : O → OpenerState I) (polls : O → O �
     pub why : AreRefused a b v.phases.items
     pub sound : CacheAgrees source a c0 → Sound split comes items (tells state source a) v
     pub order : InOrder v
+    pub ordered : v.ordered ≡ d0.ordered
     pub stand : PollsStand state a b v.phases.items
 
   pub runs_start : (n : ℕ) (limit : Option ℕ) (a : List (ScanFile O S)) (ks : List Waiters) → n ≡ length a → Starts n limit d0 → HasRoom limit → All (IsIdle source) a → DesksAgree source a ks → Runs a a ks c0 d0
@@ -73,6 +75,7 @@ module _ {O S W R I F : Type 0} (state : O → OpenerState I) (polls : O → O �
     why = λ k why is f. (let bad : phase.Unopened ≡ phase.Held why = sym (s.shut k) ∙ is in absurd cc);
     sound = λ h. starts_sound n limit d0 s split comes items (tells state source a) (length-map a (tell state source) ∙ sym n_is);
     order = rises_none d0.first d0.active.turns.items d0.active.slots.items s.turns;
+    ordered = refl;
     stand = stand_first state a d0.phases.items s.shut;
   }
 
@@ -118,6 +121,7 @@ module _ {O S W R I F : Type 0} (state : O → OpenerState I) (polls : O → O �
       why = why_after (CacheAgrees source b c × Sound split comes items (tells state source b) v) e w.phases.items m g.why;
       sound = λ h. subst (λ (ts : List (Told I)). Sound split comes items ts w) runs_told (g.sound (r.trades.agrees h) (runs_sound h));
       order = g.order r.order;
+      ordered = g.ordered ∙ r.ordered;
       stand = g.polled a r.stand;
     }
 
@@ -135,11 +139,13 @@ module _ {O S W R I F : Type 0} (state : O → OpenerState I) (polls : O → O �
     pub runs_ends : (e : List (ScanFile O S)) (ls : List Waiters) (d : Cache) (w : Drive W R F) → RunEnds source (limit_in split comes items v) b e ls c d v w → RunEnds source (limit_in split comes items d0) a e ls c0 d d0 w
     runs_ends e ls d w k = run_end source (limit_in split comes items d0) (limit_in split comes items v) a b e ls c0 c d d0 v w r.moves.len r.limit r.keeps k
 
-    pub runs_done : (w : Drive W R F) → (CacheAgrees source b c → AllTell (tells state source b) → Sound split comes items (tells state source b) v → given items w.chunks.items ≡ limited (limit_in split comes items v) (answer (tells state source b))) →
-        (limit : Option ℕ) → limit_in split comes items d0 ≡ limit → IsLawful state source a c0 → given items w.chunks.items ≡ limited limit (answer (tells state source a))
+    pub runs_done : (w : Drive W R F) → (CacheAgrees source b c → AllTell (tells state source b) → Sound split comes items (tells state source b) v → AreGiven v.ordered (limit_in split comes items v) (answer (tells state source b)) (given items w.chunks.items)) →
+        (limit : Option ℕ) → limit_in split comes items d0 ≡ limit → IsLawful state source a c0 → AreGiven d0.ordered limit (answer (tells state source a)) (given items w.chunks.items)
     runs_done w done limit is law =
-        done (r.trades.agrees law.cache) (subst AllTell (sym runs_told) law.tell) (runs_sound law.cache)
-        ∙ ap (λ l. limited l (answer (tells state source b))) (r.limit ∙ is) ∙ ap (λ (ts : List (Told I)). limited limit (answer ts)) runs_told
+        subst (λ (ts : List (Told I)). AreGiven d0.ordered limit (answer ts) (given items w.chunks.items)) runs_told
+        (subst (λ l. AreGiven d0.ordered l (answer (tells state source b)) (given items w.chunks.items)) (r.limit ∙ is)
+        (subst (λ o. AreGiven o (limit_in split comes items v) (answer (tells state source b)) (given items w.chunks.items)) r.ordered
+        (done (r.trades.agrees law.cache) (subst AllTell (sym runs_told) law.tell) (runs_sound law.cache))))
 
     pub runs_opened : (e : List (ScanFile O S)) → AdmitsAll state polls admits source b e c v → d0.left ≡ None → (k : ℕ) → k < length a → At a e (WasAdmitted state polls admits) k
     runs_opened e h none = h a c0 r.grounded (left_none (count (given items v.chunks.items)) (count (given items d0.chunks.items)) v.left d0.left r.limit none)
@@ -148,11 +154,11 @@ module _ {O S W R I F : Type 0} (state : O → OpenerState I) (polls : O → O �
     runs_ground e x h = h a c0 r.grounded
 
     -- what stands before a fault, where the first files are these
-    pub runs_before : (x : RoundFault F) → (CacheAgrees source b c → SoundInOrder split comes items (tells state source b) v → StopsBefore items (limit_in split comes items v) (tells state source b) x) →
-        (limit : Option ℕ) → limit_in split comes items d0 ≡ limit → IsLawful state source a c0 → StopsBefore items limit (tells state source a) x
-    runs_before x h limit is law =
+    pub runs_before : (x : RoundFault F) → (v.ordered ≡ true → CacheAgrees source b c → SoundInOrder split comes items (tells state source b) v → StopsBefore items (limit_in split comes items v) (tells state source b) x) →
+        (limit : Option ℕ) → limit_in split comes items d0 ≡ limit → d0.ordered ≡ true → IsLawful state source a c0 → StopsBefore items limit (tells state source a) x
+    runs_before x h limit is o law =
         subst (λ (ts : List (Told I)). StopsBefore items limit ts x) runs_told (subst (λ o. StopsBefore items o (tells state source b) x) (r.limit ∙ is)
-        (h (r.trades.agrees law.cache) (subst AllTell (sym runs_told) law.tell, runs_sound law.cache, r.order)))
+        (h (r.ordered ∙ o) (r.trades.agrees law.cache) (subst AllTell (sym runs_told) law.tell, runs_sound law.cache, r.order)))
 
     pub runs_fit : PollsFit state a b
     runs_fit = stand_fit state a b v.phases.items r.stand
@@ -165,5 +171,5 @@ module _ {O S W R I F : Type 0} (state : O → OpenerState I) (polls : O → O �
       why = λ k why is. inr (λ f. r.why k why is f);
       held = tt;
       sound = λ h z. r.sound h;
-      stops = λ h z. (tt, tt);
+      stops = λ h z. tt;
     }

@@ -1,5 +1,5 @@
 -- Rounds, one after the other.
-use Rattle.std.proofs.Common.{◌≡◌, ℕ, List, length, get_or, inl, inr, refl, sym, ap, ◌∙◌, subst, arith}
+use Rattle.std.proofs.Common.{◌≡◌, ℕ, List, length, get_or, inl, inr, refl, sym, ◌∙◌, subst, arith}
 use Rattle.std.specs.Prelude.{◌⊎◌}
 use Rattle.scan_segments.specs.Source.{SourceState, Store}
 use Rattle.scan_splits.specs.Arrivals.{Arrivals}
@@ -8,7 +8,8 @@ use Rattle.scan_drive.specs.Chunks.{given}
 use Rattle.scan_drive.specs.Desks.{Waiters}
 use Rattle.scan_drive.specs.Drives.{EachLinked}
 use Rattle.scan_drive.specs.Ends.{Stops, limit_in}
-use Rattle.scan_drive.specs.Files.{Told, AllTell, answer, limited}
+use Rattle.scan_drive.specs.Files.{Told, AllTell, answer}
+use Rattle.scan_drive.specs.Grants.{AreGiven}
 use Rattle.scan_drive.specs.Moves.{EachMoves, HoldsWhy, tells}
 use Rattle.scan_drive.specs.Openers.{OpenerState, IsRefused}
 use Rattle.scan_drive.specs.Phases.{phase_at}
@@ -24,6 +25,7 @@ use Rattle.scan_drive.specs.declared.phase.Phase.TheVariants as phase
 use Rattle.scan_drive.specs.declared.round.Drive.{Drive}
 use Rattle.scan_drive.specs.declared.settling.RoundFault.{RoundFault}
 use Rattle.scan_drive.proofs.Moving.{opens_then, each_then, each_under, tells_stay}
+use Rattle.scan_drive.proofs.Same.{given_along}
 use Rattle.scan_drive.proofs.Tracking.{stand_fit}
 
 module _ {O S W I R F : Type 0} (state : O → OpenerState I) (polls : O → O → Type 0) (refuses : O → O → F → Type 0) (source : S → SourceState) (split : W → SplitState I) (comes : W → Arrivals → Store → Event → Type 0) (items : R → List I) where
@@ -49,7 +51,7 @@ module _ {O S W I R F : Type 0} (state : O → OpenerState I) (polls : O → O �
   Agrees files c d = CacheAgrees source files c × Sound split comes items (tells state source files) d
 
   pub goes_self : (files : List (ScanFile O S)) (desks : List Waiters) (c : Cache) (d : Drive W R F) → Stands (length files) d → EachLinked desks d.active.slots.items → GoesOn state polls refuses source split comes items 0 files files desks c d d
-  goes_self files desks c d s l = record { stands = s; links = l; limit = refl; opened = omega arith; why = λ k w is. inl is; sound = λ h x. x; order = λ h. h; polled = λ start h. h }
+  goes_self files desks c d s l = record { stands = s; links = l; limit = refl; opened = omega arith; why = λ k w is. inl is; sound = λ h x. x; order = λ h. h; ordered = refl; polled = λ start h. h }
 
   -- what was sound at first is so later, in the words of the files as they are then
   sound_now : (P : Type 0) (a b : List (ScanFile O S)) (desks : List Waiters) (c : Cache) (n : ℕ) (d e : Drive W R F) → EachMoves state polls source P a b
@@ -68,6 +70,7 @@ module _ {O S W I R F : Type 0} (state : O → OpenerState I) (polls : O → O �
     why = why_then P Q a b e d0.phases.items d1.phases.items d2.phases.items m k p.why q.why;
     sound = λ h s. subst (λ (ts : List (Told I)). Sound split comes items ts d2) (tells_stay state polls source P a b m) (q.sound (t.agrees h) (sound_now P a b desks c 0 d0 d1 m p h s));
     order = λ h. q.order (p.order h);
+    ordered = q.ordered ∙ p.ordered;
     polled = λ start h. q.polled start (p.polled start h);
   }
 
@@ -78,13 +81,14 @@ module _ {O S W I R F : Type 0} (state : O → OpenerState I) (polls : O → O �
 
   pub done_round : (P : Type 0) (a b : List (ScanFile O S)) (desks : List Waiters) (c : Cache) (d0 d1 d2 : Drive W R F) → EachMoves state polls source P a b
       → GoesOn state polls refuses source split comes items 0 a b desks c d0 d1
-      → (AllTell (tells state source b) → Sound split comes items (tells state source b) d1 → given items d2.chunks.items ≡ limited (limit_in split comes items d1) (answer (tells state source b))) →
-      CacheAgrees source a c → AllTell (tells state source a) → Sound split comes items (tells state source a) d0 → given items d2.chunks.items ≡ limited (limit_in split comes items d0) (answer (tells state source a))
+      → (AllTell (tells state source b) → Sound split comes items (tells state source b) d1 → AreGiven d1.ordered (limit_in split comes items d1) (answer (tells state source b)) (given items d2.chunks.items)) →
+      CacheAgrees source a c → AllTell (tells state source a) → Sound split comes items (tells state source a) d0
+      → AreGiven d0.ordered (limit_in split comes items d0) (answer (tells state source a)) (given items d2.chunks.items)
   done_round P a b desks c d0 d1 d2 m g done h all s =
       let t = tells_stay state polls source P a b m in
-      done (subst AllTell (sym t) all) (sound_now P a b desks c 0 d0 d1 m g h s)
-      ∙ ap (λ l. limited l (answer (tells state source b))) g.limit
-      ∙ ap (λ ts. limited (limit_in split comes items d0) (answer ts)) t
+      let now = done (subst AllTell (sym t) all) (sound_now P a b desks c 0 d0 d1 m g h s) in
+      let was = given_along d0.ordered d1.ordered (limit_in split comes items d0) (limit_in split comes items d1) (answer (tells state source b)) (given items d2.chunks.items) g.ordered g.limit now in
+      subst (λ (ts : List (Told I)). AreGiven d0.ordered (limit_in split comes items d0) (answer ts) (given items d2.chunks.items)) t was
 
   pub stops_round : (P Q : Type 0) (a b e : List (ScanFile O S)) (desks : List Waiters) (c : Cache) (d0 d1 d2 : Drive W R F) (x : RoundFault F) → EachMoves state polls source P a b
       → EachMoves state polls source Q b e → GoesOn state polls refuses source split comes items 0 a b desks c d0 d1 → StopsIn state polls refuses source split comes items b e d1 d2 x
@@ -106,22 +110,23 @@ module _ {O S W I R F : Type 0} (state : O → OpenerState I) (polls : O → O �
   order_now P a b desks c n d e m g h s = (subst AllTell (sym (tells_stay state polls source P a b m)) s.0, sound_now P a b desks c n d e m g h s.1, g.order s.2)
 
   -- polls of openers, in rounds that follow others
-  pub polls_none : (workers : ℕ) (P : Type 0) (a : List (ScanFile O S)) (d : Drive W R F) → PollsOn state items workers (limit_in split comes items d) (tells state source a) P d.phases.items a a
+  pub polls_none : (workers : ℕ) (P : Type 0) (a : List (ScanFile O S)) (d : Drive W R F) → PollsOn state items d.ordered workers (limit_in split comes items d) (tells state source a) P d.phases.items a a
   polls_none workers P a d = record { grows = λ k f. omega arith; fit = λ start h. stand_fit state start a d.phases.items h; late = λ p start h. h }
 
   pub polls_then : (workers : ℕ) (P Q N : Type 0) (a b e : List (ScanFile O S)) (desks : List Waiters) (c : Cache) (d0 d1 : Drive W R F) → EachMoves state polls source N a b → GoesOn state polls refuses source split comes items 0 a b desks c d0 d1 → (P → Q) →
-      PollsOn state items workers (limit_in split comes items d0) (tells state source a) P d0.phases.items a b → PollsOn state items workers (limit_in split comes items d1) (tells state source b) Q d1.phases.items b e → PollsOn state items workers (limit_in split comes items d0)
-      (tells state source a) P d0.phases.items a e
+      PollsOn state items d0.ordered workers (limit_in split comes items d0) (tells state source a) P d0.phases.items a b → PollsOn state items d1.ordered workers (limit_in split comes items d1) (tells state source b) Q d1.phases.items b e
+      → PollsOn state items d0.ordered workers (limit_in split comes items d0) (tells state source a) P d0.phases.items a e
   polls_then workers P Q N a b e desks c d0 d1 m g w p q = record {
     grows = λ k f. (let x = p.grows k f in let y = q.grows k f in omega (arith, x, y));
     fit = λ start h. q.fit start (g.polled start h);
     late = λ h start l. r.late (w h) start (p.late h start l);
   }
     where
-      r : PollsOn state items workers (limit_in split comes items d0) (tells state source a) Q d1.phases.items b e
+      r : PollsOn state items d0.ordered workers (limit_in split comes items d0) (tells state source a) Q d1.phases.items b e
       r =
-          subst (λ (ts : List (Told I)). PollsOn state items workers (limit_in split comes items d0) ts Q d1.phases.items b e) (tells_stay state polls source N a b m)
-          (subst (λ o. PollsOn state items workers o (tells state source b) Q d1.phases.items b e) g.limit q)
+          subst (λ (ts : List (Told I)). PollsOn state items d0.ordered workers (limit_in split comes items d0) ts Q d1.phases.items b e) (tells_stay state polls source N a b m)
+          (subst (λ o. PollsOn state items d0.ordered workers o (tells state source b) Q d1.phases.items b e) g.limit
+          (subst (λ f. PollsOn state items f workers (limit_in split comes items d1) (tells state source b) Q d1.phases.items b e) g.ordered q))
 
   -- what stands before a fault, in the words of the first state
   pub before_then : (N : Type 0) (a b : List (ScanFile O S)) (desks : List Waiters) (c : Cache) (d0 d1 : Drive W R F) (x : RoundFault F) → EachMoves state polls source N a b → GoesOn state polls refuses source split comes items 0 a b desks c d0 d1 →

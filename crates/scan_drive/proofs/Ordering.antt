@@ -34,7 +34,7 @@ module _ {W R : Type 0} where
   rises_snoc i last [] place slots e h = let b : i ≤ last = h in (omega (arith, b, e), omega (arith, e))
   rises_snoc i last (p ∷ ps) place slots e h = (h.0, rises_snoc (slot_at slots p).file last ps place slots e h.1)
 
-  rises_later : (i last p : ℕ) (ps : List ℕ) (slots : List (Slot W R)) → Rises i last (p ∷ ps) slots → Rises i last ps slots
+  pub rises_later : (i last p : ℕ) (ps : List ℕ) (slots : List (Slot W R)) → Rises i last (p ∷ ps) slots → Rises i last ps slots
   rises_later i last p ps slots h = rises_from (slot_at slots p).file i last ps slots h.0 h.1
 
   pub rises_ends : (i last : ℕ) (ps : List ℕ) (slots : List (Slot W R)) → Rises i last ps slots → i ≤ last

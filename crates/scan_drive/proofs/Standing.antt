@@ -4,12 +4,13 @@ use Rattle.std.specs.Prelude.{◌⊎◌, IsSome}
 use Rattle.scan_values.specs.Selections.{is_among}
 use Rattle.scan_segments.specs.Source.{SourceState, Store}
 use Rattle.scan_splits.specs.Arrivals.{Arrivals}
-use Rattle.scan_drive.specs.Actives.{AreSeats, EachOk, SlotOk, AllOk, groups_in, Keeps}
+use Rattle.scan_drive.specs.Actives.{AreSeats, EachOk, SlotOk, AllOk, groups_in, Keeps, groups_left}
 use Rattle.scan_drive.specs.Asks.{LinkedBut, EachLinkedBut}
 use Rattle.scan_drive.specs.Chunks.{given, IsMore, IsCut, IsDeliverFault}
 use Rattle.scan_drive.specs.Desks.{Waiters, waits}
 use Rattle.scan_drive.specs.Drives.{desk_at, EachLinked, FilesWithin, SourcesMove, SlotsKeep}
-use Rattle.scan_drive.specs.Files.{Part, Group, grouped, over, Told, told_at, untold, IfTold, AllTell}
+use Rattle.scan_drive.specs.Grants.{AreSame, AreGiven}
+use Rattle.scan_drive.specs.Files.{Part, grouped, over, Told, told_at, untold, IfTold, AllTell}
 use Rattle.scan_drive.specs.Links.{Linked}
 use Rattle.scan_drive.specs.Looks.{FoundWaits, EachPolled, WaitsForAll, is_ended}
 use Rattle.scan_drive.specs.Lost.{EndsBy}
@@ -289,32 +290,37 @@ module _ {W I R : Type 0} (split : W → SplitState I) (comes : W → Arrivals �
   pub links_new : (asking : List ℕ) (desks : List Waiters) (old mid new : List (Slot W R)) → EachPolled split comes items asking old mid → ((q : ℕ) → IsGone (slot_at mid q) (slot_at new q)) → EachLinked desks old → EachLinkedBut asking desks new
   links_new asking desks old mid new p g l = but_gone asking desks mid new g (but_polled asking desks old mid p l)
 
-  pub more_mid : (old mid new : Active W R) (chunks chunks' : List (Chunk R)) (left left' : Option ℕ) → ((tale : List (Told I)) → Keeps split comes items tale old.turns.items old.slots.items mid.slots.items) → mid.turns ≡ old.turns → ((q : ℕ) →
-      (slot_at mid.slots.items q).file ≡ (slot_at old.slots.items q).file) → IsMore split comes items mid new chunks chunks' left left' → IsMore split comes items old new chunks chunks' left left'
-  more_mid old mid new chunks chunks' left left' k t f m = record {
-    groups = λ tale all ok.
-        m.groups tale all (subst (λ ts. EachOk split comes items tale ts.items mid.slots.items) (sym t) ((k tale).ok ok))
-        ∙ ap (λ gs. given items chunks ++ gs) (ap (λ ts. groups_in split comes items tale ts.items mid.slots.items) t ∙ (k tale).left all ok);
+  pub more_mid : (b : Bool) (old mid new : Active W R) (chunks chunks' : List (Chunk R)) (left left' : Option ℕ) → ((tale : List (Told I)) → Keeps split comes items tale old.turns.items old.slots.items mid.slots.items) → mid.turns ≡ old.turns → ((q : ℕ) →
+      (slot_at mid.slots.items q).file ≡ (slot_at old.slots.items q).file) → IsMore split comes items b mid new chunks chunks' left left' → IsMore split comes items b old new chunks chunks' left left'
+  more_mid b old mid new chunks chunks' left left' k t f m = record {
+    groups = λ tale all ok. subst (AreSame b (given items chunks' ++ groups_left split comes items tale new))
+        (ap (λ gs. given items chunks ++ gs) (ap (λ ts. groups_in split comes items tale ts.items mid.slots.items) t ∙ (k tale).left all ok))
+        (m.groups tale all (subst (λ ts. EachOk split comes items tale ts.items mid.slots.items) (sym t) ((k tale).ok ok)));
     counts = m.counts;
     order = order_then old mid new (order_files old mid (λ i. (t i).items) f) m.order;
   }
 
-  pub cut_mid : (old mid : Active W R) (chunks chunks' : List (Chunk R)) (left : Option ℕ) → ((tale : List (Told I)) → Keeps split comes items tale old.turns.items old.slots.items mid.slots.items)
-      → mid.turns ≡ old.turns → IsCut split comes items mid chunks chunks' left → IsCut split comes items old chunks chunks' left
-  cut_mid old mid chunks chunks' left k t c = record {
+  pub cut_mid : (b : Bool) (old mid : Active W R) (chunks chunks' : List (Chunk R)) (left : Option ℕ) → ((tale : List (Told I)) → Keeps split comes items tale old.turns.items old.slots.items mid.slots.items)
+      → mid.turns ≡ old.turns → IsCut split comes items b mid chunks chunks' left → IsCut split comes items b old chunks chunks' left
+  cut_mid b old mid chunks chunks' left k t c = record {
     most = c.most;
     was = c.was;
-    groups = λ tale all ok later.
-        c.groups tale all (subst (λ ts. EachOk split comes items tale ts.items mid.slots.items) (sym t) ((k tale).ok ok)) later
-        ∙ ap (λ gs. Rattle.scan_drive.specs.Files.cut c.most (given items chunks ++ (gs ++ later))) (ap (λ ts. groups_in split comes items tale ts.items mid.slots.items) t ∙ (k tale).left all ok);
+    met = c.met;
+    groups = λ tale all ok later. subst (λ all. AreGiven b (Some c.most) all (given items chunks'))
+        (ap (λ gs. given items chunks ++ (gs ++ later)) (ap (λ ts. groups_in split comes items tale ts.items mid.slots.items) t ∙ (k tale).left all ok))
+        (c.groups tale all (subst (λ ts. EachOk split comes items tale ts.items mid.slots.items) (sym t) ((k tale).ok ok)) later);
   }
 
   pub fault_mid : (old mid new : Active W R) (chunks chunks' : List (Chunk R)) (left left' : Option ℕ) → ((tale : List (Told I)) → Keeps split comes items tale old.turns.items old.slots.items mid.slots.items) → mid.turns ≡ old.turns → ((q : ℕ) →
       (slot_at mid.slots.items q).file ≡ (slot_at old.slots.items q).file) → (e : DriveFault) → IsDeliverFault split comes items mid new chunks chunks' left left' e → IsDeliverFault split comes items old new chunks chunks' left left' e
   fault_mid old mid new chunks chunks' left left' k t f fault.NoMemory h = tt
-  fault_mid old mid new chunks chunks' left left' k t f (fault.Source file id) h = record { turn = h.turn; more = more_mid old mid new chunks chunks' left left' k t f h.more }
-  fault_mid old mid new chunks chunks' left left' k t f (fault.Corrupt file id) h = record { turn = h.turn; more = more_mid old mid new chunks chunks' left left' k t f h.more }
-  fault_mid old mid new chunks chunks' left left' k t f (fault.Overflow file) h = record { turn = h.turn; more = more_mid old mid new chunks chunks' left left' k t f h.more }
+  fault_mid old mid new chunks chunks' left left' k t f (fault.Source file id) h = record { turn = h.turn; more = more_mid true old mid new chunks chunks' left left' k t f h.more }
+  fault_mid old mid new chunks chunks' left left' k t f (fault.Corrupt file id) h = record { turn = h.turn; more = more_mid true old mid new chunks chunks' left left' k t f h.more }
+  fault_mid old mid new chunks chunks' left left' k t f (fault.Overflow file) h = record { turn = h.turn; more = more_mid true old mid new chunks chunks' left left' k t f h.more }
+
+  -- splits that were polled are of the same files
+  pub files_mid : (asking : List ℕ) (old mid : List (Slot W R)) (n : ℕ) → EachPolled split comes items asking old mid → FilesWithin n old → FilesWithin n mid
+  files_mid asking old mid n p w = within_advances split n old mid (all_polled split comes items asking old mid p) w
 
   pub ok_mid : (tale : List (Told I)) (old mid : Active W R) → Keeps split comes items tale old.turns.items old.slots.items mid.slots.items → mid.turns ≡ old.turns → AllOk split comes items tale old → AllOk split comes items tale mid
   ok_mid tale old mid k t ok = subst (λ ts. EachOk split comes items tale ts.items mid.slots.items) (sym t) (k.ok ok)

@@ -8,12 +8,13 @@ use Rattle.scan_segments.specs.Source.{SourceState, Store, none_live}
 use Rattle.scan_splits.specs.Arrivals.{Arrivals}
 use Rattle.scan_drive.specs.Accounts.{AllServed, RunEnds}
 use Rattle.scan_drive.specs.Actives.{groups_left, groups_in}
-use Rattle.scan_drive.specs.Chunks.{given, limit_of, HasRoom, HasRow}
+use Rattle.scan_drive.specs.Budgets.{IsBudget}
+use Rattle.scan_drive.specs.Chunks.{given, limit_of, HasRoom, HasRow, IsOf}
 use Rattle.scan_drive.specs.Desks.{Waiters, waiters_at, is_in, waits, Agree, IsAwaited}
 use Rattle.scan_drive.specs.Drives.{desk_at, EachLinked, DesksAgree, IsIdle, SourcesMove, NoneOf}
 use Rattle.scan_drive.specs.Drivings.{PollsEnd}
 use Rattle.scan_drive.specs.Ends.{limit_in}
-use Rattle.scan_drive.specs.Files.{Told, told_at, answer_from, part_groups, count}
+use Rattle.scan_drive.specs.Files.{Told, told_at, answer, answer_from, part_groups, count}
 use Rattle.scan_drive.specs.Ledger.{Ledger, books_of, FilesKeepLedger, KeepsAllBalance}
 use Rattle.scan_drive.specs.Losses.{FilesBalance}
 use Rattle.scan_drive.specs.Measures.{is_there}
@@ -41,6 +42,7 @@ use Rattle.scan_drive.proofs.Desking.{no_ids}
 use Rattle.scan_drive.proofs.Filing.{balance_starts}
 use Rattle.scan_drive.proofs.Halting.{round_balance, round_any}
 use Rattle.scan_drive.proofs.Moving.{moves_none}
+use Rattle.scan_drive.proofs.Same.{same_is}
 use Rattle.scan_drive.proofs.Reckoning.{SameNames, ends_report, ends_puts}
 use Rattle.scan_drive.proofs.Trading.{agrees_same}
 
@@ -80,6 +82,7 @@ module _ {W R F : Type 0} (n : ℕ) (limit : Option ℕ) (d : Drive W R F) (s : 
       news = λ place h. (let bad : false ≡ true = sym (ap is_fresh (none_there place)) ∙ h in absurd cc);
     };
     room = subst HasRoom (sym s.left) room;
+    budget = subst (λ l. IsBudget d.ordered l d.budget) (sym s.left) s.budget;
   }
 
   pub starts_linked : {O S : Type 0} (source : S → SourceState) (files : List (ScanFile O S)) (desks : List Waiters) → All (IsIdle source) files → DesksAgree source files desks → EachLinked desks d.active.slots.items
@@ -111,10 +114,10 @@ module _ {W R F : Type 0} (n : ℕ) (limit : Option ℕ) (d : Drive W R F) (s : 
         within = (let t = s.tally.0 in omega (arith, t));
         sum = λ all. s.tally.1 ∙ sym (ap (λ k. rows_of (take k tale)) s.tally.0);
       };
-      sums = λ all.
+      sums = λ all. same_is d.ordered (given items d.chunks.items ++ (groups_left split comes items tale d.active ++ rest split comes tale d.phases.items)) (answer tale) (
           ap (λ chunks. given items chunks ++ (groups_left split comes items tale d.active ++ rest split comes tale d.phases.items)) s.chunks
           ∙ ap (λ turns. groups_in split comes items tale turns d.active.slots.items ++ rest split comes tale d.phases.items) s.turns
-          ∙ rest_shut 0 tale d.phases.items (s.lens ∙ sym l) s.shut;
+          ∙ rest_shut 0 tale d.phases.items (s.lens ∙ sym l) s.shut);
     }
 
     none_given : (o : Option ℕ) → limit_of 0 o ≡ o
@@ -123,6 +126,9 @@ module _ {W R F : Type 0} (n : ℕ) (limit : Option ℕ) (d : Drive W R F) (s : 
 
     pub starts_limit : limit_in split comes items d ≡ limit
     starts_limit = ap (λ chunks. limit_of (count (given items chunks)) d.left) s.chunks ∙ none_given d.left ∙ s.left
+
+  starts_none : All (IsOf d.tally.files) d.chunks.items
+  starts_none = subst (All (IsOf d.tally.files)) (sym s.chunks) (All-nil (IsOf d.tally.files))
 
   -- nothing has come, and nothing was asked
   pub starts_grounded : {O S I : Type 0} (state : O → OpenerState I) (polls : O → O → Type 0) (admits : O → O → List W → Type 0) (source : S → SourceState) (split : W → SplitState I) (comes : W → Arrivals → Store → Event → Type 0) (items : R → List I)
@@ -137,6 +143,7 @@ module _ {W R F : Type 0} (n : ℕ) (limit : Option ℕ) (d : Drive W R F) (s : 
       queued = λ k lt. (let t = s.tally.0 in absurd (omega (arith, t, lt)));
     };
     quiet = λ k le f. refl;
+    given = starts_none;
     rows = record {
       rows = λ k. subst (RowsOk (told_at (tells state source files) k)) (sym (s.shut k)) tt;
       tally = (starts_sound split comes items (tells state source files) (length-map files (tell state source) ∙ sym is)).tally;

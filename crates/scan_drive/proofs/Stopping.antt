@@ -77,7 +77,7 @@ module _ {O S W I R F : Type 0} (state : O → OpenerState I) (polls : O → O �
     stops_drive (why.Split (fault.Corrupt k id)) before ground run = record {
       there = ground.there;
       fact = λ f. (let x = ground.fact f in record {
-        bad = λ h. told_of (λ p store. p.bad store id ≡ true) k ground.there (run.stops h sound).1 f;
+        bad = λ h. told_of (λ p store. p.bad store id ≡ true) k ground.there (run.stops h sound) f;
         came = x.0;
         admitted = x.1;
       });
@@ -85,7 +85,7 @@ module _ {O S W I R F : Type 0} (state : O → OpenerState I) (polls : O → O �
     }
     stops_drive (why.Split (fault.Overflow k)) before ground run = record {
       there = ground;
-      fact = λ f h. told_of (λ p store. p.overflow store ≡ true) k ground (run.stops h sound).1 f;
+      fact = λ f h. told_of (λ p store. p.overflow store ≡ true) k ground (run.stops h sound) f;
       before = before;
     }
     stops_drive (why.TooManyRows k) before ground run = (

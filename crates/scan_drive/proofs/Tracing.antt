@@ -1,6 +1,6 @@
 -- The steps of a round keep what a drive is grounded in.
 use Rattle.std.proofs.Common.{◌≡◌, ℕ, suc, ◌+◌, ◌<◌, ◌≤◌, List, length, get_or, Bool, true, false, not, is_none, Option, Some, None, inl, inr, refl, sym, ap, ◌∙◌, subst, arith}
-use Rattle.std.specs.Prelude.{◌⊎◌, IsSome, IfSome, take}
+use Rattle.std.specs.Prelude.{◌⊎◌, All, IsSome, IfSome, take}
 use Rattle.std.specs.FinMap as finite
 use Rattle.std.specs.Ordering.{nat_cmp}
 use Rattle.std.proofs.lemmas.List.{get_or_past, length-map}
@@ -8,7 +8,7 @@ use Rattle.scan_values.specs.Selections.{is_among}
 use Rattle.scan_segments.specs.Source.{SourceState}
 use Rattle.scan_splits.specs.declared.inbox.Arrival.{Arrival}
 use Rattle.scan_drive.specs.Asks.{IsWantedBy}
-use Rattle.scan_drive.specs.Chunks.{limit_of}
+use Rattle.scan_drive.specs.Chunks.{limit_of, IsOf, KeepsFiles}
 use Rattle.scan_drive.specs.Drives.{SourcesMove, NoneOf}
 use Rattle.scan_drive.specs.Drivings.{WasAdmitted, HasSplits}
 use Rattle.scan_drive.specs.Files.{Item, Told, told_at, untold, AllGive}
@@ -111,8 +111,9 @@ module _ {O S W R I F : Type 0} (state : O → OpenerState I) (polls : O → O �
   pub grounds_after : (a b : List (ScanFile O S)) (d e : Cache) (May Comes Fails : ℕ → ℕ → Type 0) (v w : Drive W R F) → SourcesMove source May a b → Ledger (books_of source first b) c e
       → ((k : ℕ) (f : ScanFile O S) → v.tally.files ≤ k → (source (get_or b k f).source).asked ≡ (source (get_or a k f).source).asked) →
       EachFollows Comes Fails v.active.slots.items w.active.slots.items → ((k id : ℕ) → k < length first → Comes k id → Came source first b c k id) → ((k id : ℕ) → k < length first → Fails k id → Failed source first b c k id) →
-      w.phases.items ≡ v.phases.items → w.first ≡ v.first → w.tally ≡ v.tally → Grounded state polls admits source first a c d v → Grounded state polls admits source first b c e w
-  grounds_after a b d e May Comes Fails v w m ledger quiet follows came failed ps fs ts g = record {
+      w.phases.items ≡ v.phases.items → w.first ≡ v.first → w.tally ≡ v.tally → (All (IsOf v.tally.files) v.chunks.items → All (IsOf v.tally.files) w.chunks.items)
+      → Grounded state polls admits source first a c d v → Grounded state polls admits source first b c e w
+  grounds_after a b d e May Comes Fails v w m ledger quiet follows came failed ps fs ts given g = record {
     moves = each_then state polls source ⊥ first a b g.moves (each_sources state polls source ⊥ May a b m (λ k id f h z. absurd z));
     ledger = ledger;
     admitted = λ k q. admitted_on state polls admits k first a b (same_openers state polls source May a b m k) (g.admitted k (subst (λ (z : List (Phase W F)). IsQueued (phase_at z k)) ps q));
@@ -120,6 +121,7 @@ module _ {O S W R I F : Type 0} (state : O → OpenerState I) (polls : O → O �
     counted = subst (λ n. AreCounted n w.tally w.phases.items) (sym fs) (subst (λ (t : Tally). AreCounted v.first t w.phases.items) (sym ts) (subst (λ (z : List (Phase W F)). AreCounted v.first v.tally z) (sym ps) g.counted));
     quiet = λ k l f. quiet k f (subst (λ (t : Tally). t.files ≤ k) ts l) ∙ g.quiet k (subst (λ (t : Tally). t.files ≤ k) ts l) f;
     rows = record { rows = λ k. subst (λ (z : List (Phase W F)). RowsOk (told_at (tells state source first) k) (phase_at z k)) (sym ps) (g.rows.rows k); tally = subst (IsTally (tells state source first)) (sym ts) g.rows.tally };
+    given = subst (λ (t : Tally). All (IsOf t.files) w.chunks.items) (sym ts) (given g.given);
     slots = λ place t. subst (λ (u : Tally). IsSlotGrounded state polls admits source first b c u (slot_at w.active.slots.items place)) (sym ts) (slot place t);
   }
     where
@@ -132,18 +134,18 @@ module _ {O S W R I F : Type 0} (state : O → OpenerState I) (polls : O → O �
 
   -- splits were polled
   pub polled_grounds : (a : List (ScanFile O S)) (d : Cache) (v w : Drive W R F) → EachFollows NoneOf NoneOf v.active.slots.items w.active.slots.items → w.phases.items ≡ v.phases.items
-      → w.first ≡ v.first → w.tally ≡ v.tally → Grounded state polls admits source first a c d v → Grounded state polls admits source first a c d w
-  polled_grounds a d v w follows ps fs ts g = grounds_after a a d d NoneOf NoneOf NoneOf v w (sources_self source NoneOf a) g.ledger (λ k f l. refl) follows (λ k id lt h. absurd h) (λ k id lt h. absurd h) ps fs ts g
+      → w.first ≡ v.first → w.tally ≡ v.tally → KeepsFiles v.active.slots.items v.chunks.items w.chunks.items → Grounded state polls admits source first a c d v → Grounded state polls admits source first a c d w
+  polled_grounds a d v w follows ps fs ts files g = grounds_after a a d d NoneOf NoneOf NoneOf v w (sources_self source NoneOf a) g.ledger (λ k f l. refl) follows (λ k id lt h. absurd h) (λ k id lt h. absurd h) ps fs ts (files v.tally.files (λ place there. (g.slots place there).counted)) g
 
   -- splits were served
   pub served_grounds : (asking : List ℕ) (a b : List (ScanFile O S)) (d e : Cache) (v w : Drive W R F) → SourcesMove source (IsWantedBy asking v.active.slots.items) a b → FilesTrade source a b d e
-      → SlotsFollow source d a b v.active.slots.items w.active.slots.items → w.phases.items ≡ v.phases.items → w.first ≡ v.first → w.tally ≡ v.tally →
+      → SlotsFollow source d a b v.active.slots.items w.active.slots.items → w.phases.items ≡ v.phases.items → w.first ≡ v.first → w.tally ≡ v.tally → w.chunks.items ≡ v.chunks.items →
       Grounded state polls admits source first a c d v → Grounded state polls admits source first b c e w
-  served_grounds asking a b d e v w m trade follows ps fs ts g =
+  served_grounds asking a b d e v w m trade follows ps fs ts chunks g =
       grounds_after a b d e (IsWantedBy asking v.active.slots.items) (MayCome source d a b) (MayFail source a b) v w m (trade.ledger first c g.moves.len g.ledger) quiet follows
       (λ k id lt h. may_come source first a b c d k id (moved_each source state polls ⊥ first a g.moves) lt (moved_sources source (IsWantedBy asking v.active.slots.items) a b m) g.ledger h)
       (λ k id lt h. may_fail source first a b c d k id (moved_each source state polls ⊥ first a g.moves) lt (moved_sources source (IsWantedBy asking v.active.slots.items) a b m) g.ledger h)
-      ps fs ts g
+      ps fs ts (λ all. subst (All (IsOf v.tally.files)) (sym chunks) all) g
     where
       none : (k id : ℕ) → v.tally.files ≤ k → IsWantedBy asking v.active.slots.items k id → ⊥
       none k id l h =
@@ -158,9 +160,9 @@ module _ {O S W R I F : Type 0} (state : O → OpenerState I) (polls : O → O �
   -- ---- openers were polled, and splits became active
   pub brought_grounds : (a b : List (ScanFile O S)) (d : Cache) (v w : Drive W R F) (mid : List (Phase W F)) → EachMoves state polls source (Unit {0}) a b → KeepsSources a b → OpensBy state polls admits a b v.phases.items mid → length v.phases.items ≡ length a → length mid ≡ length v.phases.items →
       (AllRowsOk (tells state source a) v.phases.items → AllRowsOk (tells state source a) mid) → (AllRowsOk (tells state source first) mid → IsTally (tells state source first) v.tally → AllRowsOk (tells state source first) w.phases.items × IsTally (tells state source first) w.tally) →
-      Fills v.first w.first v.tally w.tally mid w.phases.items v.active.slots.items w.active.slots.items →
+      Fills v.first w.first v.tally w.tally mid w.phases.items v.active.slots.items w.active.slots.items → w.chunks.items ≡ v.chunks.items →
       Grounded state polls admits source first a c d v → Grounded state polls admits source first b c d w
-  brought_grounds a b d v w mid m same opens lens midlen rows tallied fills g = record {
+  brought_grounds a b d v w mid m same opens lens midlen rows tallied fills chunks g = record {
     moves = each_then state polls source ⊥ first a b g.moves later;
     ledger = files_ledger_same source a b d m.len same (λ k f. (m.at k f).name) first c g.moves.len g.ledger;
     admitted = λ k q. admitted k (phase_at mid k) refl (fills.queued k q);
@@ -168,6 +170,7 @@ module _ {O S W R I F : Type 0} (state : O → OpenerState I) (polls : O → O �
     counted = fills.counted counted;
     quiet = λ k l f. ap (λ (s : S). (source s).asked) (same k f) ∙ g.quiet k (let n = fills.grows in omega (arith, l, n)) f;
     rows = record { rows = (tallied rows_mid g.rows.tally).0; tally = (tallied rows_mid g.rows.tally).1 };
+    given = subst (All (IsOf w.tally.files)) (sym chunks) (λ i x lt. let h = g.given i x lt in let n = fills.grows in omega (arith, h, n));
     slots = λ place t. slot place t (fills.slots counted place);
   }
     where

@@ -245,33 +245,33 @@ rest_done first i last old now past h k f c = go (le_or_lt first k) c
 
 -- ---- how early
 module _ {O S I R : Type 0} (state : O → OpenerState I) (items : R → List I) where
-  pub late_rest : (workers : ℕ) (limit : Option ℕ) (tale : List (Told I)) (start old now : List (ScanFile O S)) → ((k : ℕ) (f : ScanFile O S) → (get_or now k f).opener ≡ (get_or old k f).opener) → ArePolledLate state items workers limit tale start old →
-      ArePolledLate state items workers limit tale start now
-  late_rest workers limit tale start old now e h k f was = h k f (subst (λ (o : O). (opener_at state start k f).polled < (state o).polled) (e k f) was)
+  pub late_rest : (b : Bool) (workers : ℕ) (limit : Option ℕ) (tale : List (Told I)) (start old now : List (ScanFile O S)) → ((k : ℕ) (f : ScanFile O S) → (get_or now k f).opener ≡ (get_or old k f).opener) → ArePolledLate state items b workers limit tale start old →
+      ArePolledLate state items b workers limit tale start now
+  late_rest b workers limit tale start old now e h k f was = h k f (subst (λ (o : O). (opener_at state start k f).polled < (state o).polled) (e k f) was)
 
   -- openers of files were polled while all before one had been given, which are as many as there are workers at most
-  pub late_polled : (workers first last done : ℕ) (limit : Option ℕ) (tale : List (Told I)) (start old now : List (ScanFile O S)) → OpenersRest first last old now → last ≤ done + workers → GivesBefore items limit tale done → ArePolledLate state items workers limit tale start old →
-      ArePolledLate state items workers limit tale start now
-  late_polled workers first last done limit tale start old now rest le g h k f was = go (le_or_lt last k) (le_or_lt first k)
+  pub late_polled : (b : Bool) (workers first last done : ℕ) (limit : Option ℕ) (tale : List (Told I)) (start old now : List (ScanFile O S)) → OpenersRest first last old now → last ≤ done + workers → GivesBefore items b limit tale done →
+      ArePolledLate state items b workers limit tale start old → ArePolledLate state items b workers limit tale start now
+  late_polled b workers first last done limit tale start old now rest le g h k f was = go (le_or_lt last k) (le_or_lt first k)
     where
-      before : (k < first) ⊎ (last ≤ k) → GivesBefore items limit tale (k + 1 - workers)
+      before : (k < first) ⊎ (last ≤ k) → GivesBefore items b limit tale (k + 1 - workers)
       before c = h k f (subst (λ (o : O). (opener_at state start k f).polled < (state o).polled) (rest k f c) was)
 
-      go : (last ≤ k) ⊎ (k < last) → (first ≤ k) ⊎ (k < first) → GivesBefore items limit tale (k + 1 - workers)
+      go : (last ≤ k) ⊎ (k < last) → (first ≤ k) ⊎ (k < first) → GivesBefore items b limit tale (k + 1 - workers)
       go (inl past) from = before (inr past)
       go (inr lt) (inr less) = before (inl less)
-      go (inr lt) (inl from) = gives_less items limit tale (k + 1 - workers) done (omega (arith, lt, le)) g
+      go (inr lt) (inl from) = gives_less items b limit tale (k + 1 - workers) done (omega (arith, lt, le)) g
 
   -- at the start none was polled
-  pub late_first : (workers : ℕ) (limit : Option ℕ) (tale : List (Told I)) (files : List (ScanFile O S)) → ArePolledLate state items workers limit tale files files
-  late_first workers limit tale files k f was = absurd (omega (arith, was))
+  pub late_first : (b : Bool) (workers : ℕ) (limit : Option ℕ) (tale : List (Told I)) (files : List (ScanFile O S)) → ArePolledLate state items b workers limit tale files files
+  late_first b workers limit tale files k f was = absurd (omega (arith, was))
 
-  pub on_rest : {W F : Type 0} (workers : ℕ) (limit : Option ℕ) (tale : List (Told I)) (P : Type 0) (ps : List (Phase W F)) (old mid new : List (ScanFile O S)) → ((k : ℕ) (f : ScanFile O S) → (get_or new k f).opener ≡ (get_or mid k f).opener) →
-      PollsOn state items workers limit tale P ps old mid → PollsOn state items workers limit tale P ps old new
-  on_rest workers limit tale P ps old mid new e h = record {
+  pub on_rest : {W F : Type 0} (b : Bool) (workers : ℕ) (limit : Option ℕ) (tale : List (Told I)) (P : Type 0) (ps : List (Phase W F)) (old mid new : List (ScanFile O S)) → ((k : ℕ) (f : ScanFile O S) → (get_or new k f).opener ≡ (get_or mid k f).opener) →
+      PollsOn state items b workers limit tale P ps old mid → PollsOn state items b workers limit tale P ps old new
+  on_rest b workers limit tale P ps old mid new e h = record {
     grows = λ k f. subst (λ (o : O). (opener_at state old k f).polled ≤ (state o).polled) (sym (e k f)) (h.grows k f);
     fit = λ start st. fit_rest state start mid new e (h.fit start st);
-    late = λ p start l. late_rest workers limit tale start mid new e (h.late p start l);
+    late = λ p start l. late_rest b workers limit tale start mid new e (h.late p start l);
   }
 
 pub stand_first : {O S W I F : Type 0} (state : O → OpenerState I) (files : List (ScanFile O S)) (ps : List (Phase W F)) → ((k : ℕ) → phase_at ps k ≡ phase.Unopened) → PollsStand state files files ps

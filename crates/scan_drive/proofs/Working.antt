@@ -1,5 +1,5 @@
 -- Splits are taken out of their slots, polled by workers, and put back.
-use Rattle.std.proofs.Common.{◌≡◌, ◌≢◌, ◌<◌, ◌≤◌, ◌+◌, ◌∙◌, ℕ, zero, suc, Bool, true, false, ◌||◌, List, [], ◌∷◌, ◌++◌, eqb, length, get_or, map, set, inl, inr, not, refl, sym, ap, subst, arith, length-set, get_or-set_same, get_or-set_other}
+use Rattle.std.proofs.Common.{◌≡◌, ◌≢◌, ◌<◌, ◌≤◌, ◌+◌, ◌∙◌, ℕ, zero, suc, Bool, true, false, ◌||◌, List, [], ◌∷◌, ◌++◌, eqb, length, get_or, set, inl, inr, not, refl, sym, ap, subst, arith, length-set, get_or-set_same, get_or-set_other}
 use Rattle.std.specs.Prelude.{◌⊎◌, ◌*◌, ◌==◌, All}
 use Rattle.std.specs.Int.{div_ceil}
 use Rattle.std.proofs.lemmas.Bool.{cases_eq}
@@ -27,7 +27,7 @@ use Rattle.scan_drive.proofs.Polling.{look_settled, none_fresh, once_next, polle
 use Rattle.scan_drive.proofs.Rounding.{news_popped}
 
 -- a number that is not among those that another is among is another
-apart : (xs : List ℕ) (p q : ℕ) → is_among xs p ≡ false → is_among xs q ≡ true → q ≢ p
+pub apart : (xs : List ℕ) (p q : ℕ) → is_among xs p ≡ false → is_among xs q ≡ true → q ≢ p
 apart xs p q n h e = let bad = sym h ∙ ap (is_among xs) e ∙ n in absurd cc
 
 -- one that is among some and one more
@@ -71,6 +71,32 @@ some_size n workers (suc size) some pos e = omega arith
 pub some_jobs : (n : ℕ) (b : Bool) → b ≡ (n == 0) → b ≡ false → 0 < n
 some_jobs zero b e f = let bad : true ≡ false = sym e ∙ f in absurd cc
 some_jobs (suc n) b e f = omega arith
+
+-- ---- each of a list, in place
+module _ {X : Type 0} (P : X → X → Type 0) where
+  -- one more is done
+  pub one_done : (first now : List X) (i : ℕ) (x y : X) → i < length now → x ≡ get_or now i x → P x y
+      → ((k : ℕ) (d : X) → k < i → P (get_or first k d) (get_or now k d)) → ((k : ℕ) (d : X) → i ≤ k → get_or now k d ≡ get_or first k d)
+      → (k : ℕ) (d : X) → k < i + 1 → P (get_or first k d) (get_or (set now i y) k d)
+  one_done first now i x y lt at p done others k d l = go (cases_eq k i)
+    where
+      go : (k ≡ i) ⊎ (k ≢ i) → P (get_or first k d) (get_or (set now i y) k d)
+      go (inl is) =
+          let from : get_or first i d ≡ x = sym (others i d (omega arith)) ∙ sym (at ∙ get_or_default now i x d lt) in
+          subst (λ j. P (get_or first j d) (get_or (set now i y) j d)) (sym is)
+          (subst (λ (z : X). P z (get_or (set now i y) i d)) (sym from) (subst (P x) (sym (get_or-set_same now i y d lt)) p))
+      go (inr n) = subst (P (get_or first k d)) (sym (get_or-set_other now i k y d n)) (done k d (omega arith))
+
+  pub done_as : (x x' y y' : X) → x ≡ x' → y ≡ y' → P x y → P x' y'
+  done_as x x' y y' e f p = subst (P x') f (subst (λ (z : X). P z y) e p)
+
+module _ {X : Type 0} where
+  pub rest_same : (first now : List X) (i : ℕ) (y : X) → ((k : ℕ) (d : X) → i ≤ k → get_or now k d ≡ get_or first k d) → (k : ℕ) (d : X) → i + 1 ≤ k → get_or (set now i y) k d ≡ get_or first k d
+  rest_same first now i y others k d l = let n : k ≢ i = λ e. (let bad : i + 1 ≤ i = subst (λ j. i + 1 ≤ j) e l in omega arith) in get_or-set_other now i k y d n ∙ others k d (omega arith)
+
+  -- the next of those that are still as they were
+  pub next_same : (first now : List X) (i : ℕ) (x : X) → i < length now → x ≡ get_or now i x → ((k : ℕ) (d : X) → i ≤ k → get_or now k d ≡ get_or first k d) → (d : X) → x ≡ get_or first i d
+  next_same first now i x lt at others d = at ∙ get_or_default now i x d lt ∙ others i d (omega arith)
 
 module _ {W R : Type 0} where
   places_snoc : (jobs : List (Job W R)) (j : Job W R) → places_of (jobs ++ j ∷ []) ≡ places_of jobs ++ j.place ∷ []
@@ -288,26 +314,6 @@ module _ {W I R : Type 0} (split : W → SplitState I) (comes : W → Arrivals �
   -- polled jobs are at the places at which they were
   pub still_within : (count : ℕ) (jobs jobs' : List (Job W R)) → length jobs' ≡ length jobs → ((i : ℕ) (d : Job W R) → i < length jobs → JobPolled split comes items (get_or jobs i d) (get_or jobs' i d)) → All (IsWithin count) jobs → All (IsWithin count) jobs'
   still_within count jobs jobs' n p a i d lt = let lt' : i < length jobs = omega arith in subst (λ q. q < count) (sym (p i d lt').place_is) (a i d lt')
-
-  -- ---- splits are polled
-  -- one more is
-  pub one_polled : (first now : List (Job W R)) (i : ℕ) (x y : Job W R) → i < length now → x ≡ get_or now i x → JobPolled split comes items x y
-      → ((k : ℕ) (d : Job W R) → k < i → JobPolled split comes items (get_or first k d) (get_or now k d)) → ((k : ℕ) (d : Job W R) → i ≤ k → get_or now k d ≡ get_or first k d)
-      → (k : ℕ) (d : Job W R) → k < i + 1 → JobPolled split comes items (get_or first k d) (get_or (set now i y) k d)
-  one_polled first now i x y lt at p polled others k d l = go (cases_eq k i)
-    where
-      go : (k ≡ i) ⊎ (k ≢ i) → JobPolled split comes items (get_or first k d) (get_or (set now i y) k d)
-      go (inl is) =
-          let from : get_or first i d ≡ x = sym (others i d (omega arith)) ∙ sym (at ∙ get_or_default now i x d lt) in
-          subst (λ j. JobPolled split comes items (get_or first j d) (get_or (set now i y) j d)) (sym is)
-          (subst (λ (z : Job W R). JobPolled split comes items z (get_or (set now i y) i d)) (sym from) (subst (JobPolled split comes items x) (sym (get_or-set_same now i y d lt)) p))
-      go (inr n) = subst (JobPolled split comes items (get_or first k d)) (sym (get_or-set_other now i k y d n)) (polled k d (omega arith))
-
-  pub rest_same : (first now : List (Job W R)) (i : ℕ) (y : Job W R) → ((k : ℕ) (d : Job W R) → i ≤ k → get_or now k d ≡ get_or first k d) → (k : ℕ) (d : Job W R) → i + 1 ≤ k → get_or (set now i y) k d ≡ get_or first k d
-  rest_same first now i y others k d l = let n : k ≢ i = λ e. (let bad : i + 1 ≤ i = subst (λ j. i + 1 ≤ j) e l in omega arith) in get_or-set_other now i k y d n ∙ others k d (omega arith)
-
-  pub polled_as : (x x' y y' : Job W R) → x ≡ x' → y ≡ y' → JobPolled split comes items x y → JobPolled split comes items x' y'
-  polled_as x x' y y' e f p = subst (JobPolled split comes items x') f (subst (λ (z : Job W R). JobPolled split comes items z y) e p)
 
   -- what a phase leaves of the slots and of the list
   pub phase_back : (jobs jobs' given : List (Job W R)) (list list' : List ℕ) (old now new : List (Slot W R)) → list ≡ [] → AreJobs jobs old now → HasNews old (places_of jobs) → length jobs' ≡ length jobs

@@ -72,12 +72,29 @@ module _ {W R : Type 0} where
     pub free : new.free ≡ old.free
     pub news : new.news ≡ old.news
 
+  -- the split whose turn it is goes behind the others
+  pub record Rotates (old new : Active W R) : Type 0 where
+    pub place : ℕ
+    pub later : List ℕ
+    pub turns : old.turns.items ≡ place ∷ later
+    pub turned : new.turns.items ≡ later ++ place ∷ []
+    pub slots : new.slots.items ≡ old.slots.items
+    pub free : new.free ≡ old.free
+    pub news : new.news ≡ old.news
+
   -- the split whose turn it is
   abbrev pub IsFront : Active W R → Active W R → Front R → Type 0
   IsFront old new front.Nothing = (old.turns.items ≡ []) × Stays old new
   IsFront old new front.Waits = Stays old new × FrontWaits old
   IsFront old new (front.Rows file rows) = GivesRows file rows old new
   IsFront old new (front.Halted file h) = IsHalted file h old × Stays old new
+
+  -- the same, where it goes behind the others unless its rows are there
+  abbrev pub IsNext : Active W R → Active W R → Front R → Type 0
+  IsNext old new front.Nothing = (old.turns.items ≡ []) × Stays old new
+  IsNext old new front.Waits = Rotates old new × FrontWaits old
+  IsNext old new (front.Rows file rows) = GivesRows file rows old new
+  IsNext old new (front.Halted file h) = IsHalted file h old × Rotates old new
 
 module _ {W I R : Type 0} (split : W → SplitState I) (comes : W → Arrivals → Store → Event → Type 0) (items : R → List I) where
   -- its file is one of the files, and where that is told the slot is as the file has it

@@ -1,5 +1,5 @@
 -- What was given before the turn of a file.
-use Rattle.std.specs.Prelude.{◌≡◌, ◌⊎◌, ℕ, List, [], Option}
+use Rattle.std.specs.Prelude.{◌≡◌, ◌⊎◌, ℕ, true, List, [], Option}
 use Rattle.scan_segments.specs.Source.{Store}
 use Rattle.scan_splits.specs.Arrivals.{Arrivals}
 use Rattle.scan_drive.specs.Drivings.{GivesBefore}
@@ -29,11 +29,11 @@ module _ {W I R F : Type 0} (split : W → SplitState I) (comes : W → Arrivals
   SoundInOrder tale d = AllTell tale × Sound split comes items tale d × InOrder d
 
 module _ {I R : Type 0} (items : R → List I) where
-  -- where a fault is of a file, all rows of the files before it were given, and there was room for more
+  -- where a fault is of a file, all rows of the files before it were given in order, and there was room for more
   abbrev pub StopsBefore : {F : Type 0} → Option ℕ → List (Told I) → RoundFault F → Type 0
   StopsBefore limit tale (why.Split fault.NoMemory) = Unit {0}
-  StopsBefore limit tale (why.Split (fault.Source k id)) = GivesBefore items limit tale k
-  StopsBefore limit tale (why.Split (fault.Corrupt k id)) = GivesBefore items limit tale k
-  StopsBefore limit tale (why.Split (fault.Overflow k)) = GivesBefore items limit tale k
-  StopsBefore limit tale (why.TooManyRows k) = GivesBefore items limit tale k
-  StopsBefore limit tale (why.Refused k e) = GivesBefore items limit tale k
+  StopsBefore limit tale (why.Split (fault.Source k id)) = GivesBefore items true limit tale k
+  StopsBefore limit tale (why.Split (fault.Corrupt k id)) = GivesBefore items true limit tale k
+  StopsBefore limit tale (why.Split (fault.Overflow k)) = GivesBefore items true limit tale k
+  StopsBefore limit tale (why.TooManyRows k) = GivesBefore items true limit tale k
+  StopsBefore limit tale (why.Refused k e) = GivesBefore items true limit tale k

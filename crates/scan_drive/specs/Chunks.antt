@@ -1,10 +1,12 @@
 -- What is given, in turn and up to a limit.
-use Rattle.std.specs.Prelude.{◌≡◌, ◌≢◌, ◌<◌, ◌≤◌, ◌+◌, ◌++◌, ℕ, List, [], All, length, take, Option, None, Some, option_map, true}
+use Rattle.std.specs.Prelude.{◌≡◌, ◌≢◌, ◌<◌, ◌≤◌, ◌+◌, ◌++◌, ℕ, Bool, true, List, [], All, length, take, Option, None, Some, option_map}
 use Rattle.std.specs.List.{flat_map}
 use Rattle.scan_segments.specs.Source.{Store}
 use Rattle.scan_splits.specs.Arrivals.{Arrivals}
 use Rattle.scan_drive.specs.Actives.{IsHalted, AllOk, groups_left}
-use Rattle.scan_drive.specs.Files.{Group, grouped, count, cut, Told, told_at, AllTell, IfTold}
+use Rattle.scan_drive.specs.Drives.{FilesWithin}
+use Rattle.scan_drive.specs.Files.{Group, grouped, count, Told, told_at, AllTell, IfTold}
+use Rattle.scan_drive.specs.Grants.{AreSame, AreGiven}
 use Rattle.scan_drive.specs.Order.{KeepsOrder}
 use Rattle.scan_drive.specs.Splits.{SplitState, Event}
 use Rattle.scan_drive.specs.declared.active.Active.{Active}
@@ -15,6 +17,7 @@ use Rattle.scan_drive.specs.declared.delivery.DriveFault.{DriveFault}
 use Rattle.scan_drive.specs.declared.delivery.DriveFault.TheVariants as fault
 use Rattle.scan_drive.specs.declared.slot.Halt.{Halt}
 use Rattle.scan_drive.specs.declared.slot.Halt.TheVariants as halt
+use Rattle.scan_drive.specs.declared.slot.Slot.{Slot}
 
 -- how many rows may be given in all, by those that are given and those that are left
 abbrev pub limit_of : ℕ → Option ℕ → Option ℕ
@@ -83,38 +86,55 @@ IsCause tale (fault.Source file id) = Unit {0}
 IsCause tale (fault.Corrupt file id) = IfTold (told_at tale file) (λ p store. p.bad store id ≡ true)
 IsCause tale (fault.Overflow file) = IfTold (told_at tale file) (λ p store. p.overflow store ≡ true)
 
-module _ {W I R : Type 0} (split : W → SplitState I) (comes : W → Arrivals → Store → Event → Type 0) (items : R → List I) where
-  -- what was given, and what active splits have to give, are the same groups in the same order
-  abbrev pub SameGroups : Active W R → Active W R → List (Chunk R) → List (Chunk R) → Type 0
-  SameGroups old new chunks chunks' =
-      (tale : List (Told I)) → AllTell tale → AllOk split comes items tale old
-      → given items chunks' ++ groups_left split comes items tale new ≡ given items chunks
-      ++ groups_left split comes items tale old
+-- a chunk is of one of so many files
+abbrev pub IsOf : {R : Type 0} → ℕ → Chunk R → Type 0
+IsOf n c = c.file < n
 
-  -- the limit is met: what was given are the first rows of the groups that were to be given, whatever comes after these
-  pub record IsCut (old : Active W R) (chunks chunks' : List (Chunk R)) (left : Option ℕ) : Type 0 where
+-- where each chunk was of one of so many files, and this file is, each is
+abbrev pub AddsFile : {R : Type 0} → ℕ → List (Chunk R) → List (Chunk R) → Type 0
+AddsFile file chunks chunks' = (n : ℕ) → file < n → All (IsOf n) chunks → All (IsOf n) chunks'
+
+module _ {W R : Type 0} where
+  -- chunks and active splits that were of the first files are of these still
+  abbrev pub KeepsFiles : List (Slot W R) → List (Chunk R) → List (Chunk R) → Type 0
+  KeepsFiles slots chunks chunks' = (n : ℕ) → FilesWithin n slots → All (IsOf n) chunks → All (IsOf n) chunks'
+
+module _ {W I R : Type 0} (split : W → SplitState I) (comes : W → Arrivals → Store → Event → Type 0) (items : R → List I) where
+  -- what was given, and what active splits have to give, are the same groups, in the same order or in any
+  abbrev pub SameGroups : Bool → Active W R → Active W R → List (Chunk R) → List (Chunk R) → Type 0
+  SameGroups ordered old new chunks chunks' =
+      (tale : List (Told I)) → AllTell tale → AllOk split comes items tale old
+      → AreSame ordered (given items chunks' ++ groups_left split comes items tale new)
+      (given items chunks ++ groups_left split comes items tale old)
+
+  -- the limit is met: what was given are the first rows of the groups that were to be given, or the first rows of some of
+  -- them, whatever comes after these
+  pub record IsCut (ordered : Bool) (old : Active W R) (chunks chunks' : List (Chunk R)) (left : Option ℕ) : Type 0 where
     pub most : ℕ
     pub was : limit_of (count (given items chunks)) left ≡ Some most
+    pub met : count (given items chunks') ≡ most
     pub groups : (tale : List (Told I)) → AllTell tale → AllOk split comes items tale old → (later : List (Group I))
-        → given items chunks' ≡ cut most (given items chunks ++ (groups_left split comes items tale old ++ later))
+        → AreGiven ordered (Some most) (given items chunks ++ (groups_left split comes items tale old ++ later))
+        (given items chunks')
 
-  -- the splits whose turn it was were given, as far as they are read
-  pub record IsMore (old new : Active W R) (chunks chunks' : List (Chunk R)) (left left' : Option ℕ) : Type 0 where
-    pub groups : SameGroups old new chunks chunks'
+  -- rows of splits were given, as far as they are read: those whose turn it was, or in no order all
+  pub record IsMore (ordered : Bool) (old new : Active W R) (chunks chunks' : List (Chunk R)) (left left' : Option ℕ) : Type 0 where
+    pub groups : SameGroups ordered old new chunks chunks'
     pub counts : Counts items chunks chunks' left left'
     pub order : KeepsOrder old new
 
   -- what a delivery does, by whether more may be given
-  abbrev pub IsDelivered : Active W R → Active W R → List (Chunk R) → List (Chunk R) → Option ℕ → Option ℕ → Delivered → Type 0
-  IsDelivered old new chunks chunks' left left' More = IsMore old new chunks chunks' left left'
-  IsDelivered old new chunks chunks' left left' Full = IsCut old chunks chunks' left
+  abbrev pub IsDelivered : Bool → Active W R → Active W R → List (Chunk R) → List (Chunk R) → Option ℕ → Option ℕ
+      → Delivered → Type 0
+  IsDelivered ordered old new chunks chunks' left left' More = IsMore ordered old new chunks chunks' left left'
+  IsDelivered ordered old new chunks chunks' left left' Full = IsCut ordered old chunks chunks' left
 
   -- all that stands before the split is given, less than the limit, and it is the split's turn, which is given up for this
   pub record IsHeld (file : ℕ) (h : Halt) (old new : Active W R) (chunks chunks' : List (Chunk R)) (left left' : Option ℕ) : Type 0 where
     pub turn : IsHalted file h new
-    pub more : IsMore old new chunks chunks' left left'
+    pub more : IsMore true old new chunks chunks' left left'
 
-  -- why a delivery fails: a split is given up for this at its turn
+  -- why a delivery in order fails: a split is given up for this at its turn
   abbrev pub IsDeliverFault : Active W R → Active W R → List (Chunk R) → List (Chunk R) → Option ℕ → Option ℕ → DriveFault → Type 0
   IsDeliverFault old new chunks chunks' left left' fault.NoMemory = Unit {0}
   IsDeliverFault old new chunks chunks' left left' (fault.Source file id) = IsHeld file (halt.Source id) old new chunks chunks' left left'

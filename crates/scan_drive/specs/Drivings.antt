@@ -4,6 +4,7 @@ use Rattle.scan_segments.specs.Faults.{Rose}
 use Rattle.scan_segments.specs.Source.{SourceState}
 use Rattle.scan_drive.specs.Chunks.{given, Fits}
 use Rattle.scan_drive.specs.Files.{Group, Told, answer, count, IfTold}
+use Rattle.scan_drive.specs.Grants.{AreSame}
 use Rattle.scan_drive.specs.Line.{GivesSome}
 use Rattle.scan_drive.specs.Moves.{tell, tells}
 use Rattle.scan_drive.specs.Openers.{OpenerState, IsRefused, IsAdmitted}
@@ -52,11 +53,11 @@ module _ {O S W I : Type 0} (state : O → OpenerState I) (polls : O → O → T
   HasSplits f g = (ws : List W) × IsAdmitted state polls admits f.opener g.opener ws × (ws ≢ [])
 
 module _ {R I : Type 0} (items : R → List I) where
-  -- all rows of the first files were given, perhaps others after them, and there was room for more
-  pub record GivesBefore (limit : Option ℕ) (tale : List (Told I)) (k : ℕ) : Type 0 where
+  -- all rows of the first files were given, perhaps others after them or in no order, and there was room for more
+  pub record GivesBefore (ordered : Bool) (limit : Option ℕ) (tale : List (Told I)) (k : ℕ) : Type 0 where
     pub chunks : List (Chunk R)
     pub more : List (Group I)
-    pub groups : given items chunks ≡ answer (take k tale) ++ more
+    pub groups : AreSame ordered (given items chunks) (answer (take k tale) ++ more)
     pub room : Fits (count (given items chunks)) limit
 
 module _ {O S R I : Type 0} (state : O → OpenerState I) (source : S → SourceState) (items : R → List I) where
@@ -76,7 +77,7 @@ module _ {O S R I : Type 0} (state : O → OpenerState I) (source : S → Source
     pub first : (i j : ℕ) (f : ScanFile O S) → i < j → j < length old → WasPolled (slice_index_or old j f) (slice_index_or new j f) →
         Rose (state (slice_index_or old i f).opener).polled (state (slice_index_or new i f).opener).polled
     pub late : ordered ≡ true → IsLawful state source old c → (k : ℕ) (f : ScanFile O S) → WasPolled (slice_index_or old k f) (slice_index_or new k f) →
-        GivesBefore items limit (tells state source old) (k + 1 - workers)
+        GivesBefore items true limit (tells state source old) (k + 1 - workers)
     pub some : ordered ≡ false → IsLawful state source old c → (k : ℕ) (f : ScanFile O S) → WasPolled (slice_index_or old k f) (slice_index_or new k f) →
         GivesSome items limit (tells state source old) k (k + 1 - workers)
 
@@ -87,7 +88,7 @@ module _ {O S W R I F : Type 0} (state : O → OpenerState I) (polls : O → O �
   pub record IsFaultOf (k : ℕ) (P : ScanFile O S → ScanFile O S → Type 0) : Type 0 where
     pub there : k < length old
     pub fact : (f : ScanFile O S) → P (slice_index_or old k f) (slice_index_or new k f)
-    pub before : ordered ≡ true → IsLawful state source old c → GivesBefore items limit (tells state source old) k
+    pub before : ordered ≡ true → IsLawful state source old c → GivesBefore items true limit (tells state source old) k
 
   -- a source failed over a segment: its count rose, the segment was asked, and its file has splits
   pub record StopsSource (id : ℕ) (f g : ScanFile O S) : Type 0 where

@@ -9,7 +9,7 @@ use Rattle.scan_drive.specs.Desks.{Waiters}
 use Rattle.scan_drive.specs.Drives.{EachLinked}
 use Rattle.scan_drive.specs.Losses.{HaltsStay}
 use Rattle.scan_drive.specs.Measures.{slots_steps}
-use Rattle.scan_drive.specs.Chunks.{HasRoom, given, limit_of, IsCause, IsDeliverFault}
+use Rattle.scan_drive.specs.Chunks.{HasRoom, given, limit_of, IsCause, KeepsFiles}
 use Rattle.scan_drive.specs.Files.{Told, count}
 use Rattle.scan_drive.specs.Order.{KeepsOrder}
 use Rattle.scan_drive.specs.Phases.{phase_at}
@@ -54,10 +54,9 @@ module _ {W I R F : Type 0} (split : W → SplitState I) (comes : W → Arrivals
   abbrev pub StopsAt : List (Told I) → Drive W R F → Drive W R F → Type 0
   StopsAt tale old new = Sound split comes items tale new × HasRoom new.left × (limit_in new ≡ limit_in old)
 
-  -- why a drive ends without all rows: at a split, or at a file before which all is given
+  -- why a drive ends without all rows: a split was given up for a cause, or all is given before a file that is not read
   abbrev pub Stops : List (Told I) → Drive W R F → Drive W R F → RoundFault F → Type 0
-  Stops tale old new (why.Split e) = IsDeliverFault split comes items old.active new.active old.chunks.items
-      new.chunks.items old.left new.left e × IsCause tale e
+  Stops tale old new (why.Split e) = IsCause tale e
   Stops tale old new (why.TooManyRows file) = StopsAt tale old new × (new.active.turns.items ≡ [])
       × (file ≡ new.first) × IsTooMany file new.tally (phase_at new.phases.items file)
   Stops tale old new (why.Refused file f) = StopsAt tale old new × (new.active.turns.items ≡ []) × (file ≡ new.first)
@@ -69,6 +68,8 @@ module _ {W I R F : Type 0} (split : W → SplitState I) (comes : W → Arrivals
     pub first : new.first ≡ old.first
     pub tally : new.tally ≡ old.tally
     pub report : new.report ≡ old.report
+    pub ordered : new.ordered ≡ old.ordered
+    pub files : KeepsFiles old.active.slots.items old.chunks.items new.chunks.items
     pub stands : (n : ℕ) → Stands n old → Stands n new
     pub halts : HaltsStay old.active.slots.items new.active.slots.items
     pub asks : AreAsking asking new.active.slots.items

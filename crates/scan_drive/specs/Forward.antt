@@ -12,7 +12,6 @@ use Rattle.scan_drive.specs.Polls.{opener_at, AllPolled, PollsFit, ArePolledLate
 use Rattle.scan_drive.specs.Rounds.{IsLawful}
 use Rattle.scan_drive.specs.Wants.{Cache}
 use Rattle.scan_segments.specs.Source.{SourceState}
-use Rattle.scan_drive.specs.declared.delivery.Chunk.{Chunk}
 use Rattle.scan_drive.specs.declared.delivery.DriveFault.{DriveFault}
 use Rattle.scan_drive.specs.declared.delivery.DriveFault.TheVariants as fault
 use Rattle.scan_drive.specs.declared.files.ScanFile.{ScanFile}
@@ -22,24 +21,20 @@ use Rattle.scan_drive.specs.declared.round.Drive.{Drive}
 use Rattle.scan_drive.specs.declared.settling.RoundFault.{RoundFault}
 use Rattle.scan_drive.specs.declared.settling.RoundFault.TheVariants as why
 
--- the last chunk that was given is of a file before this place
-abbrev pub IsBehind : {R : Type 0} → List (Chunk R) → ℕ → Type 0
-IsBehind {R} chunks i = (cs : List (Chunk R)) (c : Chunk R) → chunks ≡ cs ++ c ∷ [] → c.file < i
-
-module _ {W R F : Type 0} where
-  -- these places may be exchanged: nothing was given from the first one on, and its file is not open yet; that of the second is
-  pub record Spare (i j : ℕ) (chunks : List (Chunk R)) (ps : List (Phase W F)) : Type 0 where
+module _ {W F : Type 0} where
+  -- these places may be exchanged: the file at the first is not open yet, and that at the second is
+  pub record Spare (i j : ℕ) (ps : List (Phase W F)) : Type 0 where
     pub apart : i < j
     pub within : j < length ps
     pub shut : phase_at ps i ≡ phase.Unopened
     pub opened : is_unopened (phase_at ps j) ≡ 0
-    pub behind : IsBehind chunks i
 
   -- one after the other may be
-  abbrev pub AreSpare : List (ℕ × ℕ) → List (Chunk R) → List (Phase W F) → Type 0
-  AreSpare [] chunks ps = Unit {0}
-  AreSpare (s ∷ ss) chunks ps = Spare s.0 s.1 chunks ps × AreSpare ss chunks (swap ps s.0 s.1)
+  abbrev pub AreSpare : List (ℕ × ℕ) → List (Phase W F) → Type 0
+  AreSpare [] ps = Unit {0}
+  AreSpare (s ∷ ss) ps = Spare s.0 s.1 ps × AreSpare ss (swap ps s.0 s.1)
 
+module _ {W R F : Type 0} where
   -- a drive with the phases of other places
   pub record Rephased (phases : List (Phase W F)) (old new : Drive W R F) : Type 0 where
     pub phases_are : new.phases.items ≡ phases
@@ -49,6 +44,8 @@ module _ {W R F : Type 0} where
     pub tally : new.tally ≡ old.tally
     pub left : new.left ≡ old.left
     pub report : new.report ≡ old.report
+    pub ordered : new.ordered ≡ old.ordered
+    pub budget : new.budget ≡ old.budget
 
   -- Files that are open were brought before those that are not, up to a place: the places that were exchanged stand in the log.
   pub record BringsForward {O S : Type 0} (last : ℕ) (log log' : List (ℕ × ℕ)) (files files' : List (ScanFile O S))
@@ -58,7 +55,7 @@ module _ {W R F : Type 0} where
     pub files_are : files' ≡ exchanged places files
     pub desks_are : desks' ≡ exchanged places desks
     pub rephased : Rephased (exchanged places old.phases.items) old new
-    pub spare : AreSpare places old.chunks.items old.phases.items
+    pub spare : AreSpare places old.phases.items
     pub within : SwapsInRange last places
     pub none : places ≡ [] → new ≡ old
 
@@ -104,6 +101,6 @@ module _ {O S R I : Type 0} (state : O → OpenerState I) (source : S → Source
   pub record LinePolls (ordered : Bool) (workers : ℕ) (limit : Option ℕ) (c : Cache) (files : List (ScanFile O S))
       (log : List (ℕ × ℕ)) (now : List (ScanFile O S)) : Type 0 where
     pub fit : PollsFit state (exchanged log files) now
-    pub late : ordered ≡ true → IsLawful state source files c → ArePolledLate state items workers limit (tells state source files) files now
+    pub late : ordered ≡ true → IsLawful state source files c → ArePolledLate state items true workers limit (tells state source files) files now
     pub line : LineEdge state log (exchanged log files) now
     pub gives : LineGives workers limit c files log now

@@ -1,6 +1,7 @@
 -- What a drive keeps, traced back to what was done to its files and its cache since these were first.
-use Rattle.std.specs.Prelude.{◌≡◌, ◌<◌, ◌≤◌, ◌+◌, ◌^◌, ◌⊎◌, ℕ, true, List, None, IfSome, take, slice_index_or, length}
+use Rattle.std.specs.Prelude.{◌≡◌, ◌<◌, ◌≤◌, ◌+◌, ◌^◌, ◌⊎◌, ℕ, true, All, List, None, IfSome, take, slice_index_or, length}
 use Rattle.scan_segments.specs.Source.{SourceState}
+use Rattle.scan_drive.specs.Chunks.{IsOf}
 use Rattle.scan_drive.specs.Drives.{NoneOf}
 use Rattle.scan_drive.specs.Drivings.{SourceFailed, IsKeptIn, CameOf, NoneAsked, WasAdmitted, HasSplits}
 use Rattle.scan_drive.specs.Files.{Told, AllGive}
@@ -117,8 +118,8 @@ module _ {O S W R I : Type 0} (state : O → OpenerState I) (polls : O → O →
 
 module _ {O S W R I F : Type 0} (state : O → OpenerState I) (polls : O → O → Type 0) (admits : O → O → List W → Type 0) (source : S → SourceState)
     (first files : List (ScanFile O S)) (c : Cache) where
-  -- The drive, with the cache as it is now: open files were admitted, nothing was asked of those that are not counted, and so it
-  -- is with each slot.
+  -- The drive, with the cache as it is now: open files were admitted, nothing was asked or given of those that are not counted,
+  -- and so it is with each slot.
   pub record Grounded (d : Cache) (v : Drive W R F) : Type 0 where
     pub moves : EachMoves state polls source ⊥ first files
     pub ledger : Ledger (books_of source first files) c d
@@ -127,6 +128,7 @@ module _ {O S W R I F : Type 0} (state : O → OpenerState I) (polls : O → O �
     pub counted : AreCounted v.first v.tally v.phases.items
     pub quiet : (k : ℕ) → v.tally.files ≤ k → At first files (NoneAsked source) k
     pub rows : IsRowCount (tells state source first) v
+    pub given : All (IsOf v.tally.files) v.chunks.items
     pub slots : (place : ℕ) → is_there (slot_at v.active.slots.items place).stage ≡ true
         → IsSlotGrounded state polls admits source first files c v.tally (slot_at v.active.slots.items place)
 

@@ -2,7 +2,9 @@ pub mod Accounts
 pub mod Actives
 pub mod Asks
 pub mod Before
+pub mod Budgets
 pub mod Chunks
+pub mod Claimed
 pub mod Desks
 pub mod Drives
 pub mod Drivings
@@ -11,6 +13,7 @@ pub mod Fetches
 pub mod Files
 pub mod Filling
 pub mod Forward
+pub mod Grants
 pub mod Grounds
 pub mod Laws
 pub mod Ledger

@@ -1,10 +1,11 @@
--- Files in another order, and the answer of a scan that gives them so.
-use Rattle.std.specs.Prelude.{◌≡◌, ◌≤◌, ◌++◌, ℕ, Bool, true, false, cond, eqb, List, [], ◌∷◌, Option, length, IsPermutation}
-use Rattle.std.specs.List.{flat_map, swap, range_with_len}
+-- Files in another order, and the answer of a scan in the order of its files or in none.
+use Rattle.std.specs.Prelude.{◌≡◌, ◌≤◌, ◌++◌, ℕ, Bool, true, cond, eqb, List, [], ◌∷◌, Option, length, IsPermutation}
+use Rattle.std.specs.List.{flat_map, swap}
 use Rattle.scan_values.specs.Selections.{is_among}
 use Rattle.scan_splits.specs.Wanted.{no_repeats}
 use Rattle.scan_drive.specs.Chunks.{given, Fits}
-use Rattle.scan_drive.specs.Files.{Group, Told, told_at, part_groups, answer, count, limited}
+use Rattle.scan_drive.specs.Files.{Group, Told, told_at, part_groups, answer, count}
+use Rattle.scan_drive.specs.Grants.{AreGiven}
 use Rattle.scan_drive.specs.declared.delivery.Chunk.{Chunk}
 
 -- a list after two places were exchanged, time and again
@@ -39,16 +40,9 @@ module _ {I : Type 0} where
   abbrev pub answer_in : List ℕ → List (Told I) → List (Group I)
   answer_in order tale = flat_map (λ k. part_groups k (told_at tale k)) order
 
-  -- the first groups of the answer with the files in some order
-  pub record IsAnyOrder (limit : Option ℕ) (tale : List (Told I)) (gs : List (Group I)) : Type 0 where
-    pub order : List ℕ
-    pub all : IsPermutation order (range_with_len 0 (length tale))
-    pub groups : gs ≡ limited limit (answer_in order tale)
-
-  -- what is given: the first groups of the answer, with the files in their order or in some order
+  -- what is given of the answer, in its order or in none
   abbrev pub IsAnswered : Bool → Option ℕ → List (Told I) → List (Group I) → Type 0
-  IsAnswered true limit tale gs = gs ≡ limited limit (answer tale)
-  IsAnswered false limit tale gs = IsAnyOrder limit tale gs
+  IsAnswered ordered limit tale gs = AreGiven ordered limit (answer tale) gs
 
 module _ {R I : Type 0} (items : R → List I) where
   -- all rows of so many of the files up to a place were given, perhaps others after them, and there was room for more
@@ -59,5 +53,5 @@ module _ {R I : Type 0} (items : R → List I) where
     pub as_many : length places ≡ n
     pub chunks : List (Chunk R)
     pub more : List (Group I)
-    pub groups : given items chunks ≡ answer_in places tale ++ more
+    pub groups : IsPermutation (given items chunks) (answer_in places tale ++ more)
     pub room : Fits (count (given items chunks)) limit

@@ -1,5 +1,5 @@
 -- How often the openers of files are polled, and how early.
-use Rattle.std.specs.Prelude.{◌≡◌, ◌≤◌, ◌<◌, ◌+◌, ◌-◌, ◌⊎◌, ℕ, List, Option, length, slice_index_or}
+use Rattle.std.specs.Prelude.{◌≡◌, ◌≤◌, ◌<◌, ◌+◌, ◌-◌, ◌⊎◌, ℕ, Bool, List, Option, length, slice_index_or}
 use Rattle.scan_segments.specs.Faults.{Rose}
 use Rattle.scan_drive.specs.Drivings.{GivesBefore}
 use Rattle.scan_drive.specs.Files.{Told}
@@ -69,13 +69,15 @@ module _ {O S I : Type 0} (state : O → OpenerState I) where
 
 module _ {O S I R : Type 0} (state : O → OpenerState I) (items : R → List I) where
   -- an opener was polled only once all rows of the files before it, but for as many as there are workers, had been given
-  abbrev pub ArePolledLate : ℕ → Option ℕ → List (Told I) → List (ScanFile O S) → List (ScanFile O S) → Type 0
-  ArePolledLate workers limit tale start now =
-      (k : ℕ) (f : ScanFile O S) → (opener_at state start k f).polled < (opener_at state now k f).polled → GivesBefore items limit tale (k + 1 - workers)
+  abbrev pub ArePolledLate : Bool → ℕ → Option ℕ → List (Told I) → List (ScanFile O S) → List (ScanFile O S) → Type 0
+  ArePolledLate ordered workers limit tale start now =
+      (k : ℕ) (f : ScanFile O S) → (opener_at state start k f).polled < (opener_at state now k f).polled
+      → GivesBefore items ordered limit tale (k + 1 - workers)
 
   -- what polls of openers keep since any start: how often they were polled, and under a premise how early
-  pub record PollsOn {W F : Type 0} (workers : ℕ) (limit : Option ℕ) (tale : List (Told I)) (If : Type 0)
+  pub record PollsOn {W F : Type 0} (ordered : Bool) (workers : ℕ) (limit : Option ℕ) (tale : List (Told I)) (If : Type 0)
       (phases : List (Phase W F)) (old new : List (ScanFile O S)) : Type 0 where
     pub grows : PollsGrow state old new
     pub fit : (start : List (ScanFile O S)) → PollsStand state start old phases → PollsFit state start new
-    pub late : If → (start : List (ScanFile O S)) → ArePolledLate workers limit tale start old → ArePolledLate workers limit tale start new
+    pub late : If → (start : List (ScanFile O S)) → ArePolledLate ordered workers limit tale start old
+        → ArePolledLate ordered workers limit tale start new

@@ -5,9 +5,11 @@ use Rattle.scan_segments.specs.Source.{SourceState, Store}
 use Rattle.scan_splits.specs.Arrivals.{Arrivals}
 use Rattle.scan_drive.specs.Actives.{Seated, AllOk, groups_left}
 use Rattle.scan_drive.specs.Asks.{IsWantedBy}
+use Rattle.scan_drive.specs.Budgets.{IsBudget}
 use Rattle.scan_drive.specs.Chunks.{given, HasRoom}
 use Rattle.scan_drive.specs.Drives.{FilesWithin}
 use Rattle.scan_drive.specs.Files.{Told, told_at, AllTell, answer}
+use Rattle.scan_drive.specs.Grants.{AreSame}
 use Rattle.scan_drive.specs.Looks.{WaitsForAll}
 use Rattle.scan_drive.specs.Measures.{IsNearer}
 use Rattle.scan_drive.specs.Moves.{IsNamed, tells}
@@ -54,6 +56,7 @@ module _ {W R F : Type 0} where
     pub below : SpentBelow d.phases.items d.first
     pub ready : IsReady n d.active
     pub room : HasRoom d.left
+    pub budget : IsBudget d.ordered d.left d.budget
 
 module _ {W F : Type 0} where
   -- the splits of the first file that has some left never become active
@@ -61,12 +64,14 @@ module _ {W F : Type 0} where
   IsEnd first tally ps = (length ps ≤ first) ⊎ (((why : F) × (phase_at ps first ≡ phase.Held why)) ⊎ IsTooMany first tally (phase_at ps first))
 
 module _ {W I R F : Type 0} (split : W → SplitState I) (comes : W → Arrivals → Store → Event → Type 0) (items : R → List I) where
-  -- what was given, what the active splits have to give and what is left of the files are the answer, in order
+  -- what was given, what the active splits have to give and what is left of the files are the answer, in order or in none
   pub record Sound (tale : List (Told I)) (d : Drive W R F) : Type 0 where
     pub phases : PhasesOk split comes tale d.phases.items
     pub ok : AllOk split comes items tale d.active
     pub tally : IsTally tale d.tally
-    pub sums : AllTell tale → given items d.chunks.items ++ (groups_left split comes items tale d.active ++ rest split comes tale d.phases.items) ≡ answer tale
+    pub sums : AllTell tale → AreSame d.ordered
+        (given items d.chunks.items ++ (groups_left split comes items tale d.active ++ rest split comes tale d.phases.items))
+        (answer tale)
 
 module _ {W I R : Type 0} where
   -- what the splits at these places want now their files name

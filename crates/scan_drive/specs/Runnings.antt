@@ -4,11 +4,13 @@ use Rattle.scan_segments.specs.Source.{SourceState, Store}
 use Rattle.scan_splits.specs.Arrivals.{Arrivals}
 use Rattle.scan_drive.specs.Actives.{Seated}
 use Rattle.scan_drive.specs.Before.{InOrder}
+use Rattle.scan_drive.specs.Budgets.{IsBudget}
 use Rattle.scan_drive.specs.Chunks.{given}
 use Rattle.scan_drive.specs.Desks.{Waiters}
 use Rattle.scan_drive.specs.Drives.{EachLinked}
 use Rattle.scan_drive.specs.Ends.{IsHeldIn, Stops, limit_in}
-use Rattle.scan_drive.specs.Files.{AllTell, answer, limited}
+use Rattle.scan_drive.specs.Files.{AllTell, answer}
+use Rattle.scan_drive.specs.Grants.{AreGiven}
 use Rattle.scan_drive.specs.Moves.{HoldsWhy, tells}
 use Rattle.scan_drive.specs.Openers.{OpenerState}
 use Rattle.scan_drive.specs.Phases.{phase_at, unopened}
@@ -37,6 +39,7 @@ module _ {W R F : Type 0} where
     pub tally : (d.tally.files ≡ 0) × (d.tally.rows ≡ 0)
     pub left : d.left ≡ limit
     pub report : d.report ≡ capped_report 0 0 0
+    pub budget : IsBudget d.ordered limit d.budget
 
 module _ {O S W I R F : Type 0} (state : O → OpenerState I) (polls : O → O → Type 0) (refuses : O → O → F → Type 0)
     (source : S → SourceState) (split : W → SplitState I) (comes : W → Arrivals → Store → Event → Type 0)
@@ -50,6 +53,7 @@ module _ {O S W I R F : Type 0} (state : O → OpenerState I) (polls : O → O �
     pub why : HoldsWhy state polls refuses files files' old.phases.items new.phases.items
     pub sound : CacheAgrees source files c → Sound split comes items (tells state source files) old → Sound split comes items (tells state source files) new
     pub order : InOrder old → InOrder new
+    pub ordered : new.ordered ≡ old.ordered
     pub polled : (start : List (ScanFile O S)) → PollsStand state start files old.phases.items → PollsStand state start files' new.phases.items
 
   -- what a round has come to
@@ -59,7 +63,7 @@ module _ {O S W I R F : Type 0} (state : O → OpenerState I) (polls : O → O �
   RoundIs round.Opened files files' desks c old new = GoesOn 1 files files' desks c old new
   RoundIs round.Done files files' desks c old new =
       AllTell (tells state source files) → Sound split comes items (tells state source files) old
-      → given items new.chunks.items ≡ limited (limit_in split comes items old) (answer (tells state source files))
+      → AreGiven old.ordered (limit_in split comes items old) (answer (tells state source files)) (given items new.chunks.items)
 
   -- why a round ends without all rows: so it was once openers were polled and splits had become active
   pub record StopsIn (files files' : List (ScanFile O S)) (old new : Drive W R F) (e : RoundFault F) : Type 0 where
@@ -76,7 +80,7 @@ module _ {O S W I R F : Type 0} (state : O → OpenerState I) (polls : O → O �
   RunIs round.Opened files files' desks c old new = GoesOn 1 files files' desks c old new
   RunIs round.Done files files' desks c old new =
       CacheAgrees source files c → AllTell (tells state source files) → Sound split comes items (tells state source files) old
-      → given items new.chunks.items ≡ limited (limit_in split comes items old) (answer (tells state source files))
+      → AreGiven old.ordered (limit_in split comes items old) (answer (tells state source files)) (given items new.chunks.items)
 
   -- why rounds end without all rows, where the cache agreed with the files at first
   pub record StopsRun (files files' : List (ScanFile O S)) (c : Cache) (old new : Drive W R F) (e : RoundFault F) : Type 0 where

@@ -1,5 +1,5 @@
 -- The slots of the splits that are read at once, over all files.
-use Rattle.std.specs.Prelude.{◌≡◌, ℕ, Bool, true, false, List, [], ◌∷◌, ◌++◌, Option, None, Some, length, set, slice_index_or}
+use Rattle.std.specs.Prelude.{◌≡◌, ◌+◌, ◌⊎◌, ℕ, Bool, true, false, List, [], ◌∷◌, ◌++◌, Option, None, Some, length, set, take, slice_index_or}
 use Rattle.scan_values.specs.Selections.{is_among}
 use Rattle.scan_segments.specs.Source.{Store}
 use Rattle.scan_splits.specs.Arrivals.{Arrivals, Agrees}
@@ -156,3 +156,29 @@ module _ {W I R : Type 0} (split : W → SplitState I) (comes : W → Arrivals �
   -- the group that a slot has to give
   abbrev pub slot_groups : List (Told I) → Slot W R → List (Group I)
   slot_groups tale s = over (told_at tale s.file).store (λ store. grouped s.file (stage_rows store s.stage))
+
+module _ {W I R : Type 0} (items : R → List I) where
+  -- how many rows there are of a split that is read
+  abbrev pub stage_read : Stage W R → ℕ
+  stage_read stage.Empty = 0
+  stage_read (stage.Reads r) = 0
+  stage_read (stage.Read rows) = length (items rows)
+  stage_read (stage.Halted r h) = 0
+
+  -- the same of all slots
+  abbrev pub read_rows : List (Slot W R) → ℕ
+  read_rows [] = 0
+  read_rows (s ∷ ss) = stage_read s.stage + read_rows ss
+
+  -- of a split that is read the first rows are kept
+  pub record KeepsFirst (old new : Slot W R) : Type 0 where
+    pub rows : R
+    pub first : R
+    pub most : ℕ
+    pub was : old.stage ≡ stage.Read rows
+    pub now : new ≡ record { file = old.file; stage = stage.Read first }
+    pub taken : items first ≡ take most (items rows)
+
+  -- a slot is as before, or of its split the first rows are kept
+  abbrev pub IsTrimmed : Slot W R → Slot W R → Type 0
+  IsTrimmed old new = (new ≡ old) ⊎ KeepsFirst old new

@@ -1,5 +1,5 @@
 -- Splits that are polled by workers.
-use Rattle.std.specs.Prelude.{◌≡◌, ◌<◌, ◌⊎◌, ℕ, Bool, true, false, All, List, [], ◌∷◌, ◌++◌, length, map, set}
+use Rattle.std.specs.Prelude.{◌≡◌, ◌<◌, ◌⊎◌, ℕ, true, false, None, All, List, [], ◌∷◌, ◌++◌, length, map, set}
 use Rattle.scan_values.specs.Selections.{is_among}
 use Rattle.scan_segments.specs.Source.{Store}
 use Rattle.scan_splits.specs.Arrivals.{Arrivals}
@@ -23,7 +23,7 @@ module _ {W R : Type 0} where
 
   -- the split that was in a slot, not polled yet
   abbrev pub new_job : ℕ → Slot W R → Job W R
-  new_job place slot = record { place = place; slot = slot; found = found.Nothing }
+  new_job place slot = record { place = place; slot = slot; found = found.Nothing; seat = None; short = false }
 
   -- the split at a place is taken out of its slot, or it is none that waits for nothing
   abbrev pub TakesJob : ℕ → List (Job W R) → List (Job W R) → List (Slot W R) → List (Slot W R) → Type 0

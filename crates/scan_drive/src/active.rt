@@ -1,7 +1,7 @@
 //! The splits that are active, over all files. An own type: the Rust buffers the tasks of one file at a time.
 ghost use Rattle.std.specs.Prelude.{◌≡◌, ◌<◌, ◌++◌, ◌∷◌, [], true, false, None, ℕ, OnOk, IfOk, IfSome, MatchOption, length, drop};
 ghost use Rattle.scan_values.specs.Selections.{is_among};
-ghost use Rattle.scan_drive.specs.Actives.{Seated, Becomes, IsRoom, Seats, IsFront};
+ghost use Rattle.scan_drive.specs.Actives.{Seated, Becomes, IsRoom, Seats, IsFront, IsNext};
 ghost use Rattle.scan_drive.specs.Runs.{RunData};
 ghost use Rattle.scan_drive.specs.Slots.{slot_at, is_halted, IsTaken};
 ghost use Rattle.scan_drive.specs.declared.slot.Stage.TheVariants as stage;
@@ -61,7 +61,7 @@ fn put<W: Drop, R: Drop>(
 }
 
 /// Takes the rows out of a slot, where they are there.
-fn take_rows<W: Drop, R: Drop>(slot: &mut Slot<W, R>) -> Option<R>
+pub(crate) fn take_rows<W: Drop, R: Drop>(slot: &mut Slot<W, R>) -> Option<R>
     ensures { IsTaken slot.old slot.new result }
 {
     match &slot.stage {
@@ -135,6 +135,32 @@ impl<W: Drop, R: Drop> Active<W, R> {
             None => Ok(Front::Waits),
             Some(rows) => {
                 self.turns.pop_front();
+                self.free.push_back(place)?;
+                Ok(Front::Rows(file, rows))
+            }
+        }
+    }
+
+    /// The same, where a split that has no rows goes behind the others.
+    pub fn take_next(&mut self) -> Result<Front<R>, NoMemory>
+        requires { Seated self.old }
+        ensures { IfOk result (λ f. IsNext self.old self.new f) }
+    {
+        let Some(place) = first_of(&self.turns) else {
+            return Ok(Front::Nothing);
+        };
+        self.turns.pop_front();
+        let file = self.slots[place].file;
+        if let Some(halt) = halt_of(&self.slots[place]) {
+            self.turns.push_back(place)?;
+            return Ok(Front::Halted(file, halt));
+        }
+        match take_rows(&mut self.slots[place]) {
+            None => {
+                self.turns.push_back(place)?;
+                Ok(Front::Waits)
+            }
+            Some(rows) => {
                 self.free.push_back(place)?;
                 Ok(Front::Rows(file, rows))
             }

@@ -1,11 +1,11 @@
-//! What is given, in turn and up to a limit. After the Rust's buffers of tasks, which keep the order.
-ghost use Rattle.std.specs.Prelude.{◌≡◌, ◌≤◌, ◌-◌, ◌++◌, List, OnOk, IfOk, IfErr, MatchOption, Option, Some, None, length, option_map};
+//! What is given, up to a limit: in turn, or as it is read. After the Rust's buffers of tasks, which keep the order or do not.
+ghost use Rattle.std.specs.Prelude.{◌≡◌, ◌≤◌, ◌+◌, ◌-◌, ◌++◌, true, false, List, OnOk, IfOk, IfErr, MatchOption, Option, Some, None, length, option_map, unwrap_or};
 ghost use Rattle.scan_drive.specs.Files.{Item};
 ghost use Rattle.scan_drive.specs.Actives.{Seated, AllOk};
-ghost use Rattle.scan_drive.specs.Chunks.{HasRoom, Fits, KeepsRows, fault_of, given, Gives, IsDelivered, IsDeliverFault, IsCause};
-ghost use Rattle.scan_drive.specs.Files.{Told, grouped};
+ghost use Rattle.scan_drive.specs.Chunks.{HasRoom, AddsFile, Fits, KeepsFiles, KeepsRows, fault_of, given, Gives, IsDelivered, IsDeliverFault, IsCause};
+ghost use Rattle.scan_drive.specs.Files.{Told, count, grouped};
 ghost use Rattle.scan_drive.specs.Lost.{StopsOver};
-ghost use Rattle.scan_drive.specs.Slots.{HasNews};
+ghost use Rattle.scan_drive.specs.Slots.{HasNews, read_rows};
 ghost use Rattle.scan_drive.specs.Turns.{GivesOn, TurnsWait};
 ghost use Rattle.scan_drive.specs.declared.delivery.Delivered.TheVariants as delivered;
 
@@ -88,6 +88,7 @@ fn push_rows<W: SplitWork + Drop>(
     ensures given { OnOk result (given W.items chunks.new.items ≡
         given W.items chunks.old.items ++ grouped file (W.items rows)) }
     ensures some { OnOk result (KeepsRows W.items chunks.old.items chunks.new.items) }
+    ensures file { OnOk result (AddsFile file chunks.old.items chunks.new.items) }
 {
     if W::count(&rows) == 0 {
         return Ok(());
@@ -107,6 +108,7 @@ fn give<W: SplitWork + Drop>(
     ensures gives { IfOk result (λ d.
         Gives W.items file (W.items rows) chunks.old.items chunks.new.items left.old left.new d) }
     ensures some { OnOk result (KeepsRows W.items chunks.old.items chunks.new.items) }
+    ensures file { OnOk result (AddsFile file chunks.old.items chunks.new.items) }
 {
     let count = W::count(&rows);
     match full_at(*left, count) {
@@ -139,9 +141,10 @@ pub fn deliver<W: SplitWork + Drop>(
     ensures ok { OnOk result ((tale : List (Told Item)) → AllOk W.split W.comes W.items tale active.old →
         AllOk W.split W.comes W.items tale active.new) }
     ensures gives { IfOk result (λ d. d ≡ delivered.More → GivesOn W.split active.old active.new × TurnsWait active.new) }
-    ensures delivered { IfOk result (λ d. IsDelivered W.split W.comes W.items active.old active.new
+    ensures delivered { IfOk result (λ d. IsDelivered W.split W.comes W.items true active.old active.new
         chunks.old.items chunks.new.items left.old left.new d) }
     ensures some { OnOk result (KeepsRows W.items chunks.old.items chunks.new.items) }
+    ensures files { OnOk result (KeepsFiles active.old.slots.items chunks.old.items chunks.new.items) }
     ensures fault { IfErr result (λ e. IsDeliverFault W.split W.comes W.items active.old active.new
         chunks.old.items chunks.new.items left.old left.new e) }
     ensures cause { IfErr result (λ e. (tale : List (Told Item)) →
@@ -161,4 +164,96 @@ pub fn deliver<W: SplitWork + Drop>(
             },
         }
     }
+}
+
+/// The first of two faults, where there is one already.
+fn first_fault(before: Option<DriveFault>, fault: DriveFault) -> Option<DriveFault>
+    ensures { result ≡ Some (unwrap_or before fault) }
+{
+    match before {
+        Some(first) => Some(first),
+        None => Some(fault),
+    }
+}
+
+/// Gives the rows of all splits that are read, up to the limit. Why a split is given up comes once these are given.
+fn deliver_any<W: SplitWork + Drop>(
+    alloc: Global,
+    active: &mut Active<W, W::Rows>,
+    chunks: &mut Vec<Chunk<W::Rows>>,
+    left: &mut Option<u64>,
+) -> Result<Delivered, DriveFault>
+    requires seated { Seated active.old }
+    requires room { HasRoom left.old }
+    ensures seated { OnOk result (Seated active.new) }
+    ensures news { OnOk result (HasNews active.old.slots.items active.old.news.items →
+        HasNews active.new.slots.items active.new.news.items) }
+    ensures ok { OnOk result ((tale : List (Told Item)) → AllOk W.split W.comes W.items tale active.old →
+        AllOk W.split W.comes W.items tale active.new) }
+    ensures gives { IfOk result (λ d. d ≡ delivered.More → GivesOn W.split active.old active.new × TurnsWait active.new) }
+    ensures delivered { IfOk result (λ d. IsDelivered W.split W.comes W.items false active.old active.new
+        chunks.old.items chunks.new.items left.old left.new d) }
+    ensures some { OnOk result (KeepsRows W.items chunks.old.items chunks.new.items) }
+    ensures files { OnOk result (KeepsFiles active.old.slots.items chunks.old.items chunks.new.items) }
+    ensures cause { IfErr result (λ e. (tale : List (Told Item)) →
+        AllOk W.split W.comes W.items tale active.old → IsCause tale e) }
+    ensures stops { IfErr result (λ e. StopsOver active.old.slots.items e) }
+    ensures reads { IfOk result (λ d. d ≡ delivered.More →
+        count (given W.items chunks.new.items) ≡ count (given W.items chunks.old.items) + read_rows W.items active.old.slots.items) }
+{
+    let mut why = None;
+    for _ in 0..active.turns.len() {
+        match active.take_next() {
+            Err(_) => return Err(DriveFault::NoMemory),
+            Ok(Front::Nothing) => unreachable!(),
+            Ok(Front::Waits) => continue,
+            Ok(Front::Halted(file, halt)) => {
+                why = first_fault(why, held(file, halt));
+                continue;
+            }
+            Ok(Front::Rows(file, rows)) => match give::<W>(alloc, chunks, left, file, rows) {
+                Ok(Delivered::More) => {}
+                Ok(Delivered::Full) => return Ok(Delivered::Full),
+                Err(_) => return Err(DriveFault::NoMemory),
+            },
+        }
+    }
+    match why {
+        Some(fault) => Err(fault),
+        None => Ok(Delivered::More),
+    }
+}
+
+/// Gives rows of splits that are read, in turn or all of them.
+pub(crate) fn deliver_in<W: SplitWork + Drop>(
+    alloc: Global,
+    ordered: bool,
+    active: &mut Active<W, W::Rows>,
+    chunks: &mut Vec<Chunk<W::Rows>>,
+    left: &mut Option<u64>,
+) -> Result<Delivered, DriveFault>
+    requires seated { Seated active.old }
+    requires room { HasRoom left.old }
+    ensures seated { OnOk result (Seated active.new) }
+    ensures news { OnOk result (HasNews active.old.slots.items active.old.news.items →
+        HasNews active.new.slots.items active.new.news.items) }
+    ensures ok { OnOk result ((tale : List (Told Item)) → AllOk W.split W.comes W.items tale active.old →
+        AllOk W.split W.comes W.items tale active.new) }
+    ensures gives { IfOk result (λ d. d ≡ delivered.More → GivesOn W.split active.old active.new × TurnsWait active.new) }
+    ensures delivered { IfOk result (λ d. IsDelivered W.split W.comes W.items ordered active.old active.new
+        chunks.old.items chunks.new.items left.old left.new d) }
+    ensures some { OnOk result (KeepsRows W.items chunks.old.items chunks.new.items) }
+    ensures files { OnOk result (KeepsFiles active.old.slots.items chunks.old.items chunks.new.items) }
+    ensures fault { IfErr result (λ e. ordered ≡ true → IsDeliverFault W.split W.comes W.items active.old active.new
+        chunks.old.items chunks.new.items left.old left.new e) }
+    ensures cause { IfErr result (λ e. (tale : List (Told Item)) →
+        AllOk W.split W.comes W.items tale active.old → IsCause tale e) }
+    ensures stops { IfErr result (λ e. StopsOver active.old.slots.items e) }
+    ensures reads { IfOk result (λ d. ordered ≡ false → d ≡ delivered.More →
+        count (given W.items chunks.new.items) ≡ count (given W.items chunks.old.items) + read_rows W.items active.old.slots.items) }
+{
+    if ordered {
+        return deliver(alloc, active, chunks, left);
+    }
+    deliver_any(alloc, active, chunks, left)
 }

@@ -1,5 +1,6 @@
 //! One call over all files of a scan. After the Rust's `scan::multi`.
 ghost use Rattle.std.specs.Prelude.{◌≡◌, ◌<◌, ℕ, None, All, IfOk, IfErr, IfSome, length, slice_index_or};
+ghost use Rattle.scan_drive.specs.Budgets.{IsBudget};
 ghost use Rattle.scan_drive.specs.Chunks.{given, HasRoom, HasRow};
 ghost use Rattle.scan_drive.specs.Drives.{IsIdle};
 ghost use Rattle.scan_drive.specs.Drivings.{WasAdmitted, PollsEnd, StopsDrive};
@@ -12,6 +13,7 @@ ghost use Rattle.scan_drive.specs.Traffic.{asked_keys, ended_since, CacheMoves, 
 ghost use Rattle.scan_drive.specs.declared.files.ScanFile.{ScanFile};
 
 use crate::active::Active;
+use crate::budget::Budget;
 use crate::delivery::{Chunk, DriveFault};
 use crate::drive::{close_all, make_desks};
 use crate::files::ScanFile;
@@ -36,13 +38,30 @@ pub struct DriveOutput<R> {
     pub report: ScanReport,
 }
 
+/// What grants the rows of a limit in no order, where there is one.
+fn budget_of(alloc: Global, limit: Option<u64>, ordered: bool) -> Result<Option<Budget>, NoMemory>
+    requires { HasRoom limit }
+    ensures { IfOk result (λ b. IsBudget ordered limit b) }
+{
+    if ordered {
+        return Ok(None);
+    }
+    match limit {
+        None => Ok(None),
+        Some(most) => Ok(Some(Budget::new(alloc, most)?)),
+    }
+}
+
 /// Nothing is opened and nothing is given.
 fn start<W: SplitWork + Drop, F: Drop>(
     alloc: Global,
     files: usize,
     limit: Option<u64>,
+    ordered: bool,
 ) -> Result<Drive<W, W::Rows, F>, NoMemory>
-    ensures { IfOk result (λ d. Starts files limit d) }
+    requires { HasRoom limit }
+    ensures starts { IfOk result (λ d. Starts files limit d) }
+    ensures order { IfOk result (λ d. d.ordered ≡ ordered) }
 {
     let mut phases = Vec::new(alloc);
     for _ in 0..files {
@@ -56,11 +75,13 @@ fn start<W: SplitWork + Drop, F: Drop>(
         tally: Tally::default(),
         left: limit,
         report: ScanReport::default(),
+        ordered,
+        budget: budget_of(alloc, limit, ordered)?,
     })
 }
 
-/// The rows of all files, and no more of them than the limit: in the order of files and splits, or else file by file in
-/// the order in which they open. After any answer the files stand as they stood, and no request is live.
+/// The rows of all files, and no more of them than the limit: in the order of files and splits, or else as they are read, by
+/// what workers are granted of a limit. After any answer the files stand as they stood, and no request is live.
 pub fn drive_files<
     R: Threads + Sync,
     X: SplitOpener<O, W, F>,
@@ -109,7 +130,7 @@ pub fn drive_files<
     let Ok(mut desks) = make_desks(alloc, files) else {
         return Err(RoundFault::Split(DriveFault::NoMemory));
     };
-    let Ok(mut drive) = start::<W, F>(alloc, files.len(), limit) else {
+    let Ok(mut drive) = start::<W, F>(alloc, files.len(), limit, ordered) else {
         return Err(RoundFault::Split(DriveFault::NoMemory));
     };
     let mut exchanges = Vec::new(alloc);
@@ -124,7 +145,6 @@ pub fn drive_files<
         &mut drive,
         &mut exchanges,
         workers,
-        ordered,
     );
     close_all(files, &mut desks);
     put_back(files, &exchanges);

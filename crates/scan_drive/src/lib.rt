@@ -3,7 +3,9 @@
 #![tactic(auto)]
 
 mod active;
+mod budget;
 mod cached;
+mod claims;
 mod delivery;
 mod desk;
 mod drive;
@@ -28,6 +30,7 @@ mod work;
 mod workers;
 
 pub use active::{Active, Front};
+pub use budget::Budget;
 pub use cached::Wanted;
 pub use delivery::{Chunk, Delivered, DriveFault, deliver};
 pub use desk::{Desk, Reply};

@@ -3,7 +3,7 @@ ghost use Rattle.std.specs.Prelude.{◌≡◌, ◌≤◌, ◌<◌, ◌+◌, ◌^
 ghost use Rattle.std.specs.List.{range_with_len};
 ghost use Rattle.std.specs.List.Sorted.{SwapsInRange};
 ghost use Rattle.scan_drive.specs.Actives.{AreSeats};
-ghost use Rattle.scan_drive.specs.Forward.{IsBehind, BringsForward, KeepsLine, split_fault_in, fault_in};
+ghost use Rattle.scan_drive.specs.Forward.{BringsForward, KeepsLine, split_fault_in, fault_in};
 ghost use Rattle.scan_drive.specs.Line.{exchanged, restored, placed_by, renamed};
 ghost use Rattle.scan_drive.specs.Phases.{is_unopened, phase_at};
 ghost use Rattle.scan_drive.specs.declared.delivery.DriveFault.TheVariants as faults;
@@ -33,16 +33,6 @@ fn is_shut<W, F>(phase: &Phase<W, F>) -> bool
     }
 }
 
-/// The first place of which no rows were given.
-fn behind<R>(chunks: &Vec<Chunk<R>>, first: usize) -> usize
-    ensures { (i : ℕ) → result ≤ i → i < 2 ^ 64 - 1 → IsBehind chunks.now.items i }
-{
-    match chunks.last() {
-        Some(chunk) => chunk.file.saturating_add(1).max(first),
-        None => first,
-    }
-}
-
 /// Exchanges two places, of which the second is open, unless the first one is.
 fn exchange<O: Drop, S: Drop, W: SplitWork + Drop, F: Drop>(
     files: &mut Vec<ScanFile<O, S>>,
@@ -57,7 +47,6 @@ fn exchange<O: Drop, S: Drop, W: SplitWork + Drop, F: Drop>(
     requires files { length files.old.items ≡ length drive.old.phases.items }
     requires desks { length desks.old.items ≡ length drive.old.phases.items }
     requires opened { is_unopened (phase_at drive.old.phases.items place) ≡ 0 }
-    requires behind { IsBehind drive.old.chunks.items front }
     ensures { BringsForward (place + 1) exchanges.old.items exchanges.new.items
         files.old.items files.new.items desks.old.items desks.new.items drive.old drive.new }
 {
@@ -83,7 +72,6 @@ fn bring_between<O: Drop, S: Drop, W: SplitWork + Drop, F: Drop>(
     requires within { last ≤ length drive.old.phases.items }
     requires files { length files.old.items ≡ length drive.old.phases.items }
     requires desks { length desks.old.items ≡ length drive.old.phases.items }
-    requires behind { (i : ℕ) → first ≤ i → i < 2 ^ 64 - 1 → IsBehind drive.old.chunks.items i }
     ensures { BringsForward last exchanges.old.items exchanges.new.items
         files.old.items files.new.items desks.old.items desks.new.items drive.old drive.new }
 {
@@ -98,29 +86,28 @@ fn bring_between<O: Drop, S: Drop, W: SplitWork + Drop, F: Drop>(
     Ok(())
 }
 
-/// Brings files that are open before those that are not, among those whose openers are polled and of which nothing was
-/// given. What was exchanged is pushed to the log. Where files are read in order, nothing is.
+/// Brings files that are open before those that are not, among those whose openers are polled. What was exchanged is pushed
+/// to the log. Where files are read in order, nothing is.
 pub(crate) fn bring_forward<O: Drop, S: Drop, W: SplitWork + Drop, F: Drop>(
     files: &mut Vec<ScanFile<O, S>>,
     desks: &mut Vec<Desk>,
     drive: &mut Drive<W, W::Rows, F>,
     exchanges: &mut Vec<(usize, usize)>,
     workers: usize,
-    ordered: bool,
 ) -> Result<(), NoMemory>
     requires files { length files.old.items ≡ length drive.old.phases.items }
     requires desks { length desks.old.items ≡ length drive.old.phases.items }
     requires seated { (free : List ℕ) × AreSeats drive.old.active.turns.items free drive.old.active.slots.items }
     ensures line { KeepsLine workers exchanges.old.items exchanges.new.items
         files.old.items files.new.items desks.old.items desks.new.items drive.old drive.new }
-    ensures order { ordered ≡ true → exchanges.new.items ≡ exchanges.old.items }
+    ensures order { drive.old.ordered ≡ true → exchanges.new.items ≡ exchanges.old.items }
 {
     let done = finished(&drive.active.turns, &drive.active.slots, drive.first);
-    if ordered {
+    if drive.ordered {
         return Ok(());
     }
     let last = window(done, workers, files.len());
-    let first = behind(&drive.chunks, drive.first);
+    let first = drive.first;
     bring_between(files, desks, drive, exchanges, first, last)
 }
 

@@ -2,7 +2,8 @@
 ghost use Rattle.std.specs.Prelude.{◌≡◌, ◌≤◌, ◌<◌, ◌+◌, ◌++◌, ◌⊎◌, ◌∷◌, [], ℕ, List, true, false, OnOk, IfOk, IfErr, IfSome, MatchOption, length};
 ghost use Rattle.scan_drive.specs.Actives.{AreSeats, AllOk};
 ghost use Rattle.scan_drive.specs.Asks.{EachLinkedBut, IsWantedBy};
-ghost use Rattle.scan_drive.specs.Chunks.{HasRoom, KeepsRows, IsMore, IsCut, IsDeliverFault, IsCause};
+ghost use Rattle.scan_drive.specs.Chunks.{HasRoom, KeepsFiles, KeepsRows, IsMore, IsCut, IsDeliverFault, IsCause};
+ghost use Rattle.scan_drive.specs.Budgets.{IsBudget};
 ghost use Rattle.scan_drive.specs.Before.{IsDone, InOrder, SoundInOrder};
 ghost use Rattle.scan_drive.specs.Desks.{Waiters};
 ghost use Rattle.scan_drive.specs.Drives.{DesksAgree, SourcesMove, EachLinked, FilesWithin, SlotsKeep, NoneOf};
@@ -25,7 +26,8 @@ ghost use Rattle.scan_drive.specs.Wants.{Cache};
 ghost use Rattle.scan_splits.specs.Wanted.{no_repeats};
 
 use crate::active::{Active, first_of};
-use crate::delivery::{Chunk, Delivered, DriveFault, deliver};
+use crate::budget::Budget;
+use crate::delivery::{Chunk, Delivered, DriveFault, deliver_in};
 use crate::desk::Desk;
 use crate::drive::fetch_files;
 use crate::files::{ScanFile, open_files};
@@ -36,7 +38,7 @@ use crate::report::ScanReport;
 use crate::slot::Slot;
 use crate::wants::want_news;
 use crate::work::SplitWork;
-use crate::workers::poll_news;
+use crate::workers::poll_in;
 use scan_segments::{KeyedSegmentCache, SegmentSource};
 use scan_values::NoMemory;
 use std::alloc::Global;
@@ -55,6 +57,10 @@ pub struct Drive<W, R, F> {
     /// How many rows may still be given, where there is a limit.
     pub left: Option<u64>,
     pub report: ScanReport,
+    /// Whether rows are given in the order of files and splits.
+    pub ordered: bool,
+    /// What grants the rows of a limit in no order.
+    pub budget: Option<Budget>,
 }
 
 /// The file of the split whose turn it is.
@@ -125,7 +131,8 @@ pub(crate) fn bring_in<X: SplitOpener<O, W, F>, O, W: SplitWork + Drop, F: Drop,
     ensures moves { EachMoves (X.state context.now) X.polls S.state (Unit {0}) files.old.items files.new.items }
     ensures sources { KeepsSources files.old.items files.new.items }
     ensures stands { OnOk result (Stands (length files.old.items) drive.new) }
-    ensures rest { (drive.new.chunks ≡ drive.old.chunks) × (drive.new.left ≡ drive.old.left) × (drive.new.report ≡ drive.old.report) }
+    ensures rest { (drive.new.chunks ≡ drive.old.chunks) × (drive.new.left ≡ drive.old.left) × (drive.new.report ≡ drive.old.report)
+        × (drive.new.ordered ≡ drive.old.ordered) × (drive.new.budget ≡ drive.old.budget) }
     ensures links { OnOk result ((desks : List Waiters) → EachLinked desks drive.old.active.slots.items →
         EachLinked desks drive.new.active.slots.items) }
     ensures halts { OnOk result (HaltsStay drive.old.active.slots.items drive.new.active.slots.items) }
@@ -146,7 +153,7 @@ pub(crate) fn bring_in<X: SplitOpener<O, W, F>, O, W: SplitWork + Drop, F: Drop,
     ensures polled { OnOk result ((start : List (ScanFile O S)) →
         PollsStand (X.state context.now) start files.old.items drive.old.phases.items →
         PollsStand (X.state context.now) start files.new.items drive.new.phases.items) }
-    ensures polls { PollsOn (X.state context.now) W.items workers (limit_in W.split W.comes W.items drive.old)
+    ensures polls { PollsOn (X.state context.now) W.items drive.old.ordered workers (limit_in W.split W.comes W.items drive.old)
         (tells (X.state context.now) S.state files.old.items)
         (SoundInOrder W.split W.comes W.items (tells (X.state context.now) S.state files.old.items) drive.old)
         drive.old.phases.items files.old.items files.new.items }
@@ -167,13 +174,16 @@ pub(crate) fn bring_in<X: SplitOpener<O, W, F>, O, W: SplitWork + Drop, F: Drop,
     Ok(opened)
 }
 
-/// Polls the splits with news, and gives the rows of those whose turn it is. It answers the places of the splits that wait
-/// for other segments now, or nothing once the limit is met.
+/// Polls the splits with news, and gives the rows of those whose turn it is, or in no order of all that are read, which of
+/// a limit a budget has granted. It answers the places of the splits that wait for other segments now, or nothing once the
+/// limit is met.
 pub(crate) fn give_out<R: Threads + Sync, W: SplitWork + Drop + Send, G: Gate>(
     rt: &R,
     alloc: Global,
     gate: &G,
     workers: usize,
+    ordered: bool,
+    budget: &mut Option<Budget>,
     active: &mut Active<W, W::Rows>,
     chunks: &mut Vec<Chunk<W::Rows>>,
     left: &mut Option<u64>,
@@ -181,6 +191,7 @@ pub(crate) fn give_out<R: Threads + Sync, W: SplitWork + Drop + Send, G: Gate>(
     requires workers { 0 < workers }
     requires ready { (n : ℕ) × IsReady n active.old }
     requires room { HasRoom left.old }
+    requires budget { IsBudget ordered left.old budget.old }
     ensures ready { IfOk result (λ o. IfSome o (λ asking. (n : ℕ) → IsReady n active.old → IsReady n active.new)) }
     ensures asks { IfOk result (λ o. IfSome o (λ asking. AreAsking asking.items active.new.slots.items)) }
     ensures once { IfOk result (λ o. IfSome o (λ asking. no_repeats asking.items ≡ true)) }
@@ -192,10 +203,12 @@ pub(crate) fn give_out<R: Threads + Sync, W: SplitWork + Drop + Send, G: Gate>(
     ensures ok { OnOk result ((tale : List (Told Item)) → AllOk W.split W.comes W.items tale active.old →
         AllOk W.split W.comes W.items tale active.new) }
     ensures gives { IfOk result (λ o. MatchOption o
-        (IsCut W.split W.comes W.items active.old chunks.old.items chunks.new.items left.old)
-        (λ asking. IsMore W.split W.comes W.items active.old active.new chunks.old.items chunks.new.items left.old left.new)) }
+        (IsCut W.split W.comes W.items ordered active.old chunks.old.items chunks.new.items left.old)
+        (λ asking. IsMore W.split W.comes W.items ordered active.old active.new chunks.old.items chunks.new.items
+        left.old left.new)) }
     ensures some { OnOk result (KeepsRows W.items chunks.old.items chunks.new.items) }
-    ensures fault { IfErr result (λ e. IsDeliverFault W.split W.comes W.items active.old active.new
+    ensures files { OnOk result (KeepsFiles active.old.slots.items chunks.old.items chunks.new.items) }
+    ensures fault { IfErr result (λ e. ordered ≡ true → IsDeliverFault W.split W.comes W.items active.old active.new
         chunks.old.items chunks.new.items left.old left.new e) }
     ensures cause { IfErr result (λ e. (tale : List (Told Item)) →
         AllOk W.split W.comes W.items tale active.old → IsCause tale e) }
@@ -206,20 +219,26 @@ pub(crate) fn give_out<R: Threads + Sync, W: SplitWork + Drop + Send, G: Gate>(
         ((slots_steps W.split active.new.slots.items < slots_steps W.split active.old.slots.items)
         ⊎ ((slots_steps W.split active.new.slots.items ≤ slots_steps W.split active.old.slots.items)
         × (active.new.turns.items ≡ active.old.turns.items))))) }
+    ensures budget { IfOk result (λ o. IfSome o (λ asking. IsBudget ordered left.new budget.new)) }
 {
-    let asking = match poll_news(
+    let polled = match poll_in(
         rt,
         alloc,
         gate,
         workers,
+        budget,
         &mut active.slots,
         &mut active.news,
     ) {
-        Ok(asking) => asking,
+        Ok(polled) => polled,
         Err(_) => return Err(DriveFault::NoMemory),
     };
-    match deliver(alloc, active, chunks, left) {
-        Ok(Delivered::More) => Ok(Some(asking)),
+    match deliver_in(alloc, ordered, active, chunks, left) {
+        Ok(Delivered::More) => match polled {
+            Some(asking) => Ok(Some(asking)),
+            // A budget that is used up meets the limit.
+            None => unreachable!(),
+        },
         Ok(Delivered::Full) => Ok(None),
         Err(fault) => Err(fault),
     }

@@ -7,8 +7,9 @@ ghost use Rattle.scan_drive.specs.Before.{SoundInOrder, StopsBefore};
 ghost use Rattle.scan_drive.specs.Drives.{DesksAgree, EachLinked, IsIdle};
 ghost use Rattle.scan_drive.specs.Drivings.{WasAdmitted};
 ghost use Rattle.scan_drive.specs.Ends.{limit_in};
-ghost use Rattle.scan_drive.specs.Files.{AllTell, answer, limited};
+ghost use Rattle.scan_drive.specs.Files.{AllTell, answer};
 ghost use Rattle.scan_drive.specs.Forward.{LinePolls};
+ghost use Rattle.scan_drive.specs.Grants.{AreGiven};
 ghost use Rattle.scan_drive.specs.Grounds.{At, IsGround, EndsGrounded, RoundGrounds};
 ghost use Rattle.scan_drive.specs.Line.{exchanged};
 ghost use Rattle.scan_drive.specs.Moves.{EachMoves, tells};
@@ -82,11 +83,11 @@ pub fn make_round<
     ensures some { OnOk result (KeepsRows W.items drive.old.chunks.items drive.new.chunks.items) }
     ensures fault { IfErr result (λ e. StopsIn (X.state context.now) X.polls (X.refuses context.now) S.state
         W.split W.comes W.items files.old.items files.new.items drive.old drive.new e) }
-    ensures polls { PollsOn (X.state context.now) W.items workers (limit_in W.split W.comes W.items drive.old)
+    ensures polls { PollsOn (X.state context.now) W.items drive.old.ordered workers (limit_in W.split W.comes W.items drive.old)
         (tells (X.state context.now) S.state files.old.items)
         (SoundInOrder W.split W.comes W.items (tells (X.state context.now) S.state files.old.items) drive.old)
         drive.old.phases.items files.old.items files.new.items }
-    ensures before { IfErr result (λ e.
+    ensures before { IfErr result (λ e. drive.old.ordered ≡ true →
         SoundInOrder W.split W.comes W.items (tells (X.state context.now) S.state files.old.items) drive.old →
         StopsBefore W.items (limit_in W.split W.comes W.items drive.old)
         (tells (X.state context.now) S.state files.old.items) e) }
@@ -161,12 +162,12 @@ fn wait_rounds<
     ensures balance { IfOk result (λ r. RunKeeps S.state (limit_in W.split W.comes W.items drive.old)
         files.old.items files.new.items desks.new.items (C.cache cache.old) (C.cache cache.new) drive.old drive.new r) }
     ensures some { OnOk result (KeepsRows W.items drive.old.chunks.items drive.new.chunks.items) }
-    ensures polls { PollsOn (X.state context.now) W.items workers (limit_in W.split W.comes W.items drive.old)
+    ensures polls { PollsOn (X.state context.now) W.items drive.old.ordered workers (limit_in W.split W.comes W.items drive.old)
         (tells (X.state context.now) S.state files.old.items)
         (CacheAgrees S.state files.old.items (C.cache cache.old)
         × SoundInOrder W.split W.comes W.items (tells (X.state context.now) S.state files.old.items) drive.old)
         drive.old.phases.items files.old.items files.new.items }
-    ensures before { IfErr result (λ e. CacheAgrees S.state files.old.items (C.cache cache.old) →
+    ensures before { IfErr result (λ e. drive.old.ordered ≡ true → CacheAgrees S.state files.old.items (C.cache cache.old) →
         SoundInOrder W.split W.comes W.items (tells (X.state context.now) S.state files.old.items) drive.old →
         StopsBefore W.items (limit_in W.split W.comes W.items drive.old)
         (tells (X.state context.now) S.state files.old.items) e) }
@@ -213,7 +214,6 @@ pub fn run_rounds<
     drive: &mut Drive<W, W::Rows, F>,
     exchanges: &mut Vec<(usize, usize)>,
     workers: usize,
-    ordered: bool,
 ) -> Result<(), RoundFault<F>>
     requires workers { 0 < workers }
     requires idle { All (IsIdle S.state) files.old.items }
@@ -222,7 +222,7 @@ pub fn run_rounds<
     requires room { HasRoom drive.old.left }
     requires none { exchanges.old.items ≡ [] }
     ensures places { SwapsInRange (length files.old.items) exchanges.new.items }
-    ensures order { ordered ≡ true → exchanges.new.items ≡ [] }
+    ensures order { drive.old.ordered ≡ true → exchanges.new.items ≡ [] }
     ensures agree { DesksAgree S.state files.new.items desks.new.items }
     ensures moves { EachMoves (X.state context.now) X.polls S.state
         (CacheAgrees S.state (exchanged exchanges.new.items files.old.items) (C.cache cache.old))
@@ -236,15 +236,16 @@ pub fn run_rounds<
         (exchanged exchanges.new.items files.old.items) files.new.items desks.new.items
         (C.cache cache.old) (C.cache cache.new) drive.old drive.new) }
     ensures some { OnOk result (All (HasRow W.items) drive.new.chunks.items) }
-    ensures polls { LinePolls (X.state context.now) S.state W.items ordered workers drive.old.left (C.cache cache.old)
+    ensures polls { LinePolls (X.state context.now) S.state W.items drive.old.ordered workers drive.old.left (C.cache cache.old)
         files.old.items exchanges.new.items files.new.items }
-    ensures before { IfErr result (λ e. ordered ≡ true →
+    ensures before { IfErr result (λ e. drive.old.ordered ≡ true →
         IsLawful (X.state context.now) S.state files.old.items (C.cache cache.old) →
         StopsBefore W.items drive.old.left (tells (X.state context.now) S.state files.old.items) e) }
     ensures done { OnOk result (
         IsLawful (X.state context.now) S.state (exchanged exchanges.new.items files.old.items) (C.cache cache.old) →
-        given W.items drive.new.chunks.items ≡ limited drive.old.left
-        (answer (tells (X.state context.now) S.state (exchanged exchanges.new.items files.old.items)))) }
+        AreGiven drive.old.ordered drive.old.left
+        (answer (tells (X.state context.now) S.state (exchanged exchanges.new.items files.old.items)))
+        (given W.items drive.new.chunks.items)) }
     ensures opened { OnOk result (drive.old.left ≡ None → (k : ℕ) → k < length files.old.items →
         At (exchanged exchanges.new.items files.old.items) files.new.items
         (WasAdmitted (X.state context.now) X.polls (X.admits context.now)) k) }
@@ -260,7 +261,7 @@ pub fn run_rounds<
             Ok(Round::More) => unreachable!(),
             Err(fault) => return Err(fault),
         }
-        match bring_forward(files, desks, drive, exchanges, workers, ordered) {
+        match bring_forward(files, desks, drive, exchanges, workers) {
             Ok(()) => {}
             Err(_) => return Err(RoundFault::Split(DriveFault::NoMemory)),
         }

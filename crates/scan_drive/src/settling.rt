@@ -5,7 +5,8 @@ ghost use Rattle.scan_drive.specs.Before.{SoundInOrder, StopsBefore};
 ghost use Rattle.scan_drive.specs.Drives.{NoneOf};
 ghost use Rattle.scan_drive.specs.Accounts.{RunsOut};
 ghost use Rattle.scan_drive.specs.Ends.{EndIs, Settles, Stops, limit_in};
-ghost use Rattle.scan_drive.specs.Files.{Item, Told, AllTell, answer, limited};
+ghost use Rattle.scan_drive.specs.Files.{Item, Told, AllTell, answer};
+ghost use Rattle.scan_drive.specs.Grants.{AreGiven};
 ghost use Rattle.scan_drive.specs.Grounds.{SettlesBy};
 ghost use Rattle.scan_drive.specs.Lost.{EachFollows};
 ghost use Rattle.scan_drive.specs.Phases.{phase_at};
@@ -83,8 +84,8 @@ fn end_of<W: Drop, F: Drop>(phases: &mut Vec<Phase<W, F>>, first: usize, tally: 
     }
 }
 
-/// Polls the splits with news, and gives the rows of those whose turn it is. It answers the places of the splits that wait
-/// for other segments now, or nothing once all is given or the limit is met.
+/// Polls the splits with news, and gives the rows of those whose turn it is, or in no order of all that are read. It answers
+/// the places of the splits that wait for other segments now, or nothing once all is given or the limit is met.
 pub(crate) fn settle<R: Threads + Sync, W: SplitWork + Drop + Send, F: Drop, G: Gate>(
     rt: &R,
     alloc: Global,
@@ -97,14 +98,14 @@ pub(crate) fn settle<R: Threads + Sync, W: SplitWork + Drop + Send, F: Drop, G: 
     ensures report { drive.new.report ≡ drive.old.report }
     ensures waits { IfOk result (λ o. IfSome o (λ asking. Settles W.split W.comes W.items asking.items drive.old drive.new)) }
     ensures done { IfOk result (λ o. o ≡ None → (tale : List (Told Item)) → AllTell tale →
-        Sound W.split W.comes W.items tale drive.old →
-        given W.items drive.new.chunks.items ≡ limited (limit_in W.split W.comes W.items drive.old) (answer tale)) }
+        Sound W.split W.comes W.items tale drive.old → AreGiven drive.old.ordered
+        (limit_in W.split W.comes W.items drive.old) (answer tale) (given W.items drive.new.chunks.items)) }
     ensures out { IfOk result (λ o. o ≡ None → limit_in W.split W.comes W.items drive.old ≡ None →
         RunsOut drive.old.active.slots.items) }
     ensures some { OnOk result (KeepsRows W.items drive.old.chunks.items drive.new.chunks.items) }
     ensures fault { IfErr result (λ e. (tale : List (Told Item)) → Sound W.split W.comes W.items tale drive.old →
         Stops W.split W.comes W.items tale drive.old drive.new e) }
-    ensures before { IfErr result (λ e. (tale : List (Told Item)) → SoundInOrder W.split W.comes W.items tale drive.old →
+    ensures before { IfErr result (λ e. drive.old.ordered ≡ true → (tale : List (Told Item)) → SoundInOrder W.split W.comes W.items tale drive.old →
         StopsBefore W.items (limit_in W.split W.comes W.items drive.old) tale e) }
     ensures follows { IfOk result (λ o. IfSome o (λ asking.
         EachFollows NoneOf NoneOf drive.old.active.slots.items drive.new.active.slots.items)) }
@@ -117,6 +118,8 @@ pub(crate) fn settle<R: Threads + Sync, W: SplitWork + Drop + Send, F: Drop, G: 
         alloc,
         gate,
         workers,
+        drive.ordered,
+        &mut drive.budget,
         &mut drive.active,
         &mut drive.chunks,
         &mut drive.left,

@@ -109,7 +109,7 @@ module _ {O S : Type 0} (opener : O → OpenerState) (source : S → SourceState
     late = none;
     there = h.there;
     fact = λ f. g f h.there (h.fact f);
-    before = λ o l. reached d q a asks (told opener source old) k (subst (λ z. drive.GivesBefore row_items q.limit z k) (tale_is opener source a old l.tells) (h.before o (lawful_drive opener source a old c l)));
+    before = λ o l. reached d q a asks (told opener source old) k (subst (λ z. drive.GivesBefore row_items true q.limit z k) (tale_is opener source a old l.tells) (h.before o (lawful_drive opener source a old c l)));
   }
 
   -- ---- what is read

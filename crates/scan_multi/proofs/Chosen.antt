@@ -1,4 +1,4 @@
--- The places of an answer rise, so that the first of its items, in whatever order, are a choice of them.
+-- The places of an answer rise, so that as many of its items as there may be, none given twice, are a choice of them.
 use Rattle.std.proofs.Common.{◌≡◌, ◌≢◌, ◌<◌, ◌≤◌, ◌+◌, ℕ, zero, suc, Bool, true, false, List, [], ◌∷◌, ◌++◌, filter, flat_map, get_or, length, map, take, inl, inr, refl, sym, ap, subst, ◌∙◌, arith}
 use Rattle.std.specs.Prelude.{◌⊎◌, ◌==◌, ◌&&◌, Contains, Option, None, Some, IsPermutation, cond, if◌then◌else◌}
 use Rattle.std.specs.List.{list_any, range_with_len, IsDistinct}
@@ -17,8 +17,10 @@ use Rattle.scan_layout.specs.RowValue.{row_value}
 use Rattle.scan_opener.specs.Opener.{Given, skip, layout_of}
 use Rattle.scan_multi.specs.Answer.{Item, ToldFile, answer, answer_from, drops, finding, is_good, part_of, row_items, spills_at}
 use Rattle.scan_multi.specs.Output.{IsChoice, limited, place_of}
+use Rattle.scan_multi.proofs.Members.{In-from, In-to}
 use Rattle.scan_multi.proofs.Orders.{either_way, other_numbers, same_numbers}
 use Rattle.scan_multi.proofs.SplitItems.{tests}
+use Rattle.scan_multi.proofs.Subs.{IsSub, sub_distinct, sub_in}
 use Rattle.scan_expr.specs.Eval.{eval}
 
 -- an item at a row of a file, or behind it
@@ -153,16 +155,6 @@ other_place x y h e =
     both_ways (is_there x y) h ((λ z. f z && r z))
 
 -- ---- as many items as a limit allows
-taken_at : (n i : ℕ) (xs : List Item) (d : Item) → i < length (take n xs) → (get_or (take n xs) i d ≡ get_or xs i d) × (i < length xs)
-taken_at zero i xs d l = absurd (omega arith)
-taken_at (suc n) i [] d l = absurd (omega arith)
-taken_at (suc n) zero (x ∷ xs) d l = (refl, omega arith)
-taken_at (suc n) (suc i) (x ∷ xs) d l = let r = taken_at n i xs d (omega arith) in (r.0, omega (arith, r.1))
-
-limited_at : (limit : Option ℕ) (i : ℕ) (xs : List Item) (d : Item) → i < length (limited limit xs) → (get_or (limited limit xs) i d ≡ get_or xs i d) × (i < length xs)
-limited_at None i xs d l = (refl, l)
-limited_at (Some n) i xs d l = taken_at n i xs d l
-
 taken_long : (n : ℕ) (xs ys : List Item) → length xs ≡ length ys → length (take n xs) ≡ length (take n ys)
 taken_long zero xs ys e = refl
 taken_long (suc n) [] [] e = refl
@@ -174,19 +166,18 @@ limited_long : (limit : Option ℕ) (xs ys : List Item) → length xs ≡ length
 limited_long None xs ys e = e
 limited_long (Some n) xs ys e = taken_long n xs ys e
 
--- the first of the items of an answer, in whatever order they stand, are a choice of them
-pub first_chosen : (d : DataType) (request : ScanRequest) (files : List ToldFile) (limit : Option ℕ) (items : List Item) → IsPermutation items (answer d request files) → IsChoice limit (answer d request files) (limited limit items)
-first_chosen d request files limit items p = record {
-  once = λ i j x l m.
-      let first = limited_at limit i items x (omega (arith, l, m)) in
-      let second = limited_at limit j items x m in
-      let far : is_there (get_or items i x) (get_or items j x) ≡ false = apart_from_distinct is_there items i j x distinct l second.1 in
-      other_place (get_or (limited limit items) i x) (get_or (limited limit items) j x) ((λ z. is_there (first.0 z) (second.0 z)) ∙ far);
-  each = λ k e l. let at = limited_at limit k items e l in subst (Contains (answer d request files)) (sym at.0) (Contains-permutation items (answer d request files) (get_or items k e) p (Contains-get_or items k e at.1));
-  count = limited_long limit items (answer d request files) (sym (length_permutation items (answer d request files) p));
+-- items that stand among those of an answer, in whatever order these are, as many as the limit allows, are a choice of them
+pub part_chosen : (d : DataType) (request : ScanRequest) (files : List ToldFile) (limit : Option ℕ) (items whole : List Item) → IsPermutation whole (answer d request files) → IsSub items whole
+    → length items ≡ length (limited limit whole) → IsChoice limit (answer d request files) items
+part_chosen d request files limit items whole p sub many = record {
+  once = λ i j x l m. other_place (get_or items i x) (get_or items j x) (apart_from_distinct is_there items i j x (sub_distinct is_there items whole sub distinct) l m);
+  each = λ k e l.
+      let among : Contains whole (get_or items k e) = In-to (get_or items k e) whole (sub_in (get_or items k e) items whole sub (In-from (get_or items k e) items (Contains-get_or items k e l))) in
+      Contains-permutation whole (answer d request files) (get_or items k e) p among;
+  count = many ∙ limited_long limit whole (answer d request files) (sym (length_permutation whole (answer d request files) p));
 }
   where
-    distinct : IsDistinct is_there items
+    distinct : IsDistinct is_there whole
     distinct =
-        IsDistinct-IsPermutation is_there turned (answer d request files) items (IsPermutation-sym items (answer d request files) p)
+        IsDistinct-IsPermutation is_there turned (answer d request files) whole (IsPermutation-sym whole (answer d request files) p)
         (IsDistinct-from_apart is_there (answer d request files) (λ i j x l m. all_apart 0 0 (answer d request files) i j x (answer_rises d request 0 files) l m))

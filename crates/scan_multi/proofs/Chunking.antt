@@ -114,7 +114,7 @@ below-of (Some k) n h = h
 
 module _ (d : DataType) (q : ScanRequest) (a : FileAsk) (asks : AsksFor d q a) (files : List ToldFile) where
   -- all rows of the files before a place were given, and there was room for more
-  pub reached : (k : ℕ) → GivesBefore row_items q.limit (map (tale_of a) files) k → ReachesFile d q files k
+  pub reached : (k : ℕ) → GivesBefore row_items true q.limit (map (tale_of a) files) k → ReachesFile d q files k
   reached k g = reaches d q a asks files k (drive_chunks.given row_items g.chunks) g.more g.groups (chunks_clean g.chunks) (below-of q.limit _ g.room)
 
   -- all rows of so many of the files up to a place were given, and there was room for more

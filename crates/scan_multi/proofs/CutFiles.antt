@@ -83,13 +83,13 @@ module _ (d : DataType) (request : ScanRequest) (files : List ToldFile) where
   all_places = range_with_len 0 (length files)
 
   -- files from a place on
-  abbrev AreFrom : ℕ → List ToldFile → Type 0
+  abbrev pub AreFrom : ℕ → List ToldFile → Type 0
   AreFrom place fs = (k : ℕ) (f : ToldFile) → get_or files (place + k) f ≡ get_or fs k f
 
-  first_is : (place : ℕ) (f : ToldFile) (fs : List ToldFile) → AreFrom place (f ∷ fs) → f ≡ get_or files place no_file
+  pub first_is : (place : ℕ) (f : ToldFile) (fs : List ToldFile) → AreFrom place (f ∷ fs) → f ≡ get_or files place no_file
   first_is place f fs h = sym (ap (λ k. get_or files k no_file) (let z : place ≡ place + 0 = omega arith in z) ∙ h 0 no_file)
 
-  others_from : (place : ℕ) (f : ToldFile) (fs : List ToldFile) → AreFrom place (f ∷ fs) → AreFrom (place + 1) fs
+  pub others_from : (place : ℕ) (f : ToldFile) (fs : List ToldFile) → AreFrom place (f ∷ fs) → AreFrom (place + 1) fs
   others_from place f fs h = λ k e. ap (λ j. get_or files j e) (let z : place + 1 + k ≡ place + suc k = omega arith in z) ∙ h (suc k) e
 
   parts_from : (place : ℕ) (fs : List ToldFile) → AreFrom place fs → answer_from d request place fs ≡ flat_map part_at (range_with_len place (length fs))
@@ -114,7 +114,7 @@ module _ (d : DataType) (request : ScanRequest) (files : List ToldFile) where
       go (inl l) = other_file x y (omega (arith, l, e))
       go (inr p) = other_file x y (omega (arith, p.0, e))
 
-  files_off : (place : ℕ) (xs ys : List Item) → AreOf place xs → RiseFrom (place + 1) 0 ys → AreOff (is_beside d request files) xs ys
+  pub files_off : (place : ℕ) (xs ys : List Item) → AreOf place xs → RiseFrom (place + 1) 0 ys → AreOff (is_beside d request files) xs ys
   files_off place [] ys o h = tt
   files_off place (x ∷ xs) ys o h = (first_off place x ys o.0 h, files_off place xs ys o.1 h)
 

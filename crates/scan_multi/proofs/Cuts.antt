@@ -18,7 +18,7 @@ use Rattle.scan_multi.proofs.Orders.{other_numbers, same_numbers}
 abbrev pub group_items : drive.Group drive.Item → List Item
 group_items g = items_from (drive.placed g)
 
-items_append : (xs ys : List Row) → items_from (xs ++ ys) ≡ items_from xs ++ items_from ys
+pub items_append : (xs ys : List Row) → items_from (xs ++ ys) ≡ items_from xs ++ items_from ys
 items_append [] ys = refl
 items_append (x ∷ xs) ys = ap (λ zs. item_from x ∷ zs) (items_append xs ys)
 
@@ -178,7 +178,7 @@ with_later None items = append-nil items
 with_later (Some n) items = take-append-drop n items
 
 module _ (d : DataType) (request : ScanRequest) (a : FileAsk) (asks : AsksFor d request a) (files : List ToldFile) where
-  all_keyed : KeyedFrom (split_in d request files) 0 0 (drive.answer (map (tale_of a) files))
+  pub all_keyed : KeyedFrom (split_in d request files) 0 0 (drive.answer (map (tale_of a) files))
   all_keyed = subst (λ z. KeyedFrom (split_in d request files) 0 0 (drive.answer (map (tale_of z) files))) (sym asks.is) (answer_keyed d request files (record { is = refl; askable = asks.askable }))
 
   -- clean groups of a drive in order, as chunks with these items, are split where the files are

@@ -13,6 +13,7 @@ pub mod ValueKinds
 pub mod Judged
 pub mod NamedPlaces
 pub mod Tales
+pub mod Subs
 pub mod Chosen
 pub mod CutFiles
 pub mod Reached
@@ -23,6 +24,8 @@ pub mod Polling
 pub mod Telling
 pub mod Meaning
 pub mod Laws
+pub mod Pairing
+pub mod FileParts
 pub mod Arranged
 pub mod Chunking
 pub mod Moving

@@ -108,7 +108,7 @@ module _ {O S : Type 0} (opener : O → OpenerState) (source : S → SourceState
         goes-on : q.ordered ≡ true → IsLawful opener source old c → (k : ℕ) (f : ScanFile O S) → WasPolled opener source workers d q c old new k f → IsBelow q.limit (length (answer d q (take (k + 1 - workers) (told opener source old))))
         goes-on o l k f w =
             let late = p.late o (lawful_drive opener source a old c l) k f w in
-            (reached d q a asks (told opener source old) (k + 1 - workers) (subst (λ z. GivesBefore row_items q.limit z (k + 1 - workers)) (tale_is opener source a old l.tells) late)).below
+            (reached d q a asks (told opener source old) (k + 1 - workers) (subst (λ z. GivesBefore row_items true q.limit z (k + 1 - workers)) (tale_is opener source a old l.tells) late)).below
 
         there-is : (k : ℕ) (f : ScanFile O S) → WasPolled opener source workers d q c old new k f → (k < length old) ⊎ (length old ≤ k) → k < length old
         there-is k f w (inl lt) = lt

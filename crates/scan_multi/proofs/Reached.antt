@@ -45,7 +45,7 @@ below_less : (limit : Option ℕ) (m n : ℕ) → m ≤ n → IsBelow limit n �
 below_less None m n l h = tt
 below_less (Some k) m n l h = let below : n < k = h in omega (arith, l)
 
-placed_length : (g : drive.Group drive.Item) → length (drive.placed g) ≡ length g.1
+pub placed_length : (g : drive.Group drive.Item) → length (drive.placed g) ≡ length g.1
 placed_length g = go g.1
   where
     go : (xs : List drive.Item) → length (map {B = Row} (λ x. (g.0, x)) xs) ≡ length xs
@@ -57,7 +57,7 @@ pub counted : (gs : List (drive.Group drive.Item)) → length (drive.flattened g
 counted [] = refl
 counted (g ∷ gs) = length-append (drive.placed g) (drive.flattened gs) ∙ ap (λ n. n + length (drive.flattened gs)) (placed_length g) ∙ ap (λ n. length g.1 + n) (counted gs)
 
-length_mapped : (xs : List Row) → length (items_from xs) ≡ length xs
+pub length_mapped : (xs : List Row) → length (items_from xs) ≡ length xs
 length_mapped [] = refl
 length_mapped (x ∷ xs) = ap suc (length_mapped xs)
 

@@ -20,7 +20,8 @@ use Rattle.scan_multi.specs.Answer.{ToldFile}
 use Rattle.scan_multi.specs.Asked.{AsksFor, Row, tale_of}
 use Rattle.scan_multi.proofs.Meaning.{AreOf}
 
-typed_append : (t : DataType) (xs ys : List Row) → AreOf t xs → AreOf t ys → AreOf t (xs ++ ys)
+-- rows one after the other
+pub typed_append : (t : DataType) (xs ys : List Row) → AreOf t xs → AreOf t ys → AreOf t (xs ++ ys)
 typed_append t [] ys h k = k
 typed_append t (x ∷ xs) ys h k = (h.0, typed_append t xs ys h.1 k)
 
@@ -38,6 +39,12 @@ typed_first : (t : DataType) (n : ℕ) (xs : List Row) → AreOf t xs → AreOf 
 typed_first t zero xs h = tt
 typed_first t (suc n) [] h = tt
 typed_first t (suc n) (x ∷ xs) h = (h.0, typed_first t n xs h.1)
+
+-- those of a group
+pub placed_front : (t : DataType) (file n : ℕ) (xs : List drive.Item) → AreOf t (drive.placed (file, xs)) → AreOf t (drive.placed (file, take n xs))
+placed_front t file zero xs h = tt
+placed_front t file (suc n) [] h = tt
+placed_front t file (suc n) (x ∷ xs) h = (h.0, placed_front t file n xs h.1)
 
 -- the rows of groups, as far as a limit allows
 pub limited_typed : (t : DataType) (whole : List (drive.Group drive.Item)) → AreOf t (drive.flattened whole) → (limit : Option ℕ) (gs : List (drive.Group drive.Item)) → gs ≡ drive.limited limit whole → AreOf t (drive.flattened gs)

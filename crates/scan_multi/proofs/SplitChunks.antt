@@ -19,6 +19,7 @@ use Rattle.scan_multi.specs.Placed.{chunk_of}
 use Rattle.scan_multi.proofs.Arranged.{fronts_given, groups_given}
 use Rattle.scan_multi.proofs.Chunking.{chunks_clean, chunks_items, rows_items}
 use Rattle.scan_multi.proofs.Cuts.{given_splits, group_items}
+use Rattle.scan_multi.proofs.Pairing.{AreFull, full_before}
 
 -- rows, of which there are some, are one group
 one_group : (c : Chunk RowsData) (xs : List drive.Item) → xs ≢ [] → drive.grouped c.file xs ≡ (c.file, xs) ∷ []
@@ -34,6 +35,11 @@ group_by_group (c ∷ cs) some =
     let groups : drive_chunks.given row_items (c ∷ cs) ≡ (c.file, row_items c.rows) ∷ drive_chunks.given row_items cs = ap (λ gs. gs ++ drive_chunks.given row_items cs) (one_group c (row_items c.rows) row) in
     (λ z. sym (rows_items c.file (c.rows).values.dtype (c.rows).numbers (c.rows).values.items) z ∷ rest z) ∙ sym (ap (map group_items) groups)
 
+-- of which none is without rows
+given_full : (chunks : List (Chunk RowsData)) → AreFull (drive_chunks.given row_items chunks)
+given_full [] = tt
+given_full (c ∷ cs) = full_before c.file (row_items c.rows) (drive_chunks.given row_items cs) (given_full cs)
+
 module _ (d : DataType) (q : ScanRequest) (a : FileAsk) (asks : AsksFor d q a) (files : List ToldFile) where
   -- chunks of what a drive gives are split where the files are
   pub chunks_split : (ordered : Bool) (chunks : List (Chunk RowsData)) → IsAnswered ordered q.limit (map (tale_of a) files) (drive_chunks.given row_items chunks) → All (HasRow row_items) chunks
@@ -42,7 +48,7 @@ module _ (d : DataType) (q : ScanRequest) (a : FileAsk) (asks : AsksFor d q a) (
       given_splits d q a asks files q.limit (drive_chunks.given row_items chunks) (map chunk_of chunks) is (chunks_clean chunks) (group_by_group chunks some) (sym (chunks_items chunks))
   chunks_split false chunks is some =
       subst (All (IsFrontOf (cut d q files (answer d q files)))) (sym (group_by_group chunks some))
-      (fronts_given d q a asks files q.limit (drive_chunks.given row_items chunks) is (chunks_clean chunks))
+      (fronts_given d q a asks files q.limit (drive_chunks.given row_items chunks) is (chunks_clean chunks) (given_full chunks))
 
   -- without an order and a limit they are the groups of the answer, each once
   pub chunks_whole : (ordered : Bool) (limit : Option ℕ) (chunks : List (Chunk RowsData)) → ordered ≡ false → limit ≡ None → IsAnswered ordered limit (map (tale_of a) files) (drive_chunks.given row_items chunks)

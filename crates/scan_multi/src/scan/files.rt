@@ -28,8 +28,8 @@ fn has_room(limit: Option<u64>) -> bool
 
 /// Scans files: their rows in a range and a selection at which a filter is true, up to a limit, and of each the value
 /// of a projection. An ordered request is served in the order of the files and of their rows. An unordered one is
-/// served as files open, so that a file that is slow to open does not hold back those behind it: it is promised any
-/// rows of the answer, as many as the limit allows and none twice, chunk by chunk.
+/// served as it is read, so that a file that is slow to open or to read does not hold back what is read beside it: it is
+/// promised any rows of the answer, as many as the limit allows and none twice, chunk by chunk.
 ///
 /// The request is checked first. A limit of 0 asks for nothing, and no file is touched. Else openers are polled: those
 /// of the first files whose rows are not all given, as many as there are workers. Each layout that one gives is

@@ -5,7 +5,7 @@ use Rattle.scan_drive.specs.Chunks.{IsCause, IsDeliverFault, Gives}
 use Rattle.scan_drive.specs.declared.active.Front.{Front}
 use Rattle.scan_drive.specs.declared.delivery.Delivered.{Delivered}
 use Rattle.scan_drive.specs.declared.delivery.DriveFault.{DriveFault}
-use Rattle.scan_drive.proofs.Giving.{more_stays, more_rows, cut_rows, front_ok, stays_ok, stays_halted, stays_seated, halted_cause, held_fault}
+use Rattle.scan_drive.proofs.Giving.{more_stays, more_rows, cut_rows, front_ok, files_rows, stays_ok, stays_halted, stays_seated, halted_cause, held_fault}
 use Rattle.scan_drive.proofs.Polling.{stops_over}
 use Rattle.scan_drive.proofs.Turning.{gives_stays, gives_rows, waits_stays}
 use Rattle.scan_drive.proofs.delivery.deliver.Goals as goal
@@ -66,6 +66,7 @@ turns-preserved g c =
       news = λ h. f.news (c.turns.invariant.news h);
       ok = λ tale ok. front_ok g.W.SplitWork.split g.W.SplitWork.comes g.W.SplitWork.items tale c.in-Ok-Rows.file c.in-Ok-Rows.rows c.turns.active c.take_front.new.self c.turns.invariant.seated f (c.turns.invariant.ok tale ok);
       some = λ h. c.in-Ok-More.ensures.some (c.turns.invariant.some h);
+      files = files_rows c.in-Ok-Rows.file c.in-Ok-Rows.rows c.args.active.now.slots.items c.turns.active c.take_front.new.self c.args.chunks.now.items c.turns.chunks.items c.give.new.chunks.items c.turns.invariant.gives.at f c.turns.invariant.files c.in-Ok-More.ensures.file;
       gives = gives_rows g.W.SplitWork.split c.in-Ok-Rows.file c.in-Ok-Rows.rows c.args.active.now c.turns.active c.take_front.new.self c.turns.invariant.seated f c.turns.invariant.gives;
       more = more_rows g.W.SplitWork.split g.W.SplitWork.comes g.W.SplitWork.items c.in-Ok-Rows.file c.in-Ok-Rows.rows c.args.active.now c.turns.active c.take_front.new.self c.args.chunks.now.items c.turns.chunks.items c.give.new.chunks.items c.args.left.now c.turns.left c.give.new.left
           c.turns.invariant.seated c.turns.invariant.ok c.turns.invariant.more f given;
@@ -91,3 +92,8 @@ returns-in-Ok-Halted-clause-stops g c =
 
 pub returns-in-Ok-Full-clause-some : goal.returns-in-Ok-Full-clause-some
 returns-in-Ok-Full-clause-some g c h = c.in-Ok-Full.ensures.some (c.turns.invariant.some h)
+
+pub returns-in-Ok-Full-clause-files : goal.returns-in-Ok-Full-clause-files
+returns-in-Ok-Full-clause-files g c =
+    let f = subst (λ (x : Front g.row.W-Rows.Denot). IsFront c.turns.active c.take_front.new.self x) c.in-Ok-Rows.field-0-is c.in-Ok-Rows.ensures in
+    files_rows c.in-Ok-Rows.file c.in-Ok-Rows.rows c.args.active.now.slots.items c.turns.active c.take_front.new.self c.args.chunks.now.items c.turns.chunks.items c.give.new.chunks.items c.turns.invariant.gives.at f c.turns.invariant.files c.in-Ok-Full.ensures.file

@@ -7,8 +7,9 @@ use Rattle.scan_drive.specs.Chunks.{given, HasRoom}
 use Rattle.scan_drive.specs.Drives.{IsIdle}
 use Rattle.scan_drive.specs.Drivings.{WasAdmitted, PollsEnd, StopsDrive}
 use Rattle.scan_drive.specs.Ends.{limit_in}
-use Rattle.scan_drive.specs.Files.{answer, limited}
+use Rattle.scan_drive.specs.Files.{answer}
 use Rattle.scan_drive.specs.Forward.{LinePolls}
+use Rattle.scan_drive.specs.Grants.{AreGiven}
 use Rattle.scan_drive.specs.Grounds.{At}
 use Rattle.scan_drive.specs.Line.{exchanged, restored}
 use Rattle.scan_drive.specs.Moves.{EachMoves, tells}
@@ -129,7 +130,7 @@ run_rounds-done-requires-clause-starts g c κs lives =
     let d0 : Drive g.row.W.Denot g.row.W-Rows.Denot g.row.F.Denot = c.in-Ok-start.drive in
     let n = length a in
     let count : c.len.result ≡ n = omega (arith, c.len.ensures) in
-    let starts : Starts n limit d0 = subst (λ k. Starts k limit d0) count c.in-Ok-start.ensures in
+    let starts : Starts n limit d0 = subst (λ k. Starts k limit d0) count c.in-Ok-start.ensures.starts in
     subst (λ l. Starts n l d0) (sym starts.left) starts
 
 pub run_rounds-done-requires-clause-room : goal.run_rounds-done-requires-clause-room
@@ -139,7 +140,7 @@ run_rounds-done-requires-clause-room g c κs lives =
     let d0 : Drive g.row.W.Denot g.row.W-Rows.Denot g.row.F.Denot = c.in-Ok-start.drive in
     let n = length a in
     let count : c.len.result ≡ n = omega (arith, c.len.ensures) in
-    let starts : Starts n limit d0 = subst (λ k. Starts k limit d0) count c.in-Ok-start.ensures in
+    let starts : Starts n limit d0 = subst (λ k. Starts k limit d0) count c.in-Ok-start.ensures.starts in
     subst HasRoom (sym starts.left) c.requires.limit
 
 pub put_back-requires : goal.put_back-requires
@@ -290,7 +291,8 @@ returns-clause-polls g c =
     let log = c.run_rounds-done.new.exchanges.items in
     let n = length a in
     let count : c.len.result ≡ n = omega (arith, c.len.ensures) in
-    let starts : Starts n limit d0 = subst (λ k. Starts k limit d0) count c.in-Ok-start.ensures in
+    let starts : Starts n limit d0 = subst (λ k. Starts k limit d0) count c.in-Ok-start.ensures.starts in
+    let is : d0.ordered ≡ ordered = c.in-Ok-start.ensures.order in
     let r = c.run_rounds-done.ensures in
     let close = c.close_all.ensures in
     let long_b : length b ≡ length a = r.moves.len ∙ length_exchanged log a in
@@ -298,8 +300,8 @@ returns-clause-polls g c =
     let z : List (ScanFile g.row.O.Denot g.row.S.Denot) = restored log e in
     let back : c.put_back.new.files.items ≡ z = c.put_back.ensures in
     subst (λ (xs : List (ScanFile g.row.O.Denot g.row.S.Denot)). PollsEnd state source items limit ordered c.args.workers c0 a xs) (sym back)
-    (polls_back state source items ordered c.args.workers limit c0 log a e long r.places r.order (line_rest state source items ordered c.args.workers limit c0 a log b e close.moves.opener
-    (subst (λ o. LinePolls state source items ordered c.args.workers o c0 a log b) starts.left r.polls)))
+    (polls_back state source items ordered c.args.workers limit c0 log a e long r.places (λ o. r.order (is ∙ o)) (line_rest state source items ordered c.args.workers limit c0 a log b e close.moves.opener
+    (subst (λ o. LinePolls state source items ordered c.args.workers o c0 a log b) starts.left (subst (λ k. LinePolls state source items k c.args.workers d0.left c0 a log b) is r.polls))))
 
 pub returns-clause-some : goal.returns-clause-some
 returns-clause-some g c =
@@ -327,13 +329,15 @@ returns-clause-answer g c =
     let log = c.run_rounds-done.new.exchanges.items in
     let n = length a in
     let count : c.len.result ≡ n = omega (arith, c.len.ensures) in
-    let starts : Starts n limit d0 = subst (λ k. Starts k limit d0) count c.in-Ok-start.ensures in
+    let starts : Starts n limit d0 = subst (λ k. Starts k limit d0) count c.in-Ok-start.ensures.starts in
+    let is : d0.ordered ≡ ordered = c.in-Ok-start.ensures.order in
     let r = c.run_rounds-done.ensures in
     let done = c.run_rounds-done.result in
     let out = c.give_output.result in
     let gives = c.give_output.ensures in
-    out_answer d1.chunks.items d1.report log done out state source items limit ordered c0 a r.order r.places gives.ok (subst (λ o. OnOk done (IsLawful state source (exchanged log a) c0 → given items d1.chunks.items ≡ limited o (answer (tells state source (exchanged log a))))) starts.left
-    r.done)
+    out_answer d1.chunks.items d1.report log done out state source items limit ordered c0 a (λ o. r.order (is ∙ o)) r.places gives.ok
+    (subst (λ o. OnOk done (IsLawful state source (exchanged log a) c0 → AreGiven ordered o (answer (tells state source (exchanged log a))) (given items d1.chunks.items))) starts.left
+    (subst (λ k. OnOk done (IsLawful state source (exchanged log a) c0 → AreGiven k d0.left (answer (tells state source (exchanged log a))) (given items d1.chunks.items))) is r.done))
 
 pub returns-clause-report : goal.returns-clause-report
 returns-clause-report g c =
@@ -354,7 +358,7 @@ returns-clause-report g c =
     let log = c.run_rounds-done.new.exchanges.items in
     let n = length a in
     let count : c.len.result ≡ n = omega (arith, c.len.ensures) in
-    let starts : Starts n limit d0 = subst (λ k. Starts k limit d0) count c.in-Ok-start.ensures in
+    let starts : Starts n limit d0 = subst (λ k. Starts k limit d0) count c.in-Ok-start.ensures.starts in
     let r = c.run_rounds-done.ensures in
     let close = c.close_all.ensures in
     let z : List (ScanFile g.row.O.Denot g.row.S.Denot) = restored log e in
@@ -385,7 +389,7 @@ returns-clause-puts g c =
     let log = c.run_rounds-done.new.exchanges.items in
     let n = length a in
     let count : c.len.result ≡ n = omega (arith, c.len.ensures) in
-    let starts : Starts n limit d0 = subst (λ k. Starts k limit d0) count c.in-Ok-start.ensures in
+    let starts : Starts n limit d0 = subst (λ k. Starts k limit d0) count c.in-Ok-start.ensures.starts in
     let r = c.run_rounds-done.ensures in
     let close = c.close_all.ensures in
     let z : List (ScanFile g.row.O.Denot g.row.S.Denot) = restored log e in
@@ -413,7 +417,7 @@ returns-clause-opened g c =
     let log = c.run_rounds-done.new.exchanges.items in
     let n = length a in
     let count : c.len.result ≡ n = omega (arith, c.len.ensures) in
-    let starts : Starts n limit d0 = subst (λ k. Starts k limit d0) count c.in-Ok-start.ensures in
+    let starts : Starts n limit d0 = subst (λ k. Starts k limit d0) count c.in-Ok-start.ensures.starts in
     let r = c.run_rounds-done.ensures in
     let close = c.close_all.ensures in
     let long_b : length b ≡ length a = r.moves.len ∙ length_exchanged log a in
@@ -450,7 +454,8 @@ returns-clause-fault g c =
     let log = c.run_rounds-done.new.exchanges.items in
     let n = length a in
     let count : c.len.result ≡ n = omega (arith, c.len.ensures) in
-    let starts : Starts n limit d0 = subst (λ k. Starts k limit d0) count c.in-Ok-start.ensures in
+    let starts : Starts n limit d0 = subst (λ k. Starts k limit d0) count c.in-Ok-start.ensures.starts in
+    let is : d0.ordered ≡ ordered = c.in-Ok-start.ensures.order in
     let r = c.run_rounds-done.ensures in
     let close = c.close_all.ensures in
     let long_b : length b ≡ length a = r.moves.len ∙ length_exchanged log a in
@@ -460,5 +465,6 @@ returns-clause-fault g c =
     let out = c.give_output.result in
     let gives = c.give_output.ensures in
     subst (λ (xs : List (ScanFile g.row.O.Denot g.row.S.Denot)). IfErr out (StopsDrive state polls refuses admits source items limit ordered c0 a xs)) (sym back)
-    (out_fault d1.chunks.items d1.report log done out state polls refuses admits source split comes items limit ordered c0 a b e d0 d1 starts r.order r.places long_b close.moves gives.err r.fault
-    (subst (λ o. IfErr done (λ x. ordered ≡ true → IsLawful state source a c0 → StopsBefore items o (tells state source a) x)) starts.left r.before) r.ends)
+    (out_fault d1.chunks.items d1.report log done out state polls refuses admits source split comes items limit ordered c0 a b e d0 d1 starts (λ o. r.order (is ∙ o)) r.places long_b close.moves gives.err r.fault
+    (subst (λ o. IfErr done (λ x. ordered ≡ true → IsLawful state source a c0 → StopsBefore items o (tells state source a) x)) starts.left
+    (subst (λ k. IfErr done (λ x. k ≡ true → IsLawful state source a c0 → StopsBefore items d0.left (tells state source a) x)) is r.before)) r.ends)

@@ -1,6 +1,4 @@
-use Rattle.std.proofs.Common.{◌+◌, ◌-◌, List, refl, sym, ap, ◌∙◌, subst, arith}
-use Rattle.scan_drive.specs.Forward.{IsBehind}
-use Rattle.scan_drive.specs.declared.delivery.Chunk.{Chunk}
+use Rattle.std.proofs.Common.{◌+◌, refl, ◌∙◌, arith}
 use Rattle.scan_drive.proofs.Brought.{brought_none, brought_then, brought_phases, brought_files, brought_desks}
 use Rattle.scan_drive.proofs.line.bring_between.Goals as goal
 
@@ -10,14 +8,8 @@ loop-place-init g c = record {
   phases = refl;
   files = refl;
   desks = refl;
-  from = omega arith;
   to = omega arith;
 }
-
-pub exchange-requires-clause-behind : goal.exchange-requires-clause-behind
-exchange-requires-clause-behind g c κs lives =
-    subst (λ (cs : List (Chunk g.row.W-Rows.Denot)). IsBehind cs c.loop-place.front) (sym (ap (λ v. v.items) c.loop-place.invariant.brings.rephased.chunks))
-    (c.requires.behind c.loop-place.front c.loop-place.invariant.from (let x = c.loop-place.invariant.to in let y = c.ranges.last.fits in let z = c.loop-place-test.true in omega (arith, x, y, z)))
 
 pub returns-in_err-exchange : goal.returns-in_err-exchange
 returns-in_err-exchange g c =
@@ -39,6 +31,5 @@ loop-place-preserved g c =
           brought_files m c.loop-place.exchanges.items c.exchange.new.exchanges.items c.loop-place.files.items c.exchange.new.files.items c.loop-place.desks.items c.exchange.new.desks.items c.loop-place.drive c.exchange.new.drive one ∙ inv.files;
       desks =
           brought_desks m c.loop-place.exchanges.items c.exchange.new.exchanges.items c.loop-place.files.items c.exchange.new.files.items c.loop-place.desks.items c.exchange.new.desks.items c.loop-place.drive c.exchange.new.drive one ∙ inv.desks;
-      from = (let x = inv.from in omega (arith, x));
       to = (let x = inv.to in omega (arith, x));
     }

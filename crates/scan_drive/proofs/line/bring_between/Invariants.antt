@@ -8,6 +8,5 @@ invariant-loop-place g l = record {
   phases : length l.drive.phases.items ≡ length l.fn.drive.phases.items;
   files : length l.files.items ≡ length l.fn.files.items;
   desks : length l.desks.items ≡ length l.fn.desks.items;
-  from : l.first ≤ l.front;
   to : l.front ≤ l.place;
 }

@@ -2,8 +2,8 @@ use Rattle.std.proofs.Common.{refl, arith}
 use Rattle.scan_drive.proofs.Brought.{brought_none}
 use Rattle.scan_drive.proofs.line.bring_forward.Goals as goal
 
-pub returns-then-ordered-clause-line : goal.returns-then-ordered-clause-line
-returns-then-ordered-clause-line g c = record {
+pub returns-then-drive-clause-line : goal.returns-then-drive-clause-line
+returns-then-drive-clause-line g c = record {
   done = c.finished-done.result;
   last = 0;
   is_done = c.finished-done.ensures.done;

@@ -1,6 +1,5 @@
 use Rattle.std.proofs.Common.{◌<◌, ◌+◌, List, length, refl, arith}
 use Rattle.scan_drive.specs.declared.phase.Phase.{Phase}
-use Rattle.scan_drive.specs.declared.phase.Phase.TheVariants as phases
 use Rattle.scan_drive.proofs.Brought.{brought_none, brought_one, spare_by}
 use Rattle.scan_drive.proofs.line.exchange.Goals as goal
 
@@ -15,5 +14,9 @@ returns g c =
     let lt : c.args.front < length ps = omega (arith, c.requires.apart, c.requires.within) in
     brought_one c.args.front c.args.place c.args.exchanges.now.items c.push.new.self.items c.args.files.now.items c.swap.new.self.items c.args.desks.now.items c.swap-2.new.self.items c.args.drive.now (record c.args.drive.now { phases = c.swap-3.new.self })
     c.in_ok-push.ensures.items c.swap.ensures.items c.swap-2.ensures.items
-    (record { phases_are = c.swap-3.ensures.items; active = refl; chunks = refl; first = refl; tally = refl; left = refl; report = refl })
-    (spare_by c.args.front c.args.place c.args.drive.now.chunks.items ps x c.requires.apart c.requires.within c.index.ensures (c.is_shut.ensures.shut c.if-not-is_shut.false) c.requires.opened c.requires.behind)
+    (record { phases_are = c.swap-3.ensures.items; active = refl; chunks = refl; first = refl; tally = refl; left = refl; report = refl; ordered = refl; budget = refl })
+    (spare_by c.args.front c.args.place ps x c.requires.apart c.requires.within c.index.ensures (c.is_shut.ensures.shut c.if-not-is_shut.false) c.requires.opened)
+
+pub returns-then-not-is_shut : goal.returns-then-not-is_shut
+returns-then-not-is_shut g c =
+    brought_none (c.args.place + 1) c.args.exchanges.now.items c.args.exchanges.now.items c.args.files.now.items c.args.desks.now.items c.args.drive.now refl

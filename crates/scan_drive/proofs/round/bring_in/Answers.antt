@@ -28,7 +28,7 @@ returns-clause-stands g c =
     let a = c.in_ok-drive.ensures in
     stands_new g.W.SplitWork.split (length c.args.files.now.items) c.args.drive.now (record c.args.drive.now
     { phases = c.activate.new.phases; active = c.activate.new.active; tally = c.activate.new.tally; first = c.in_ok-drive.field-0 }) c.open_files.new.phases.items c.requires.stands
-    c.open_files.ensures.len a.len a.below a.seated a.news a.seats refl
+    c.open_files.ensures.len a.len a.below a.seated a.news a.seats refl refl refl
 
 pub returns-clause-links : goal.returns-clause-links
 returns-clause-links g c desks l =
@@ -42,7 +42,7 @@ returns-clause-sound g c s =
     let n : length tale ≡ length c.open_files.new.phases.items = Rattle.std.proofs.lemmas.List.length-map files (Rattle.scan_drive.specs.Moves.tell (g.X.SplitOpener.state c.args.context.now) g.S.SegmentSource.state) ∙ sym c.requires.stands.lens ∙ sym c.open_files.ensures.len in
     sound_new g.W.SplitWork.split g.W.SplitWork.comes g.W.SplitWork.items tale c.args.drive.now
     (record c.args.drive.now { phases = c.activate.new.phases; active = c.activate.new.active; tally = c.activate.new.tally; first = c.in_ok-drive.field-0 }) c.open_files.new.phases.items
-    c.open_files.ensures.len n (c.in_ok-opened.ensures.ok s.phases) c.in_ok-opened.ensures.left refl
+    c.open_files.ensures.len n (c.in_ok-opened.ensures.ok s.phases) c.in_ok-opened.ensures.left refl refl
     (a.left tale n) (a.ok tale n) (a.counted tale n) s
 
 pub returns-clause-why : goal.returns-clause-why
@@ -81,7 +81,7 @@ returns-clause-polls g c = record {
   late = λ h start l.
       (let d : Drive g.row.W.Denot g.row.W-Rows.Denot g.row.F.Denot = c.args.drive.now in
       let tale = tells (g.X.SplitOpener.state c.args.context.now) g.S.SegmentSource.state c.args.files.now.items in
-      late_polled (g.X.SplitOpener.state c.args.context.now) g.W.SplitWork.items c.args.workers d.first c.window-last.result c.finished-done.result (limit_in g.W.SplitWork.split g.W.SplitWork.comes g.W.SplitWork.items d) tale start c.args.files.now.items c.open_files.new.files.items
+      late_polled (g.X.SplitOpener.state c.args.context.now) g.W.SplitWork.items d.ordered c.args.workers d.first c.window-last.result c.finished-done.result (limit_in g.W.SplitWork.split g.W.SplitWork.comes g.W.SplitWork.items d) tale start c.args.files.now.items c.open_files.new.files.items
       c.open_files.ensures.rest c.window-last.ensures.most (gives_done g.W.SplitWork.split g.W.SplitWork.comes g.W.SplitWork.items tale d c.finished-done.result h.0 h.1 c.requires.stands.below c.requires.stands.room h.2 c.finished-done.ensures.done) l);
 }
 
@@ -92,7 +92,7 @@ returns-in_err-opened-clause-polls g c = record {
   late = λ h start l.
       (let d : Drive g.row.W.Denot g.row.W-Rows.Denot g.row.F.Denot = c.args.drive.now in
       let tale = tells (g.X.SplitOpener.state c.args.context.now) g.S.SegmentSource.state c.args.files.now.items in
-      late_polled (g.X.SplitOpener.state c.args.context.now) g.W.SplitWork.items c.args.workers d.first c.window-last.result c.finished-done.result (limit_in g.W.SplitWork.split g.W.SplitWork.comes g.W.SplitWork.items d) tale start c.args.files.now.items c.open_files.new.files.items
+      late_polled (g.X.SplitOpener.state c.args.context.now) g.W.SplitWork.items d.ordered c.args.workers d.first c.window-last.result c.finished-done.result (limit_in g.W.SplitWork.split g.W.SplitWork.comes g.W.SplitWork.items d) tale start c.args.files.now.items c.open_files.new.files.items
       c.open_files.ensures.rest c.window-last.ensures.most (gives_done g.W.SplitWork.split g.W.SplitWork.comes g.W.SplitWork.items tale d c.finished-done.result h.0 h.1 c.requires.stands.below c.requires.stands.room h.2 c.finished-done.ensures.done) l);
 }
 
@@ -103,7 +103,7 @@ returns-in_err-drive-clause-polls g c = record {
   late = λ h start l.
       (let d : Drive g.row.W.Denot g.row.W-Rows.Denot g.row.F.Denot = c.args.drive.now in
       let tale = tells (g.X.SplitOpener.state c.args.context.now) g.S.SegmentSource.state c.args.files.now.items in
-      late_polled (g.X.SplitOpener.state c.args.context.now) g.W.SplitWork.items c.args.workers d.first c.window-last.result c.finished-done.result (limit_in g.W.SplitWork.split g.W.SplitWork.comes g.W.SplitWork.items d) tale start c.args.files.now.items c.open_files.new.files.items
+      late_polled (g.X.SplitOpener.state c.args.context.now) g.W.SplitWork.items d.ordered c.args.workers d.first c.window-last.result c.finished-done.result (limit_in g.W.SplitWork.split g.W.SplitWork.comes g.W.SplitWork.items d) tale start c.args.files.now.items c.open_files.new.files.items
       c.open_files.ensures.rest c.window-last.ensures.most (gives_done g.W.SplitWork.split g.W.SplitWork.comes g.W.SplitWork.items tale d c.finished-done.result h.0 h.1 c.requires.stands.below c.requires.stands.room h.2 c.finished-done.ensures.done) l);
 }
 
@@ -119,4 +119,5 @@ returns-clause-grounds g c cache first before h =
     let said = c.in_ok-opened.ensures in
     let a = c.in_ok-drive.ensures in
     let n : length (tells state source first) ≡ length mid = Rattle.std.proofs.lemmas.List.length-map first (Rattle.scan_drive.specs.Moves.tell state source) ∙ sym h.moves.len ∙ sym c.requires.stands.lens ∙ sym o.len in
-    brought_grounds state g.X.SplitOpener.polls (g.X.SplitOpener.admits c.args.context.now) source first before files c.open_files.new.files.items cache old new mid o.moves o.sources said.splits c.requires.stands.lens o.len said.rows (λ r t. a.fills.rows (tells state source first) n r t) a.fills h
+    brought_grounds state g.X.SplitOpener.polls (g.X.SplitOpener.admits c.args.context.now) source first before files c.open_files.new.files.items cache old new mid o.moves o.sources said.splits c.requires.stands.lens o.len said.rows
+    (λ r t. a.fills.rows (tells state source first) n r t) a.fills refl h

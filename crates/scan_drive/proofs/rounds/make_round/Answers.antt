@@ -1,10 +1,10 @@
-use Rattle.std.proofs.Common.{◌≡◌, ◌∙◌, List, length, refl, sym, ap, subst, inl, inr}
+use Rattle.std.proofs.Common.{◌≡◌, ◌∙◌, List, length, refl, sym, subst, inl}
 use Rattle.std.specs.Prelude.{All}
-use Rattle.scan_drive.specs.Chunks.{HasRow}
+use Rattle.scan_drive.specs.Chunks.{given, HasRow}
 use Rattle.scan_drive.specs.Before.{SoundInOrder, StopsBefore}
 use Rattle.scan_drive.specs.Drives.{FilesWithin}
 use Rattle.scan_drive.specs.Ends.{limit_in}
-use Rattle.scan_drive.specs.Files.{answer, limited}
+use Rattle.scan_drive.specs.Files.{answer}
 use Rattle.scan_drive.specs.Moves.{tells}
 use Rattle.scan_drive.specs.Order.{Rises}
 use Rattle.scan_drive.specs.Polls.{PollsStand}
@@ -22,6 +22,7 @@ use Rattle.scan_drive.proofs.Halting.{round_same, round_served}
 use Rattle.scan_drive.proofs.Losing.{halts_advance, halts_then}
 use Rattle.scan_drive.proofs.Moving.{each_under}
 use Rattle.scan_drive.proofs.Ordering.{order_files}
+use Rattle.scan_drive.proofs.Same.{given_along}
 use Rattle.scan_drive.proofs.Tracking.{stand_rest, on_rest}
 use Rattle.scan_drive.proofs.Tracing.{polled_grounds, served_grounds, settled_ground, all_admitted}
 use Rattle.scan_drive.proofs.Trading.{files_then}
@@ -141,12 +142,12 @@ returns-in-Err-settle-clause-trades g c =
 pub returns-in-Err-clause-fault : goal.returns-in-Err-clause-fault
 returns-in-Err-clause-fault g c =
     let d0 : Drive g.row.W.Denot g.row.W-Rows.Denot g.row.F.Denot = c.args.drive.now in
-    record { mid = d0; limit = refl; why = λ j w is. inl is; held = tt; sound = λ h. h; stops = λ h. (tt, tt) }
+    record { mid = d0; limit = refl; why = λ j w is. inl is; held = tt; sound = λ h. h; stops = λ h. tt }
 
 pub returns-in-Err-serve-clause-fault : goal.returns-in-Err-serve-clause-fault
 returns-in-Err-serve-clause-fault g c =
     let d0 : Drive g.row.W.Denot g.row.W-Rows.Denot g.row.F.Denot = c.args.drive.now in
-    record { mid = d0; limit = refl; why = λ j w is. inl is; held = tt; sound = λ h. h; stops = λ h. (tt, tt) }
+    record { mid = d0; limit = refl; why = λ j w is. inl is; held = tt; sound = λ h. h; stops = λ h. tt }
 
 pub returns-in-Ok-None-clause-round : goal.returns-in-Ok-None-clause-round
 returns-in-Ok-None-clause-round g c all s =
@@ -162,7 +163,8 @@ returns-in-Ok-None-clause-round g c all s =
     let d1 : Drive g.row.W.Denot g.row.W-Rows.Denot g.row.F.Denot = c.bring_in.new.drive in
     let k = c.in-Ok.ensures in
     let limit : limit_in split comes items d1 ≡ limit_in split comes items d0 = limit_same split comes items d0 d1 b.rest.0 b.rest.1 in
-    c.in-Ok-None.ensures.done c.in-Ok-None.field-0-is tale all (k.sound s) ∙ ap (λ l. limited l (answer tale)) limit
+    given_along d0.ordered d1.ordered (limit_in split comes items d0) (limit_in split comes items d1) (answer tale) (given items c.settle.new.drive.chunks.items) b.rest.3 limit
+    (c.in-Ok-None.ensures.done c.in-Ok-None.field-0-is tale all (k.sound s))
 
 pub returns-in-Err-settle-clause-fault : goal.returns-in-Err-settle-clause-fault
 returns-in-Err-settle-clause-fault g c =
@@ -365,15 +367,16 @@ returns-then-opened-clause-round g c =
     let v = c.in-Ok-serve.ensures in
     let trade = trade_kept state polls source (Unit {0}) files0 files1 (cache c.args.cache.now) b.sources b.moves in
     record {
-      stands = stands_served state polls source split comes items (length files0) d2 d3 v.advances v.news refl refl refl refl refl stands;
+      stands = stands_served state polls source split comes items (length files0) d2 d3 v.advances v.news refl refl refl refl refl refl refl stands;
       links = v.links;
       limit = s.limit ∙ limit;
       opened = subst (λ ps. Rattle.std.proofs.Common.◌≤◌ (Rattle.std.proofs.Common.◌+◌ (Rattle.scan_drive.specs.Phases.unopened ps) 1) (Rattle.scan_drive.specs.Phases.unopened d0.phases.items))
           (sym s.phases) (subst (λ o. Rattle.std.proofs.Common.◌≤◌ (Rattle.std.proofs.Common.◌+◌ (Rattle.scan_drive.specs.Phases.unopened d1.phases.items)
           (Rattle.scan_drive.specs.Openers.as_number o)) (Rattle.scan_drive.specs.Phases.unopened d0.phases.items)) c.if-opened.true k.opened);
       why = why_same state polls (g.X.SplitOpener.refuses c.args.context.now) source (Rattle.scan_drive.specs.Asks.IsWantedBy asking d2.active.slots.items) files0 files1 files2 r.sources d0.phases.items d1.phases.items d2.phases.items s.phases k.why;
-      sound = λ h w. sound_served state polls source split comes items files0 files1 d2 d3 b.moves v.advances (v.keeps (trade.agrees h)) refl refl refl refl stands (s.sound tale (k.sound w));
+      sound = λ h w. sound_served state polls source split comes items files0 files1 d2 d3 b.moves v.advances (v.keeps (trade.agrees h)) refl refl refl refl refl stands (s.sound tale (k.sound w));
       order = λ h. order_files d2.active d3.active refl (λ q. (v.advances.at q).file_is) 0 d3.first (subst (λ n. Rises 0 n d2.active.turns.items d2.active.slots.items) (sym s.first) (s.order 0 d1.first (k.order h)));
+      ordered = s.ordered ∙ b.rest.3;
       polled = λ start h. stand_rest state start files1 files2 d3.phases.items r.sources.opener (subst (λ (ps : List (Phase g.row.W.Denot g.row.F.Denot)). PollsStand state start files1 ps) (sym s.phases) (k.polled start h));
     }
 
@@ -404,15 +407,16 @@ returns-clause-round g c =
     let v = c.in-Ok-serve.ensures in
     let trade = trade_kept state polls source (Unit {0}) files0 files1 (cache c.args.cache.now) b.sources b.moves in (
       record {
-        stands = stands_served state polls source split comes items (length files0) d2 d3 v.advances v.news refl refl refl refl refl stands;
+        stands = stands_served state polls source split comes items (length files0) d2 d3 v.advances v.news refl refl refl refl refl refl refl stands;
         links = v.links;
         limit = s.limit ∙ limit;
         opened = subst (λ ps. Rattle.std.proofs.Common.◌≤◌ (Rattle.std.proofs.Common.◌+◌ (Rattle.scan_drive.specs.Phases.unopened ps) 0) (Rattle.scan_drive.specs.Phases.unopened d0.phases.items))
             (sym s.phases) (subst (λ o. Rattle.std.proofs.Common.◌≤◌ (Rattle.std.proofs.Common.◌+◌ (Rattle.scan_drive.specs.Phases.unopened d1.phases.items)
             (Rattle.scan_drive.specs.Openers.as_number o)) (Rattle.scan_drive.specs.Phases.unopened d0.phases.items)) c.if-opened.false k.opened);
         why = why_same state polls (g.X.SplitOpener.refuses c.args.context.now) source (Rattle.scan_drive.specs.Asks.IsWantedBy asking d2.active.slots.items) files0 files1 files2 r.sources d0.phases.items d1.phases.items d2.phases.items s.phases k.why;
-        sound = λ h w. sound_served state polls source split comes items files0 files1 d2 d3 b.moves v.advances (v.keeps (trade.agrees h)) refl refl refl refl stands (s.sound tale (k.sound w));
+        sound = λ h w. sound_served state polls source split comes items files0 files1 d2 d3 b.moves v.advances (v.keeps (trade.agrees h)) refl refl refl refl refl stands (s.sound tale (k.sound w));
         order = λ h. order_files d2.active d3.active refl (λ q. (v.advances.at q).file_is) 0 d3.first (subst (λ n. Rises 0 n d2.active.turns.items d2.active.slots.items) (sym s.first) (s.order 0 d1.first (k.order h)));
+        ordered = s.ordered ∙ b.rest.3;
         polled = λ start h. stand_rest state start files1 files2 d3.phases.items r.sources.opener (subst (λ (ps : List (Phase g.row.W.Denot g.row.F.Denot)). PollsStand state start files1 ps) (sym s.phases) (k.polled start h));
       },
       round_steps state polls source split comes items (Rattle.scan_drive.specs.Asks.IsWantedBy asking d2.active.slots.items) asking files0 files1 files2 d0 d1 d2 d3 (k.steps c.if-opened.false) s
@@ -526,8 +530,8 @@ returns-then-opened-clause-grounds g c first before h =
     let polled = rw c.in-Ok-Some.field-0-is at c.in-Ok-Some.ensures.follows in
     let r = c.serve.ensures in
     let v = c.in-Ok-serve.ensures in
-    served_grounds state polls admits source first before asking files1 files2 was (g.C.KeyedSegmentCache.cache c.serve.new.cache) d2 d3 r.sources r.trades v.follows refl refl refl
-    (polled_grounds state polls admits source first before files1 was d1 d2 polled s.phases s.first s.tally (k.grounds was first before h))
+    served_grounds state polls admits source first before asking files1 files2 was (g.C.KeyedSegmentCache.cache c.serve.new.cache) d2 d3 r.sources r.trades v.follows refl refl refl refl
+    (polled_grounds state polls admits source first before files1 was d1 d2 polled s.phases s.first s.tally s.files (k.grounds was first before h))
 
 pub returns-clause-grounds : goal.returns-clause-grounds
 returns-clause-grounds g c first before h =
@@ -547,8 +551,8 @@ returns-clause-grounds g c first before h =
     let polled = rw c.in-Ok-Some.field-0-is at c.in-Ok-Some.ensures.follows in
     let r = c.serve.ensures in
     let v = c.in-Ok-serve.ensures in
-    served_grounds state polls admits source first before asking files1 files2 was (g.C.KeyedSegmentCache.cache c.serve.new.cache) d2 d3 r.sources r.trades v.follows refl refl refl
-    (polled_grounds state polls admits source first before files1 was d1 d2 polled s.phases s.first s.tally (k.grounds was first before h))
+    served_grounds state polls admits source first before asking files1 files2 was (g.C.KeyedSegmentCache.cache c.serve.new.cache) d2 d3 r.sources r.trades v.follows refl refl refl refl
+    (polled_grounds state polls admits source first before files1 was d1 d2 polled s.phases s.first s.tally s.files (k.grounds was first before h))
 
 pub returns-in-Ok-None-clause-out : goal.returns-in-Ok-None-clause-out
 returns-in-Ok-None-clause-out g c e0 free =
@@ -583,7 +587,7 @@ returns-in-Err-serve-clause-polls g c =
     let d : Drive g.row.W.Denot g.row.W-Rows.Denot g.row.F.Denot = c.args.drive.now in
     let tale = tells state g.S.SegmentSource.state c.args.files.now.items in
     let P = SoundInOrder g.W.SplitWork.split g.W.SplitWork.comes g.W.SplitWork.items tale d in
-    on_rest state g.W.SplitWork.items c.args.workers (limit_in g.W.SplitWork.split g.W.SplitWork.comes g.W.SplitWork.items d) tale P d.phases.items c.args.files.now.items c.bring_in.new.files.items c.serve.new.files.items c.serve.ensures.sources.opener c.bring_in.ensures.polls
+    on_rest state g.W.SplitWork.items d.ordered c.args.workers (limit_in g.W.SplitWork.split g.W.SplitWork.comes g.W.SplitWork.items d) tale P d.phases.items c.args.files.now.items c.bring_in.new.files.items c.serve.new.files.items c.serve.ensures.sources.opener c.bring_in.ensures.polls
 
 pub returns-then-opened-clause-polls : goal.returns-then-opened-clause-polls
 returns-then-opened-clause-polls g c =
@@ -591,7 +595,7 @@ returns-then-opened-clause-polls g c =
     let d : Drive g.row.W.Denot g.row.W-Rows.Denot g.row.F.Denot = c.args.drive.now in
     let tale = tells state g.S.SegmentSource.state c.args.files.now.items in
     let P = SoundInOrder g.W.SplitWork.split g.W.SplitWork.comes g.W.SplitWork.items tale d in
-    on_rest state g.W.SplitWork.items c.args.workers (limit_in g.W.SplitWork.split g.W.SplitWork.comes g.W.SplitWork.items d) tale P d.phases.items c.args.files.now.items c.bring_in.new.files.items c.serve.new.files.items c.serve.ensures.sources.opener c.bring_in.ensures.polls
+    on_rest state g.W.SplitWork.items d.ordered c.args.workers (limit_in g.W.SplitWork.split g.W.SplitWork.comes g.W.SplitWork.items d) tale P d.phases.items c.args.files.now.items c.bring_in.new.files.items c.serve.new.files.items c.serve.ensures.sources.opener c.bring_in.ensures.polls
 
 pub returns-clause-polls : goal.returns-clause-polls
 returns-clause-polls g c =
@@ -599,16 +603,16 @@ returns-clause-polls g c =
     let d : Drive g.row.W.Denot g.row.W-Rows.Denot g.row.F.Denot = c.args.drive.now in
     let tale = tells state g.S.SegmentSource.state c.args.files.now.items in
     let P = SoundInOrder g.W.SplitWork.split g.W.SplitWork.comes g.W.SplitWork.items tale d in
-    on_rest state g.W.SplitWork.items c.args.workers (limit_in g.W.SplitWork.split g.W.SplitWork.comes g.W.SplitWork.items d) tale P d.phases.items c.args.files.now.items c.bring_in.new.files.items c.serve.new.files.items c.serve.ensures.sources.opener c.bring_in.ensures.polls
+    on_rest state g.W.SplitWork.items d.ordered c.args.workers (limit_in g.W.SplitWork.split g.W.SplitWork.comes g.W.SplitWork.items d) tale P d.phases.items c.args.files.now.items c.bring_in.new.files.items c.serve.new.files.items c.serve.ensures.sources.opener c.bring_in.ensures.polls
 
 pub returns-in-Err-clause-before : goal.returns-in-Err-clause-before
-returns-in-Err-clause-before g c h = tt
+returns-in-Err-clause-before g c ordered h = tt
 
 pub returns-in-Err-serve-clause-before : goal.returns-in-Err-serve-clause-before
-returns-in-Err-serve-clause-before g c h = tt
+returns-in-Err-serve-clause-before g c ordered h = tt
 
 pub returns-in-Err-settle-clause-before : goal.returns-in-Err-settle-clause-before
-returns-in-Err-settle-clause-before g c h =
+returns-in-Err-settle-clause-before g c ordered h =
     let state = g.X.SplitOpener.state c.args.context.now in
     let source = g.S.SegmentSource.state in
     let split = g.W.SplitWork.split in
@@ -619,4 +623,4 @@ returns-in-Err-settle-clause-before g c h =
     let tale = tells state source c.args.files.now.items in
     let b = c.bring_in.ensures in
     let k = c.in-Ok.ensures in
-    subst (λ o. StopsBefore items o tale c.in-Err-settle.fault) (limit_same split comes items d0 d1 b.rest.0 b.rest.1) (c.in-Err-settle.ensures.before tale (h.0, k.sound h.1, k.order h.2))
+    subst (λ o. StopsBefore items o tale c.in-Err-settle.fault) (limit_same split comes items d0 d1 b.rest.0 b.rest.1) (c.in-Err-settle.ensures.before (b.rest.3 ∙ ordered) tale (h.0, k.sound h.1, k.order h.2))

@@ -26,7 +26,7 @@ opens-init g c =
     let files : List (ScanFile g.row.O.Denot g.row.S.Denot) = c.args.files.now.items in
     let d0 : Drive g.row.W.Denot g.row.W-Rows.Denot g.row.F.Denot = c.args.drive.now in
     let c0 = cache c.args.cache.now in
-    record { lined = lined_start state polls refuses admits source split comes items c0 d0 c.args.ordered c.args.workers files c.args.exchanges.now.items c.args.desks.now.items c.requires.none c.requires.starts c.requires.room c.requires.idle c.requires.agree }
+    record { lined = lined_start state polls refuses admits source split comes items c0 d0 c.args.workers files c.args.exchanges.now.items c.args.desks.now.items c.requires.none c.requires.starts c.requires.room c.requires.idle c.requires.agree }
 
 pub wait_rounds-requires-clause-stands : goal.wait_rounds-requires-clause-stands
 wait_rounds-requires-clause-stands g c κs lives =
@@ -136,9 +136,9 @@ opens-preserved g c =
     let log2 = c.bring_forward.new.exchanges.items in
     let a2 : List (ScanFile g.row.O.Denot g.row.S.Denot) = exchanged log2 files in
     let line = c.bring_forward.ensures.line in
-    let waited : Lined state polls refuses admits source split comes items c0 d0 c.args.ordered c.args.workers files log e ls c2 w = lined_wait state polls refuses admits source split comes items c0 d0 c.args.ordered c.args.workers c.requires.workers files log b ks c1 v lim h e ls c2 w
+    let waited : Lined state polls refuses admits source split comes items c0 d0 c.args.workers files log e ls c2 w = lined_wait state polls refuses admits source split comes items c0 d0 c.args.workers c.requires.workers files log b ks c1 v lim h e ls c2 w
     r.agree r.moves r.trades is bal c.in-Ok-Opened.ensures.some grounds r.polls in
-    let h2 : Lined state polls refuses admits source split comes items c0 d0 c.args.ordered c.args.workers files log2 b2 ks2 c2 w2 = lined_line state polls refuses admits source split comes items c0 d0 c.args.ordered c.args.workers c.requires.workers files log e ls c2 w lim waited log2 b2
+    let h2 : Lined state polls refuses admits source split comes items c0 d0 c.args.workers files log2 b2 ks2 c2 w2 = lined_line state polls refuses admits source split comes items c0 d0 c.args.workers c.requires.workers files log e ls c2 w lim waited log2 b2
     ks2 w2 line c.bring_forward.ensures.order in
     record { lined = h2 }
 
@@ -178,9 +178,9 @@ opens-smaller g c =
     let log2 = c.bring_forward.new.exchanges.items in
     let a2 : List (ScanFile g.row.O.Denot g.row.S.Denot) = exchanged log2 files in
     let line = c.bring_forward.ensures.line in
-    let waited : Lined state polls refuses admits source split comes items c0 d0 c.args.ordered c.args.workers files log e ls c2 w = lined_wait state polls refuses admits source split comes items c0 d0 c.args.ordered c.args.workers c.requires.workers files log b ks c1 v lim h e ls c2 w
+    let waited : Lined state polls refuses admits source split comes items c0 d0 c.args.workers files log e ls c2 w = lined_wait state polls refuses admits source split comes items c0 d0 c.args.workers c.requires.workers files log b ks c1 v lim h e ls c2 w
     r.agree r.moves r.trades is bal c.in-Ok-Opened.ensures.some grounds r.polls in
-    let x = is.opened in let y = line_unopened state polls refuses admits source split comes items c0 d0 c.args.ordered c.args.workers c.requires.workers files log e ls c2 w lim waited log2 b2 ks2 w2 line in omega (arith, x, y)
+    let x = is.opened in let y = line_unopened state polls refuses admits source split comes items c0 d0 c.args.workers c.requires.workers files log e ls c2 w lim waited log2 b2 ks2 w2 line in omega (arith, x, y)
 
 pub bring_forward-requires-clause-files : goal.bring_forward-requires-clause-files
 bring_forward-requires-clause-files g c κs lives =
@@ -450,7 +450,7 @@ returns-in-Ok-Done-clause-polls g c =
     let h = c.opens.invariant.lined in
     let lim : limit_in split comes items d0 ≡ d0.left = starts_limit (length files) d0.left d0 c.requires.starts split comes items in
     let r = c.wait_rounds.ensures in
-    polls_wait state polls refuses admits source split comes items c0 d0 c.args.ordered c.args.workers c.requires.workers files log b ks c1 v lim h e r.polls
+    polls_wait state polls refuses admits source split comes items c0 d0 c.args.workers c.requires.workers files log b ks c1 v lim h e r.polls
 
 pub returns-in-Err-clause-places : goal.returns-in-Err-clause-places
 returns-in-Err-clause-places g c =
@@ -624,7 +624,7 @@ returns-in-Err-clause-polls g c =
     let h = c.opens.invariant.lined in
     let lim : limit_in split comes items d0 ≡ d0.left = starts_limit (length files) d0.left d0 c.requires.starts split comes items in
     let r = c.wait_rounds.ensures in
-    polls_wait state polls refuses admits source split comes items c0 d0 c.args.ordered c.args.workers c.requires.workers files log b ks c1 v lim h e r.polls
+    polls_wait state polls refuses admits source split comes items c0 d0 c.args.workers c.requires.workers files log b ks c1 v lim h e r.polls
 
 pub returns-in-Ok-Done-clause-balance : goal.returns-in-Ok-Done-clause-balance
 returns-in-Ok-Done-clause-balance g c =
@@ -798,9 +798,9 @@ returns-in-Err-clause-before g c o law =
     let h = c.opens.invariant.lined in
     let lim : limit_in split comes items d0 ≡ d0.left = starts_limit (length files) d0.left d0 c.requires.starts split comes items in
     let r = c.wait_rounds.ensures in
-    subst (λ (xs : List (ScanFile g.row.O.Denot g.row.S.Denot)). StopsBefore items d0.left (tells state source xs) c.in-Err.fault) (lined_files state polls refuses admits source split comes items c0 d0 c.args.ordered c.args.workers c.requires.workers files log b ks c1 v lim h o)
-    (runs_before state polls refuses admits source split comes items c0 d0 a b ks c1 v h.runs c.in-Err.fault c.in-Err.ensures.before d0.left lim
-    (lined_lawful state polls refuses admits source split comes items c0 d0 c.args.ordered c.args.workers c.requires.workers files log b ks c1 v lim h law))
+    subst (λ (xs : List (ScanFile g.row.O.Denot g.row.S.Denot)). StopsBefore items d0.left (tells state source xs) c.in-Err.fault) (lined_files state polls refuses admits source split comes items c0 d0 c.args.workers c.requires.workers files log b ks c1 v lim h o)
+    (runs_before state polls refuses admits source split comes items c0 d0 a b ks c1 v h.runs c.in-Err.fault c.in-Err.ensures.before d0.left lim o
+    (lined_lawful state polls refuses admits source split comes items c0 d0 c.args.workers c.requires.workers files log b ks c1 v lim h law))
 
 pub returns-in-Err-clause-ends : goal.returns-in-Err-clause-ends
 returns-in-Err-clause-ends g c =
@@ -867,9 +867,9 @@ returns-in-Err-bring_forward-clause-places g c =
     let log2 = c.bring_forward.new.exchanges.items in
     let a2 : List (ScanFile g.row.O.Denot g.row.S.Denot) = exchanged log2 files in
     let line = c.bring_forward.ensures.line in
-    let waited : Lined state polls refuses admits source split comes items c0 d0 c.args.ordered c.args.workers files log e ls c2 w = lined_wait state polls refuses admits source split comes items c0 d0 c.args.ordered c.args.workers c.requires.workers files log b ks c1 v lim h e ls c2 w
+    let waited : Lined state polls refuses admits source split comes items c0 d0 c.args.workers files log e ls c2 w = lined_wait state polls refuses admits source split comes items c0 d0 c.args.workers c.requires.workers files log b ks c1 v lim h e ls c2 w
     r.agree r.moves r.trades is bal c.in-Ok-Opened.ensures.some grounds r.polls in
-    let h2 : Lined state polls refuses admits source split comes items c0 d0 c.args.ordered c.args.workers files log2 b2 ks2 c2 w2 = lined_line state polls refuses admits source split comes items c0 d0 c.args.ordered c.args.workers c.requires.workers files log e ls c2 w lim waited log2 b2
+    let h2 : Lined state polls refuses admits source split comes items c0 d0 c.args.workers files log2 b2 ks2 c2 w2 = lined_line state polls refuses admits source split comes items c0 d0 c.args.workers c.requires.workers files log e ls c2 w lim waited log2 b2
     ks2 w2 line c.bring_forward.ensures.order in
     h2.places
 
@@ -909,9 +909,9 @@ returns-in-Err-bring_forward-clause-order g c =
     let log2 = c.bring_forward.new.exchanges.items in
     let a2 : List (ScanFile g.row.O.Denot g.row.S.Denot) = exchanged log2 files in
     let line = c.bring_forward.ensures.line in
-    let waited : Lined state polls refuses admits source split comes items c0 d0 c.args.ordered c.args.workers files log e ls c2 w = lined_wait state polls refuses admits source split comes items c0 d0 c.args.ordered c.args.workers c.requires.workers files log b ks c1 v lim h e ls c2 w
+    let waited : Lined state polls refuses admits source split comes items c0 d0 c.args.workers files log e ls c2 w = lined_wait state polls refuses admits source split comes items c0 d0 c.args.workers c.requires.workers files log b ks c1 v lim h e ls c2 w
     r.agree r.moves r.trades is bal c.in-Ok-Opened.ensures.some grounds r.polls in
-    let h2 : Lined state polls refuses admits source split comes items c0 d0 c.args.ordered c.args.workers files log2 b2 ks2 c2 w2 = lined_line state polls refuses admits source split comes items c0 d0 c.args.ordered c.args.workers c.requires.workers files log e ls c2 w lim waited log2 b2
+    let h2 : Lined state polls refuses admits source split comes items c0 d0 c.args.workers files log2 b2 ks2 c2 w2 = lined_line state polls refuses admits source split comes items c0 d0 c.args.workers c.requires.workers files log e ls c2 w lim waited log2 b2
     ks2 w2 line c.bring_forward.ensures.order in
     h2.order
 
@@ -951,9 +951,9 @@ returns-in-Err-bring_forward-clause-agree g c =
     let log2 = c.bring_forward.new.exchanges.items in
     let a2 : List (ScanFile g.row.O.Denot g.row.S.Denot) = exchanged log2 files in
     let line = c.bring_forward.ensures.line in
-    let waited : Lined state polls refuses admits source split comes items c0 d0 c.args.ordered c.args.workers files log e ls c2 w = lined_wait state polls refuses admits source split comes items c0 d0 c.args.ordered c.args.workers c.requires.workers files log b ks c1 v lim h e ls c2 w
+    let waited : Lined state polls refuses admits source split comes items c0 d0 c.args.workers files log e ls c2 w = lined_wait state polls refuses admits source split comes items c0 d0 c.args.workers c.requires.workers files log b ks c1 v lim h e ls c2 w
     r.agree r.moves r.trades is bal c.in-Ok-Opened.ensures.some grounds r.polls in
-    let h2 : Lined state polls refuses admits source split comes items c0 d0 c.args.ordered c.args.workers files log2 b2 ks2 c2 w2 = lined_line state polls refuses admits source split comes items c0 d0 c.args.ordered c.args.workers c.requires.workers files log e ls c2 w lim waited log2 b2
+    let h2 : Lined state polls refuses admits source split comes items c0 d0 c.args.workers files log2 b2 ks2 c2 w2 = lined_line state polls refuses admits source split comes items c0 d0 c.args.workers c.requires.workers files log e ls c2 w lim waited log2 b2
     ks2 w2 line c.bring_forward.ensures.order in
     h2.runs.agree
 
@@ -993,9 +993,9 @@ returns-in-Err-bring_forward-clause-moves g c =
     let log2 = c.bring_forward.new.exchanges.items in
     let a2 : List (ScanFile g.row.O.Denot g.row.S.Denot) = exchanged log2 files in
     let line = c.bring_forward.ensures.line in
-    let waited : Lined state polls refuses admits source split comes items c0 d0 c.args.ordered c.args.workers files log e ls c2 w = lined_wait state polls refuses admits source split comes items c0 d0 c.args.ordered c.args.workers c.requires.workers files log b ks c1 v lim h e ls c2 w
+    let waited : Lined state polls refuses admits source split comes items c0 d0 c.args.workers files log e ls c2 w = lined_wait state polls refuses admits source split comes items c0 d0 c.args.workers c.requires.workers files log b ks c1 v lim h e ls c2 w
     r.agree r.moves r.trades is bal c.in-Ok-Opened.ensures.some grounds r.polls in
-    let h2 : Lined state polls refuses admits source split comes items c0 d0 c.args.ordered c.args.workers files log2 b2 ks2 c2 w2 = lined_line state polls refuses admits source split comes items c0 d0 c.args.ordered c.args.workers c.requires.workers files log e ls c2 w lim waited log2 b2
+    let h2 : Lined state polls refuses admits source split comes items c0 d0 c.args.workers files log2 b2 ks2 c2 w2 = lined_line state polls refuses admits source split comes items c0 d0 c.args.workers c.requires.workers files log e ls c2 w lim waited log2 b2
     ks2 w2 line c.bring_forward.ensures.order in
     h2.runs.moves
 
@@ -1035,9 +1035,9 @@ returns-in-Err-bring_forward-clause-trades g c =
     let log2 = c.bring_forward.new.exchanges.items in
     let a2 : List (ScanFile g.row.O.Denot g.row.S.Denot) = exchanged log2 files in
     let line = c.bring_forward.ensures.line in
-    let waited : Lined state polls refuses admits source split comes items c0 d0 c.args.ordered c.args.workers files log e ls c2 w = lined_wait state polls refuses admits source split comes items c0 d0 c.args.ordered c.args.workers c.requires.workers files log b ks c1 v lim h e ls c2 w
+    let waited : Lined state polls refuses admits source split comes items c0 d0 c.args.workers files log e ls c2 w = lined_wait state polls refuses admits source split comes items c0 d0 c.args.workers c.requires.workers files log b ks c1 v lim h e ls c2 w
     r.agree r.moves r.trades is bal c.in-Ok-Opened.ensures.some grounds r.polls in
-    let h2 : Lined state polls refuses admits source split comes items c0 d0 c.args.ordered c.args.workers files log2 b2 ks2 c2 w2 = lined_line state polls refuses admits source split comes items c0 d0 c.args.ordered c.args.workers c.requires.workers files log e ls c2 w lim waited log2 b2
+    let h2 : Lined state polls refuses admits source split comes items c0 d0 c.args.workers files log2 b2 ks2 c2 w2 = lined_line state polls refuses admits source split comes items c0 d0 c.args.workers c.requires.workers files log e ls c2 w lim waited log2 b2
     ks2 w2 line c.bring_forward.ensures.order in
     h2.runs.trades
 
@@ -1077,11 +1077,11 @@ returns-in-Err-bring_forward-clause-polls g c =
     let log2 = c.bring_forward.new.exchanges.items in
     let a2 : List (ScanFile g.row.O.Denot g.row.S.Denot) = exchanged log2 files in
     let line = c.bring_forward.ensures.line in
-    let waited : Lined state polls refuses admits source split comes items c0 d0 c.args.ordered c.args.workers files log e ls c2 w = lined_wait state polls refuses admits source split comes items c0 d0 c.args.ordered c.args.workers c.requires.workers files log b ks c1 v lim h e ls c2 w
+    let waited : Lined state polls refuses admits source split comes items c0 d0 c.args.workers files log e ls c2 w = lined_wait state polls refuses admits source split comes items c0 d0 c.args.workers c.requires.workers files log b ks c1 v lim h e ls c2 w
     r.agree r.moves r.trades is bal c.in-Ok-Opened.ensures.some grounds r.polls in
-    let h2 : Lined state polls refuses admits source split comes items c0 d0 c.args.ordered c.args.workers files log2 b2 ks2 c2 w2 = lined_line state polls refuses admits source split comes items c0 d0 c.args.ordered c.args.workers c.requires.workers files log e ls c2 w lim waited log2 b2
+    let h2 : Lined state polls refuses admits source split comes items c0 d0 c.args.workers files log2 b2 ks2 c2 w2 = lined_line state polls refuses admits source split comes items c0 d0 c.args.workers c.requires.workers files log e ls c2 w lim waited log2 b2
     ks2 w2 line c.bring_forward.ensures.order in
-    polls_now state polls refuses admits source split comes items c0 d0 c.args.ordered c.args.workers c.requires.workers files log2 b2 ks2 c2 w2 lim h2
+    polls_now state polls refuses admits source split comes items c0 d0 c.args.workers c.requires.workers files log2 b2 ks2 c2 w2 lim h2
 
 pub returns-in-Err-bring_forward-clause-fault : goal.returns-in-Err-bring_forward-clause-fault
 returns-in-Err-bring_forward-clause-fault g c =
@@ -1119,9 +1119,9 @@ returns-in-Err-bring_forward-clause-fault g c =
     let log2 = c.bring_forward.new.exchanges.items in
     let a2 : List (ScanFile g.row.O.Denot g.row.S.Denot) = exchanged log2 files in
     let line = c.bring_forward.ensures.line in
-    let waited : Lined state polls refuses admits source split comes items c0 d0 c.args.ordered c.args.workers files log e ls c2 w = lined_wait state polls refuses admits source split comes items c0 d0 c.args.ordered c.args.workers c.requires.workers files log b ks c1 v lim h e ls c2 w
+    let waited : Lined state polls refuses admits source split comes items c0 d0 c.args.workers files log e ls c2 w = lined_wait state polls refuses admits source split comes items c0 d0 c.args.workers c.requires.workers files log b ks c1 v lim h e ls c2 w
     r.agree r.moves r.trades is bal c.in-Ok-Opened.ensures.some grounds r.polls in
-    let h2 : Lined state polls refuses admits source split comes items c0 d0 c.args.ordered c.args.workers files log2 b2 ks2 c2 w2 = lined_line state polls refuses admits source split comes items c0 d0 c.args.ordered c.args.workers c.requires.workers files log e ls c2 w lim waited log2 b2
+    let h2 : Lined state polls refuses admits source split comes items c0 d0 c.args.workers files log2 b2 ks2 c2 w2 = lined_line state polls refuses admits source split comes items c0 d0 c.args.workers c.requires.workers files log e ls c2 w lim waited log2 b2
     ks2 w2 line c.bring_forward.ensures.order in
     runs_short state polls refuses admits source split comes items c0 d0 a2 b2 ks2 c2 w2 h2.runs
 

@@ -5,7 +5,7 @@ use Rattle.scan_drive.proofs.rounds.run_rounds.Given as goal
 abbrev pub invariant-opens : goal.invariant-opens
 invariant-opens g l = record {
   lined : Lined (g.X.SplitOpener.state l.fn.context) g.X.SplitOpener.polls (g.X.SplitOpener.refuses l.fn.context) (g.X.SplitOpener.admits l.fn.context) g.S.SegmentSource.state g.W.SplitWork.split g.W.SplitWork.comes g.W.SplitWork.items
-      (g.C.KeyedSegmentCache.cache l.fn.cache) l.fn.drive l.ordered l.workers l.fn.files.items l.exchanges.items l.files.items l.desks.items (g.C.KeyedSegmentCache.cache l.cache) l.drive;
+      (g.C.KeyedSegmentCache.cache l.fn.cache) l.fn.drive l.workers l.fn.files.items l.exchanges.items l.files.items l.desks.items (g.C.KeyedSegmentCache.cache l.cache) l.drive;
 }
 
 abbrev pub decreases-opens : goal.decreases-opens

@@ -389,7 +389,7 @@ returns-in-Err-clause-polls g c =
     (λ h. order_now state polls refuses source split comes items P a b k1 c0 0 d0 d1 inv.moves inv.goes h.0 h.1) inv.polls r.polls
 
 pub returns-in-Err-clause-before : goal.returns-in-Err-clause-before
-returns-in-Err-clause-before g c h s =
+returns-in-Err-clause-before g c ordered h s =
     let state = g.X.SplitOpener.state c.args.context.now in
     let polls = g.X.SplitOpener.polls in
     let refuses = g.X.SplitOpener.refuses c.args.context.now in
@@ -406,4 +406,4 @@ returns-in-Err-clause-before g c h s =
     let k1 = c.rounds.desks.items in
     let inv = c.rounds.invariant in
     let P = CacheAgrees source a c0 × Sound split comes items (tells state source a) d0 in
-    before_then state polls refuses source split comes items P a b k1 c0 d0 d1 c.in-Err.fault inv.moves inv.goes (c.in-Err.ensures.before (order_now state polls refuses source split comes items P a b k1 c0 0 d0 d1 inv.moves inv.goes h s))
+    before_then state polls refuses source split comes items P a b k1 c0 d0 d1 c.in-Err.fault inv.moves inv.goes (c.in-Err.ensures.before (inv.goes.ordered ∙ ordered) (order_now state polls refuses source split comes items P a b k1 c0 0 d0 d1 inv.moves inv.goes h s))

@@ -24,7 +24,7 @@ invariant-rounds g l = record {
   some : KeepsRows g.W.SplitWork.items l.fn.drive.chunks.items l.drive.chunks.items;
   goes : GoesOn (g.X.SplitOpener.state l.fn.context) g.X.SplitOpener.polls (g.X.SplitOpener.refuses l.fn.context) g.S.SegmentSource.state g.W.SplitWork.split g.W.SplitWork.comes g.W.SplitWork.items 0
       l.fn.files.items l.files.items l.desks.items (g.C.KeyedSegmentCache.cache l.fn.cache) l.fn.drive l.drive;
-  polls : PollsOn (g.X.SplitOpener.state l.fn.context) g.W.SplitWork.items l.workers (limit_in g.W.SplitWork.split g.W.SplitWork.comes g.W.SplitWork.items l.fn.drive) (tells (g.X.SplitOpener.state l.fn.context) g.S.SegmentSource.state l.fn.files.items)
+  polls : PollsOn (g.X.SplitOpener.state l.fn.context) g.W.SplitWork.items l.fn.drive.ordered l.workers (limit_in g.W.SplitWork.split g.W.SplitWork.comes g.W.SplitWork.items l.fn.drive) (tells (g.X.SplitOpener.state l.fn.context) g.S.SegmentSource.state l.fn.files.items)
       (CacheAgrees g.S.SegmentSource.state l.fn.files.items (g.C.KeyedSegmentCache.cache l.fn.cache) × SoundInOrder g.W.SplitWork.split g.W.SplitWork.comes g.W.SplitWork.items (tells (g.X.SplitOpener.state l.fn.context) g.S.SegmentSource.state l.fn.files.items) l.fn.drive)
       l.fn.drive.phases.items l.fn.files.items l.files.items;
 }

@@ -3,6 +3,7 @@ use Rattle.std.specs.Prelude.{All}
 use Rattle.std.proofs.lemmas.List.{with_items_is}
 use Rattle.scan_drive.specs.Workers.{IsWithin, JobPolled}
 use Rattle.scan_drive.specs.declared.workers.Job.{Job}
+use Rattle.scan_drive.proofs.Claiming.{all_polled}
 use Rattle.scan_drive.proofs.Working.{phase_back, still_within}
 use Rattle.scan_drive.proofs.workers.poll_news.Goals as goal
 
@@ -17,8 +18,7 @@ put_jobs-requires g c =
     let n : length jobs' ≡ length jobs = c.run_phase.auto.jobs ∙ ap length c.as_mut_slice.ensures.value in
     let is = with_items_is v jobs' (omega (arith, n, v.ok)) in
     let polled : (i : ℕ) (d : Job g.row.W.Denot g.row.W-Rows.Denot) → i < length jobs → JobPolled split comes items (get_or jobs i d) (get_or jobs' i d) =
-    subst (λ (xs : List (Job g.row.W.Denot g.row.W-Rows.Denot)). (i : ℕ) (d : Job g.row.W.Denot g.row.W-Rows.Denot) → i < length xs → JobPolled split comes items (get_or xs i d) (get_or jobs' i d))
-    c.as_mut_slice.ensures.value c.run_phase.ensures in
+    all_polled split comes items _ jobs jobs' c.as_mut_slice.ensures.value c.run_phase.ensures in
     let count = length c.take_jobs.new.slots.items in
     subst (All (IsWithin count)) (sym is)
     (still_within split comes items count jobs jobs' n polled (subst (λ k. All (IsWithin k) jobs) (sym c.in_ok-jobs.ensures.jobs.len) c.in_ok-jobs.ensures.jobs.within))
@@ -34,8 +34,7 @@ returns-clause-polled g c =
     let n : length jobs' ≡ length jobs = c.run_phase.auto.jobs ∙ ap length c.as_mut_slice.ensures.value in
     let is = with_items_is v jobs' (omega (arith, n, v.ok)) in
     let polled : (i : ℕ) (d : Job g.row.W.Denot g.row.W-Rows.Denot) → i < length jobs → JobPolled split comes items (get_or jobs i d) (get_or jobs' i d) =
-    subst (λ (xs : List (Job g.row.W.Denot g.row.W-Rows.Denot)). (i : ℕ) (d : Job g.row.W.Denot g.row.W-Rows.Denot) → i < length xs → JobPolled split comes items (get_or xs i d) (get_or jobs' i d))
-    c.as_mut_slice.ensures.value c.run_phase.ensures in
+    all_polled split comes items _ jobs jobs' c.as_mut_slice.ensures.value c.run_phase.ensures in
     (phase_back split comes items jobs jobs' _ c.in_ok-asking.asking.items c.put_jobs.new.asking.items c.args.slots.now.items c.take_jobs.new.slots.items c.put_jobs.new.slots.items
     c.in_ok-asking.ensures.items c.in_ok-jobs.ensures.jobs c.in_ok-jobs.ensures.all n polled is c.in_ok-put_jobs.ensures.asking c.in_ok-put_jobs.ensures.slots).polled
 
@@ -50,8 +49,7 @@ returns-clause-once g c =
     let n : length jobs' ≡ length jobs = c.run_phase.auto.jobs ∙ ap length c.as_mut_slice.ensures.value in
     let is = with_items_is v jobs' (omega (arith, n, v.ok)) in
     let polled : (i : ℕ) (d : Job g.row.W.Denot g.row.W-Rows.Denot) → i < length jobs → JobPolled split comes items (get_or jobs i d) (get_or jobs' i d) =
-    subst (λ (xs : List (Job g.row.W.Denot g.row.W-Rows.Denot)). (i : ℕ) (d : Job g.row.W.Denot g.row.W-Rows.Denot) → i < length xs → JobPolled split comes items (get_or xs i d) (get_or jobs' i d))
-    c.as_mut_slice.ensures.value c.run_phase.ensures in
+    all_polled split comes items _ jobs jobs' c.as_mut_slice.ensures.value c.run_phase.ensures in
     (phase_back split comes items jobs jobs' _ c.in_ok-asking.asking.items c.put_jobs.new.asking.items c.args.slots.now.items c.take_jobs.new.slots.items c.put_jobs.new.slots.items
     c.in_ok-asking.ensures.items c.in_ok-jobs.ensures.jobs c.in_ok-jobs.ensures.all n polled is c.in_ok-put_jobs.ensures.asking c.in_ok-put_jobs.ensures.slots).once
 
@@ -66,8 +64,7 @@ returns-clause-keeps g c =
     let n : length jobs' ≡ length jobs = c.run_phase.auto.jobs ∙ ap length c.as_mut_slice.ensures.value in
     let is = with_items_is v jobs' (omega (arith, n, v.ok)) in
     let polled : (i : ℕ) (d : Job g.row.W.Denot g.row.W-Rows.Denot) → i < length jobs → JobPolled split comes items (get_or jobs i d) (get_or jobs' i d) =
-    subst (λ (xs : List (Job g.row.W.Denot g.row.W-Rows.Denot)). (i : ℕ) (d : Job g.row.W.Denot g.row.W-Rows.Denot) → i < length xs → JobPolled split comes items (get_or xs i d) (get_or jobs' i d))
-    c.as_mut_slice.ensures.value c.run_phase.ensures in
+    all_polled split comes items _ jobs jobs' c.as_mut_slice.ensures.value c.run_phase.ensures in
     (phase_back split comes items jobs jobs' _ c.in_ok-asking.asking.items c.put_jobs.new.asking.items c.args.slots.now.items c.take_jobs.new.slots.items c.put_jobs.new.slots.items
     c.in_ok-asking.ensures.items c.in_ok-jobs.ensures.jobs c.in_ok-jobs.ensures.all n polled is c.in_ok-put_jobs.ensures.asking c.in_ok-put_jobs.ensures.slots).keeps
 
@@ -82,7 +79,6 @@ returns-clause-settled g c =
     let n : length jobs' ≡ length jobs = c.run_phase.auto.jobs ∙ ap length c.as_mut_slice.ensures.value in
     let is = with_items_is v jobs' (omega (arith, n, v.ok)) in
     let polled : (i : ℕ) (d : Job g.row.W.Denot g.row.W-Rows.Denot) → i < length jobs → JobPolled split comes items (get_or jobs i d) (get_or jobs' i d) =
-    subst (λ (xs : List (Job g.row.W.Denot g.row.W-Rows.Denot)). (i : ℕ) (d : Job g.row.W.Denot g.row.W-Rows.Denot) → i < length xs → JobPolled split comes items (get_or xs i d) (get_or jobs' i d))
-    c.as_mut_slice.ensures.value c.run_phase.ensures in
+    all_polled split comes items _ jobs jobs' c.as_mut_slice.ensures.value c.run_phase.ensures in
     (phase_back split comes items jobs jobs' _ c.in_ok-asking.asking.items c.put_jobs.new.asking.items c.args.slots.now.items c.take_jobs.new.slots.items c.put_jobs.new.slots.items
     c.in_ok-asking.ensures.items c.in_ok-jobs.ensures.jobs c.in_ok-jobs.ensures.all n polled is c.in_ok-put_jobs.ensures.asking c.in_ok-put_jobs.ensures.slots).settled

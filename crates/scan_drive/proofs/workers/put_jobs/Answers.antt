@@ -25,3 +25,16 @@ loop-job-preserved g c =
       slots = put_next jobs rest j c.loop-job.slots.items _ e inv.slots;
       asking = listed_next jobs rest j c.loop-job.asking.items c.list_if.new.list.items _ c.is_wait.result e c.in_ok-list_if.ensures c.is_wait.ensures inv.asking;
     }
+
+pub loop-job-preserved-in_ok-list_if : goal.loop-job-preserved-in_ok-list_if
+loop-job-preserved-in_ok-list_if g c =
+    let jobs : List (Job g.row.W.Denot g.row.R.Denot) = into_iter_items c.loop-job.job-iterator in
+    let rest : List (Job g.row.W.Denot g.row.R.Denot) = into_iter_items c.next.new.self in
+    let j : Job g.row.W.Denot g.row.R.Denot = c.in-Some.job in
+    let e : jobs ≡ j ∷ rest = search (rules, c.in-Some.ensures.steps) in
+    let inv = c.loop-job.invariant in
+    record {
+      within = rest_within c.loop-job.slots.items jobs rest j j.slot e inv.within;
+      slots = put_next jobs rest j c.loop-job.slots.items _ e inv.slots;
+      asking = listed_next jobs rest j c.loop-job.asking.items c.list_if.new.list.items _ c.is_wait.result e c.in_ok-list_if.ensures c.is_wait.ensures inv.asking;
+    }
