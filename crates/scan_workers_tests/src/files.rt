@@ -5,7 +5,7 @@ ghost use Rattle.scan_segments.specs.MemorySource.{source_state};
 
 use scan_expr::{Expression, ScanRequest};
 use scan_layout::{LayoutNode, LayoutRef};
-use scan_multi::{Gate, MemoryOpener, ScanChunk, ScanFile, scan_files};
+use scan_multi::{Gate, MemoryOpener, NoGate, ScanChunk, ScanFault, ScanFile, scan_files};
 use scan_segments::{ByteBuffer, MemorySource, NoOpSegmentCache, SegmentId, SegmentSourceId};
 use scan_values::{DType, Nullability, PType, StrictSorted, Value};
 use std::alloc::Global;
@@ -13,8 +13,44 @@ use std::collections::BTreeMap;
 use std::test::Fail;
 use std::thread::Threads;
 
-pub(crate) fn number() -> DType {
+/// Which rows are asked for: those with a number from one on, up to so many, in their order or in any.
+#[derive(Clone, Copy)]
+pub(crate) struct Asked {
+    pub ordered: bool,
+    pub least: Option<u8>,
+    pub limit: Option<u64>,
+}
+
+pub(crate) const IN_ORDER: Asked = Asked {
+    ordered: true,
+    least: None,
+    limit: None,
+};
+
+pub(crate) const IN_ANY: Asked = Asked {
+    ordered: false,
+    least: None,
+    limit: None,
+};
+
+fn number() -> DType {
     DType::primitive(PType::U8, Nullability::NonNullable)
+}
+
+/// Whether a row has this number or one above.
+fn is_from(alloc: Global, least: u8) -> Result<Expression, Fail> {
+    let least = Expression::lit(number(), Value::Int(least as i128));
+    Ok(Expression::gt_eq(alloc, Expression::root(), least)?)
+}
+
+fn request(alloc: Global, asked: Asked) -> Result<ScanRequest, Fail> {
+    let mut request = ScanRequest::new(Expression::root());
+    request.ordered = asked.ordered;
+    request.limit = asked.limit;
+    if let Some(least) = asked.least {
+        request.filter = Some(is_from(alloc, least)?);
+    }
+    Ok(request)
 }
 
 fn sorted(alloc: Global, numbers: &[u64]) -> Result<StrictSorted, Fail> {
@@ -40,25 +76,26 @@ fn segments(alloc: Global, rows: u8) -> Result<BTreeMap<SegmentId, ByteBuffer>, 
     Ok(segments)
 }
 
-/// A source that puts off the polls of these numbers.
-fn source(alloc: Global, rows: u8, pending: &[u64]) -> Result<MemorySource, Fail>
+/// A source whose polls of these numbers fail, or are put off.
+fn source(alloc: Global, rows: u8, failing: &[u64], pending: &[u64]) -> Result<MemorySource, Fail>
     ensures { IfOk result (λ s. (source_state s).live ≡ none_live) }
 {
     let segments = segments(alloc, rows)?;
-    let failing = sorted(alloc, &[])?;
+    let failing = sorted(alloc, failing)?;
     Ok(MemorySource::new(alloc, segments, failing, sorted(alloc, pending)?))
 }
 
-/// A file of so many rows. Its opener puts off its first answers, so many.
+/// A file of so many rows over a source. The polls of its opener of these numbers are put off.
 fn file(
     alloc: Global,
     rows: u8,
+    source: MemorySource,
     waits: &[u64],
 ) -> Result<ScanFile<MemoryOpener, MemorySource>, Fail>
+    requires { (source_state source).live ≡ none_live }
     ensures { IfOk result (λ f. (source_state f.source).live ≡ none_live) }
 {
     let layout = layout(alloc, rows)?;
-    let source = source(alloc, rows, &[1, 2, 5])?;
     let failing = sorted(alloc, &[])?;
     let opener = MemoryOpener::new(Some(layout), failing, sorted(alloc, waits)?);
     let name = String::from_str(alloc, "A")?;
@@ -70,13 +107,39 @@ fn file(
     })
 }
 
+/// A file of so many rows whose source puts off some polls.
+fn slow_file(
+    alloc: Global,
+    rows: u8,
+    waits: &[u64],
+) -> Result<ScanFile<MemoryOpener, MemorySource>, Fail>
+    ensures { IfOk result (λ f. (source_state f.source).live ≡ none_live) }
+{
+    let source = source(alloc, rows, &[], &[1, 2, 5])?;
+    file(alloc, rows, source, waits)
+}
+
 /// Two files of six and three rows. The opener of the first puts off two answers.
 fn two_files(alloc: Global) -> Result<Vec<ScanFile<MemoryOpener, MemorySource>>, Fail>
     ensures { IfOk result (λ files. All (λ f. (source_state f.source).live ≡ none_live) files.items) }
 {
     let mut files = Vec::new(alloc);
-    files.push(file(alloc, 6, &[1, 2])?)?;
-    files.push(file(alloc, 3, &[])?)?;
+    files.push(slow_file(alloc, 6, &[1, 2])?)?;
+    files.push(slow_file(alloc, 3, &[])?)?;
+    Ok(files)
+}
+
+/// A file of three rows. The polls of its source of these numbers fail, or are put off.
+fn one_file(
+    alloc: Global,
+    failing: &[u64],
+    pending: &[u64],
+) -> Result<Vec<ScanFile<MemoryOpener, MemorySource>>, Fail>
+    ensures { IfOk result (λ files. All (λ f. (source_state f.source).live ≡ none_live) files.items) }
+{
+    let source = source(alloc, 3, failing, pending)?;
+    let mut files = Vec::new(alloc);
+    files.push(file(alloc, 3, source, &[])?)?;
     Ok(files)
 }
 
@@ -102,15 +165,75 @@ pub(crate) fn scanned<R: Threads + Sync, G: Gate>(
     alloc: Global,
     gate: &G,
     workers: usize,
-    ordered: bool,
+    asked: Asked,
 ) -> Result<Vec<(usize, u64, bool)>, Fail> {
     let dtype = number();
     let mut files = two_files(alloc)?;
-    let mut request = ScanRequest::new(Expression::root());
-    request.ordered = ordered;
+    let request = request(alloc, asked)?;
     let mut cache = NoOpSegmentCache::new();
     let output = scan_files(
         rt, alloc, &dtype, &mut files, &mut cache, &request, workers, gate,
     )?;
     rows_of(alloc, output.chunks.as_slice())
+}
+
+/// The numbers of the rows of chunks.
+fn numbers_of(alloc: Global, chunks: &[ScanChunk]) -> Result<Vec<u64>, Fail> {
+    let mut numbers = Vec::new(alloc);
+    for chunk in chunks {
+        numbers.extend_from_slice(chunk.rows.as_slice())?;
+    }
+    Ok(numbers)
+}
+
+/// What one worker gives of the file of three rows: their numbers as they come, or why it gives none.
+fn given<R: Threads + Sync>(
+    rt: &R,
+    alloc: Global,
+    asked: Asked,
+    failing: &[u64],
+    pending: &[u64],
+) -> Result<Result<Vec<u64>, ScanFault>, Fail> {
+    let dtype = number();
+    let mut files = one_file(alloc, failing, pending)?;
+    let request = request(alloc, asked)?;
+    let mut cache = NoOpSegmentCache::new();
+    match scan_files(
+        rt,
+        alloc,
+        &dtype,
+        &mut files,
+        &mut cache,
+        &request,
+        1,
+        &NoGate::new(),
+    ) {
+        Ok(output) => Ok(Ok(numbers_of(alloc, output.chunks.as_slice())?)),
+        Err(fault) => Ok(Err(fault)),
+    }
+}
+
+/// Whether one worker gives these rows of the file of three rows, as they come, or tells that this segment failed.
+pub(crate) fn gives<R: Threads + Sync>(
+    rt: &R,
+    alloc: Global,
+    asked: Asked,
+    failing: &[u64],
+    pending: &[u64],
+    wanted: Result<&[u64], u32>,
+) -> Result<bool, Fail> {
+    let given = given(rt, alloc, asked, failing, pending)?;
+    Ok(match (given, wanted) {
+        (Ok(rows), Ok(wanted)) => rows.as_slice() == wanted,
+        (Err(fault), Err(id)) => fault == failed(id),
+        _ => false,
+    })
+}
+
+/// The first file's source failed at a segment.
+fn failed(id: u32) -> ScanFault {
+    ScanFault::Source {
+        file: 0,
+        segment: SegmentId::from(id),
+    }
 }

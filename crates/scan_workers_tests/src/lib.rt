@@ -6,4 +6,8 @@ mod files;
 #[cfg(test)]
 mod gates;
 #[cfg(test)]
+mod limits;
+#[cfg(test)]
 mod phases;
+#[cfg(test)]
+mod waits;
