@@ -107,3 +107,7 @@ map-take f (suc i) (x ∷ xs) = ap (λ ys. f x ∷ ys) (map-take f i xs)
 
 pub map-range : {A B : Type 0} (f : A → B) (i j : ℕ) (xs : List A) → map f (slice_range xs i j) ≡ slice_range (map f xs) i j
 map-range f i j xs = map-take f (j - i) (drop i xs) ∙ ap (take (j - i)) (map-drop f i xs)
+
+pub map-map : {A B C : Type 0} (f : A → B) (g : B → C) (xs : List A) → map (λ x. g (f x)) xs ≡ map g (map f xs)
+map-map f g [] = refl
+map-map f g (x ∷ xs) = ap (λ ys. g (f x) ∷ ys) (map-map f g xs)

@@ -1,10 +1,10 @@
-pub mod Lent
 pub mod FitsLemmas
 pub mod Deepest
 pub mod Places
 pub mod Faults
 pub mod Uneven
 pub mod MaskLemmas
+pub mod AllTrue
 pub mod Rising
 pub mod Fitting
 pub mod SameFields
@@ -13,3 +13,4 @@ pub mod DTypeSent
 pub mod ValuesSent
 pub mod ArraysSent
 pub mod Named
+pub mod FirstPlaces

@@ -1,12 +1,18 @@
 -- The data type that a kind and a nullability make, and the parts of a data type.
-use Rattle.std.specs.Prelude.{Option, Some, None, Bool as Truth, true, false}
+use Rattle.std.specs.Prelude.{Option, Some, None, Bool as Truth, true, false, List as Items}
 use Rattle.scan_values.specs.declared.ptype.PType.{PType}
-use Rattle.scan_values.specs.DataType.{DataType, bool_type, int_type, utf8_type, list_type, struct_type, Fields, fields_of}
+use Rattle.scan_values.specs.DataType.{DataType, Name, bool_type, int_type, utf8_type, list_type, struct_type, Fields, fields_of}
 use Rattle.scan_values.specs.declared.ptype.Nullability.{Nullability}
 use Rattle.scan_values.specs.declared.dtype.DTypeKind.{DTypeKind}
 use Rattle.scan_values.specs.declared.dtype.DTypeKind.TheVariants as kinds
+use Rattle.scan_values.specs.declared.dtype.Held.{Held}
+use Rattle.scan_values.specs.declared.dtype.Held.TheVariants.{Shared, Alone}
 use Rattle.scan_values.specs.declared.dtype.Kind.{Kind}
 use Rattle.scan_values.specs.declared.dtype.Kind.TheVariants.{Bool, Primitive, Utf8, List as Listed, Struct}
+
+abbrev pub fields_held : Held → Items (Name × DataType)
+fields_held (Shared a) = a.value
+fields_held (Alone l) = l
 
 abbrev pub data_type_of : Kind → Nullability → DataType
 data_type_of Bool n = bool_type n

@@ -4,6 +4,8 @@ pub mod Val
 pub mod Values
 pub mod ValuesFall
 pub mod DataType
+pub mod Weights
+pub mod FirstPlaces
 pub mod Kinds
 pub mod DTypeFalls
 pub mod FieldsFall

@@ -167,10 +167,7 @@ impl Array {
         requires { is_bool_type self.now.dtype ≡ true }
         ensures { IfOk result (λ m. m ≡ map (λ v. is_true (marked v)) self.now.items) }
     {
-        let mut bits = Vec::with_capacity(alloc, self.items.len())?;
-        for value in self.items.as_slice() {
-            bits.push(value.is_true())?;
-        }
+        let bits = are_true(alloc, self.items.as_slice())?;
         Ok(Mask::from_bools(bits))
     }
 
@@ -182,6 +179,13 @@ impl Array {
         let items = self.items.try_clone(alloc)?;
         Ok(Array { dtype, items })
     }
+}
+
+/// For each value, whether it is true.
+fn are_true(alloc: Global, values: &[Value]) -> Result<Vec<bool>, NoMemory>
+    ensures { IfOk result (λ v. v.items ≡ map (λ v. is_true (marked (val_of v))) values.now) }
+{
+    Ok(values.iter().map(|v| v.is_true()).collect(alloc)?)
 }
 
 fn clone_values(alloc: Global, values: &[Value]) -> Result<Vec<Value>, NoMemory>
@@ -199,6 +203,9 @@ fn kept_values(alloc: Global, values: &[Value], m: &Mask) -> Result<Vec<Value>, 
     requires { length m.now ≡ length values.now }
     ensures { IfOk result (λ v. map val_of v.items ≡ items_where_true m.now (map val_of values.now)) }
 {
+    if m.all_true() {
+        return clone_values(alloc, values);
+    }
     let bits = m.as_slice();
     let mut items = Vec::with_capacity(alloc, m.true_count())?;
     for (i, value) in values.iter().enumerate() {

@@ -6,13 +6,14 @@ ghost use Rattle.scan_values.specs.Fits.{is_bool_type, is_utf8_type, fits_int};
 ghost use Rattle.scan_values.specs.Same.{same_fields};
 ghost use Rattle.scan_values.specs.DataType.{bool_type, int_type, utf8_type, list_type, struct_type, fields_of, nullability_of, is_nullable, with_nullability, depth_of, fields_depth};
 
+use crate::field_names::FieldNames;
 use crate::memory::NoMemory;
 use crate::ptype::{Nullability, PType};
 use crate::text::{FieldName, NameFault, names_fault};
 use std::alloc::Global;
-use std::boxed::Box;
 use std::hash::{Hash, Hasher};
 use std::marker::Model;
+use std::sync::Arc;
 use thiserror::Error;
 
 /// A dtype.
@@ -30,21 +31,37 @@ enum Kind {
     Bool,
     Primitive(PType),
     Utf8,
-    List(Box<DType>),
+    List(Arc<DType>),
     Struct(StructFields),
 }
 
-/// The fields of a struct: names, with a dtype each.
+/// The fields of a struct: names, with a dtype each. Copies share them.
 #[cycle(dtype)]
 #[derive(Drop)]
 pub struct StructFields {
-    names: Vec<FieldName>,
+    held: Held,
+}
+
+/// Fields, which are their owner's alone where no memory was left to share them.
+#[cycle(dtype)]
+#[derive(Drop)]
+enum Held {
+    Shared(Arc<FieldList>),
+    Alone(FieldList),
+}
+
+/// Names, with a dtype each.
+#[cycle(dtype)]
+#[derive(Drop)]
+struct FieldList {
+    names: FieldNames,
     dtypes: Vec<DType>,
 }
 
 impl Model for DType {
     ghost use Rattle.std.specs.Prelude.{◌≡◌, ◌≤◌};
-    ghost use Rattle.scan_values.specs.DataType.{DataType, data_type_code, size_of, depth_of};
+    ghost use Rattle.scan_values.specs.DataType.{DataType, data_type_code, depth_of};
+    ghost use Rattle.scan_values.specs.Weights.{weight_of};
 
     ghost Value = { DataType };
 
@@ -56,7 +73,7 @@ impl Model for DType {
 
     ghost invariant = { λ a. record { depth : a.depth ≡ depth_of (data_type_of a.kind a.nullability); shallow : a.depth ≤ 66 } };
 
-    ghost size = { size_of };
+    ghost size = { weight_of };
 
     ghost use Rattle.scan_values.specs.DTypeFalls.{kind_falls};
 
@@ -64,45 +81,76 @@ impl Model for DType {
 }
 
 impl Model for StructFields {
-    ghost use Rattle.std.specs.Prelude.{◌≡◌, List, ℕ, zip, length};
+    ghost use Rattle.std.specs.Prelude.{List, ℕ, suc};
     ghost use Rattle.std.specs.Coded.{coded_list, coded×, coded_ℕ};
-    ghost use Rattle.scan_values.specs.DataType.{DataType, data_type_code, fields_size, fields_of};
+    ghost use Rattle.scan_values.specs.DataType.{DataType, data_type_code, fields_of};
+    ghost use Rattle.scan_values.specs.Weights.{fields_weight};
 
     ghost Value = { List (List ℕ × DataType) };
 
     ghost coded = { coded_list (coded× (coded_list coded_ℕ) data_type_code) };
 
-    ghost view = { λ a. zip a.names.items a.dtypes.items };
+    ghost use Rattle.scan_values.specs.Kinds.{fields_held};
 
-    ghost invariant = { λ a. length a.names.items ≡ length a.dtypes.items };
+    ghost view = { λ a. fields_held a.held };
 
-    ghost size = { λ fs. fields_size (fields_of fs) };
+    ghost size = { λ fs. suc (fields_weight (fields_of fs)) };
+
+    ghost use Rattle.scan_values.specs.DTypeFalls.{held_falls};
+
+    ghost size_decreases = { λ a h. held_falls a.held };
+}
+
+impl Model for FieldList {
+    ghost use Rattle.std.specs.Prelude.{◌≡◌, List, ℕ, zip, length};
+    ghost use Rattle.std.specs.Coded.{coded_list, coded×, coded_ℕ};
+    ghost use Rattle.scan_values.specs.DataType.{DataType, data_type_code, fields_of};
+    ghost use Rattle.scan_values.specs.Weights.{fields_weight};
+
+    ghost Value = { List (List ℕ × DataType) };
+
+    ghost coded = { coded_list (coded× (coded_list coded_ℕ) data_type_code) };
+
+    ghost view = { λ a. zip a.names a.dtypes.items };
+
+    ghost invariant = { λ a. length a.names ≡ length a.dtypes.items };
+
+    ghost size = { λ fs. fields_weight (fields_of fs) };
 
     ghost use Rattle.scan_values.specs.FieldsFall.{fields_fall};
 
-    ghost size_decreases = { λ a h. fields_fall a.names.items a.dtypes.items h };
+    ghost size_decreases = { λ a h. fields_fall a.names a.dtypes.items h };
 }
 
 impl StructFields {
+    fn list(&self) -> &FieldList
+        ensures { result.now ≡ self.now }
+    {
+        match &self.held {
+            Held::Shared(list) => list,
+            Held::Alone(list) => list,
+        }
+    }
+
     /// The names, in field order.
     pub fn names(&self) -> &[FieldName]
         ensures { result.now ≡ names_of self.now }
     {
-        self.names.as_slice()
+        self.list().names().as_slice()
     }
 
     /// The name of the field at a place, where there is one.
     pub fn field_name(&self, i: usize) -> Option<&FieldName>
         ensures { option_map (λ n. n.now) result ≡ slice_get (names_of self.now) i }
     {
-        self.names.get(i)
+        self.names().get(i)
     }
 
     /// The place of the first field of this name.
     pub fn find(&self, name: &FieldName) -> Option<usize>
         ensures { result ≡ position (bytes_eq name.now) (names_of self.now) }
     {
-        self.names().iter().position(|n| name.same(n))
+        self.list().names().find(name)
     }
 
     /// The dtype of the first field of this name.
@@ -121,7 +169,7 @@ impl StructFields {
         ensures bound { result ≤ 66 }
     {
         let mut depth = 0;
-        for dtype in &self.dtypes {
+        for dtype in self.list().dtypes() {
             depth = depth.max(dtype.depth());
         }
         depth
@@ -131,23 +179,20 @@ impl StructFields {
     pub fn field_by_index(&self, i: usize) -> Option<&DType>
         ensures { option_map (λ d. d.now) result ≡ slice_get (dtypes_of self.now) i }
     {
-        self.dtypes.get(i)
+        self.list().dtypes().get(i)
     }
 
-    /// A copy that equals this one.
+    /// A copy that equals this one, and shares its names and dtypes.
     #[cycle(clone)]
     pub fn try_clone(&self, alloc: Global) -> Result<StructFields, NoMemory>
         ensures { IfOk result (λ fs. fs ≡ self.now) }
     {
-        let mut names = Vec::with_capacity(alloc, self.names.len())?;
-        for name in &self.names {
-            names.push(name.try_clone(alloc)?)?;
+        match &self.held {
+            Held::Shared(list) => Ok(StructFields {
+                held: Held::Shared(Arc::try_clone(list)?),
+            }),
+            Held::Alone(list) => list.try_clone(alloc),
         }
-        let mut dtypes = Vec::with_capacity(alloc, self.dtypes.len())?;
-        for dtype in &self.dtypes {
-            dtypes.push(dtype.try_clone(alloc)?)?;
-        }
-        Ok(StructFields { names, dtypes })
     }
 
     /// Fields of these names and dtypes, pair by pair.
@@ -155,14 +200,54 @@ impl StructFields {
         requires { length names.items ≡ length dtypes.items }
         ensures { result ≡ zip names.items dtypes.items }
     {
-        StructFields { names, dtypes }
+        let alloc = *names.allocator();
+        let list = FieldList {
+            names: FieldNames::new(names),
+            dtypes,
+        };
+        let held = match Arc::new(alloc, list) {
+            Ok(list) => Held::Shared(list),
+            Err(failed) => Held::Alone(failed.value),
+        };
+        StructFields { held }
     }
 
     /// How many fields.
     pub fn nfields(&self) -> usize
         ensures { result ≡ length self.now }
     {
-        self.names.len()
+        self.list().dtypes().len()
+    }
+}
+
+impl FieldList {
+    fn names(&self) -> &FieldNames
+        ensures { result.now ≡ names_of self.now }
+    {
+        &self.names
+    }
+
+    fn dtypes(&self) -> &[DType]
+        ensures { result.now ≡ dtypes_of self.now }
+    {
+        self.dtypes.as_slice()
+    }
+
+    /// Fields that equal these.
+    #[cycle(clone)]
+    fn try_clone(&self, alloc: Global) -> Result<StructFields, NoMemory>
+        ensures { IfOk result (λ fs. fs ≡ self.now) }
+    {
+        let from = self.names.as_slice();
+        let mut names = Vec::with_capacity(alloc, from.len())?;
+        for name in from {
+            names.push(name.try_clone(alloc)?)?;
+        }
+        let mut dtypes = Vec::with_capacity(alloc, self.dtypes.len())?;
+        for dtype in &self.dtypes {
+            dtypes.push(dtype.try_clone(alloc)?)?;
+        }
+        Ok(StructFields::new(names, dtypes))
     }
 }
 
@@ -243,9 +328,9 @@ impl DType {
         if depth > 65 {
             return Err(DTypeFault::Deep);
         }
-        let boxed = Box::new(alloc, element).map_err(|_| DTypeFault::NoMemory)?;
+        let element = Arc::new(alloc, element).map_err(|_| DTypeFault::NoMemory)?;
         Ok(DType {
-            kind: Kind::List(boxed),
+            kind: Kind::List(element),
             nullability: n,
             depth: depth + 1,
         })
@@ -260,7 +345,7 @@ impl DType {
             Kind::Bool => Kind::Bool,
             Kind::Primitive(p) => Kind::Primitive(*p),
             Kind::Utf8 => Kind::Utf8,
-            Kind::List(element) => Kind::List(Box::new(alloc, element.try_clone(alloc)?)?),
+            Kind::List(element) => Kind::List(Arc::try_clone(element)?),
             Kind::Struct(fields) => Kind::Struct(fields.try_clone(alloc)?),
         };
         Ok(DType {
@@ -412,6 +497,22 @@ impl StructFields {
     fn names_fault(&self, alloc: Global) -> Result<Option<NameFault>, NoMemory>
         ensures { IfOk result (λ f. f ≡ or_else (names_fault [] (field_names (fields_of self.now))) (fields_fault (fields_of self.now))) }
     {
+        match &self.held {
+            Held::Shared(list) => list.names_fault(alloc),
+            Held::Alone(list) => list.names_fault(alloc),
+        }
+    }
+}
+
+impl FieldList {
+    ghost use Rattle.std.specs.Prelude.{◌≡◌, [], IfOk};
+    ghost use Rattle.scan_values.specs.DataType.{fields_of};
+    ghost use Rattle.scan_values.specs.NameFaults.{or_else, names_fault, field_names, fields_fault};
+
+    #[cycle(faults)]
+    fn names_fault(&self, alloc: Global) -> Result<Option<NameFault>, NoMemory>
+        ensures { IfOk result (λ f. f ≡ or_else (names_fault [] (field_names (fields_of self.now))) (fields_fault (fields_of self.now))) }
+    {
         if let Some(fault) = names_fault(alloc, self.names.as_slice())? {
             return Ok(Some(fault));
         }
@@ -498,7 +599,28 @@ impl StructFields {
     fn same(&self, other: &StructFields) -> bool
         ensures { result ≡ same_fields (fields_of self.now) (fields_of other.now) }
     {
-        same_fields(&self.names, &self.dtypes, &other.names, &other.dtypes)
+        match &self.held {
+            Held::Shared(list) => list.same(other.list()),
+            Held::Alone(list) => list.same(other.list()),
+        }
+    }
+}
+
+impl FieldList {
+    ghost use Rattle.std.specs.Prelude.{◌≡◌};
+    ghost use Rattle.scan_values.specs.DataType.{fields_of};
+    ghost use Rattle.scan_values.specs.Same.{same_fields};
+
+    #[cycle(same)]
+    fn same(&self, other: &FieldList) -> bool
+        ensures { result ≡ same_fields (fields_of self.now) (fields_of other.now) }
+    {
+        same_fields(
+            self.names.as_slice(),
+            &self.dtypes,
+            other.names.as_slice(),
+            &other.dtypes,
+        )
     }
 }
 

@@ -2,7 +2,9 @@
 #![tactic(auto)]
 
 mod array;
+mod constructors;
 mod dtype;
+mod field_names;
 mod field_path;
 mod mask;
 mod memory;

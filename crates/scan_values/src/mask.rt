@@ -135,12 +135,8 @@ impl Mask {
         requires { length self.now ≡ length other.now }
         ensures { IfOk result (λ m. m ≡ both_true self.now other.now) }
     {
-        let others = other.as_slice();
-        let mut bits = Vec::with_capacity(alloc, self.bits.len())?;
-        for (i, bit) in self.bits.iter().enumerate() {
-            bits.push(*bit & others[i])?;
-        }
-        Ok(Mask::from_bools(bits))
+        let bits = Vec::from_slice(alloc, self.bits.as_slice())?;
+        Ok(Mask::from_bools(keep_both(bits, other.as_slice())))
     }
 
     /// Of the true rows only the first `n` stay true.
@@ -172,18 +168,14 @@ impl Mask {
         requires { length other.now ≡ true_count self.now }
         ensures { IfOk result (λ m. m ≡ by_rank self.now other.now) }
     {
-        let others = other.as_slice();
-        let mut bits = Vec::with_capacity(alloc, self.bits.len())?;
-        let mut rank = 0;
-        for bit in &self.bits {
-            if *bit {
-                bits.push(others[rank])?;
-                rank += 1;
-            } else {
-                bits.push(false)?;
-            }
+        if self.all_true() {
+            return other.try_clone(alloc);
         }
-        Ok(Mask::from_bools(bits))
+        if other.all_true() {
+            return self.try_clone(alloc);
+        }
+        let bits = Vec::from_slice(alloc, self.bits.as_slice())?;
+        Ok(Mask::from_bools(keep_ranked(bits, other.as_slice())))
     }
 
     /// A copy that equals this one.
@@ -198,14 +190,60 @@ impl Mask {
     }
 }
 
+/// So many truth values are counted at once, in a byte.
+const BLOCK: usize = 128;
+
+/// How many are true.
 fn count_true(bits: &[bool]) -> usize
     ensures { result ≡ true_count bits.now }
 {
     let mut count = 0;
+    let mut rest = bits;
+    while rest.len() > BLOCK {
+        let (block, later) = rest.split_at(BLOCK);
+        count += count_few(block) as usize;
+        rest = later;
+    }
+    count + count_few(rest) as usize
+}
+
+fn count_few(bits: &[bool]) -> u8
+    requires { length bits.now ≤ 255 }
+    ensures { result ≡ true_count bits.now }
+{
+    let mut count = 0;
     for bit in bits {
-        count += *bit as usize;
+        count += *bit as u8;
     }
     count
+}
+
+/// The truth values, false where one of the others is.
+fn keep_both(bits: Vec<bool>, others: &[bool]) -> Vec<bool>
+    requires { length bits.items ≡ length others.now }
+    ensures { result.items ≡ both_true bits.items others.now }
+{
+    let mut bits = bits;
+    for i in 0..bits.len() {
+        bits[i] = bits[i] & others[i];
+    }
+    bits
+}
+
+/// The truth values, of which the k-th true one stays true where the k-th of the others is.
+fn keep_ranked(bits: Vec<bool>, others: &[bool]) -> Vec<bool>
+    requires { length others.now ≡ true_count bits.items }
+    ensures { result.items ≡ by_rank bits.items others.now }
+{
+    let mut bits = bits;
+    let mut rank = 0;
+    for i in 0..bits.len() {
+        let bit = bits[i];
+        let kept = rank < others.len() && others[rank];
+        bits[i] = bit & kept;
+        rank += bit as usize;
+    }
+    bits
 }
 
 /// The rows, of which only the first `n` true ones stay true.

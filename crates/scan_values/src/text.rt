@@ -4,7 +4,7 @@ ghost use Rattle.scan_values.specs.NameFaults.{has_name, names_fault};
 
 use crate::memory::NoMemory;
 use std::alloc::Global;
-use std::collections::HashSet;
+use std::collections::BTreeSet;
 use std::hash::{Hash, Hasher};
 use std::marker::Model;
 
@@ -258,12 +258,12 @@ pub enum NameFault {
 pub fn names_fault(alloc: Global, names: &[FieldName]) -> Result<Option<NameFault>, NoMemory>
     ensures { IfOk result (λ f. f ≡ names_fault [] names.now) }
 {
-    let mut seen: HashSet<&FieldName> = HashSet::new(alloc);
+    let mut seen: BTreeSet<&str> = BTreeSet::new(alloc);
     for name in names {
         if name.as_str() == "#validity" {
             return Ok(Some(NameFault::Reserved));
         }
-        if !seen.insert(name)? {
+        if !seen.insert(name.as_str())? {
             return Ok(Some(NameFault::Repeated));
         }
     }
