@@ -1,6 +1,5 @@
 -- Lists of parts that are bound, up to a fault.
-use Rattle.std.proofs.Common.{◌≡◌, ℕ, ◌+◌, ◌<◌, ◌≤◌, suc, max, List, [], ◌∷◌, ◌++◌, length, get_or, take, drop, map, zip, Option, Some, None, Result, Ok, Err, refl, sym, ap, ◌∙◌, add-one, arith}
-use Rattle.std.proofs.lemmas.List.{take_more, map-append}
+use Rattle.std.proofs.Common.{◌≡◌, ℕ, ◌+◌, ◌<◌, ◌≤◌, suc, max, List, [], ◌∷◌, length, get_or, take, drop, map, zip, Option, Some, None, Result, Ok, Err, refl, sym, ap, ◌∙◌, add-one, arith}
 use Rattle.std.proofs.Math.ListN.{drop_of_length-le}
 use Rattle.std.proofs.Math.Seq.{drop-cons}
 use Rattle.std.proofs.lemmas.Grind.{common_steps}
@@ -55,16 +54,6 @@ parts-first s (n ∷ ns) (e ∷ es) = ap (or_fault (nodes_fault s e)) (parts-fir
 pub record AreBound (s : DataType) (es : List Expr) (i : ℕ) (bs : List Bound) : Type 0 where
   pub done : bs ≡ map (bound_of s) (take i es)
   pub rest : first_fault s es ≡ first_fault s (drop i es)
-
-pub bind_turn : (s : DataType) (es : List Expr) (i : ℕ) (e : Expr) (b : Bound) (bs : List Bound) → i < length es → e ≡ get_or es i e → Ok b ≡ bound_unless (nodes_fault s e) s e → AreBound s es i bs
-    → AreBound s es (i + 1) (bs ++ b ∷ [])
-bind_turn s es i e b bs h at ok a =
-    let k = is_bound (nodes_fault s e) s e b ok in
-    let same : b ≡ bound_of s e = λ j. record { scope = k.scope j; expr = k.expr j } in
-    record {
-      done = rw (take_more es i e h, ← at, map-append, ← a.done, same) refl;
-      rest = a.rest ∙ rw (add-one, drop-cons es i e, ← at, k.faultless) refl;
-    }
 
 pub bind_stop : (s : DataType) (es : List Expr) (i : ℕ) (e : Expr) (g : BindFault) (bs : List Bound) → i < length es → e ≡ get_or es i e → Err g ≡ bound_unless (nodes_fault s e) s e → AreBound s es i bs
     → first_fault s es ≡ Some g

@@ -1,16 +1,13 @@
 -- Fields that are chosen by their names, and those that are left.
 use Rattle.std.proofs.Common.{◌≡◌, ℕ, ◌+◌, ◌<◌, ◌≤◌, zero, suc, Bool, true, false, cond, not, max, List, [], ◌∷◌, ◌++◌, length, get_or, drop, map, zip, Some, None, slice_get, bytes_eq, refl, ap, sym, ◌∙◌, add-one, arith}
 use Rattle.std.specs.List.{filter}
-use Rattle.std.proofs.Common.{append_assoc, length-append, length-drop}
+use Rattle.std.proofs.Common.{append_assoc, length-append}
 use Rattle.std.proofs.lemmas.List.{append-nil}
 use Rattle.std.proofs.Math.ListN.{drop_of_length-le}
 use Rattle.scan_values.specs.DataType.{DataType, Name, Fields, no_fields, field, fields_of, depth_of, fields_depth, bool_type, int_type, utf8_type, list_type, struct_type}
 use Rattle.scan_values.specs.FieldLists.{names_of, dtypes_of, dtype_named}
 use Rattle.scan_values.specs.NameFaults.{has_name}
-use Rattle.scan_values.specs.Val.{Val, null_val, vals_of, marked, marked_all}
-use Rattle.scan_values.specs.Marked.{more}
 use Rattle.scan_expr.specs.Infer.{struct_fields, field_type, type_or_bool, chosen, without}
-use Rattle.scan_expr.specs.Eval.{leave}
 
 -- ---- chosen fields
 pub chosen-zip : (ns : List Name) (fs : Fields) → fields_of (zip ns (map (λ n. field_type n fs) ns)) ≡ chosen ns fs
@@ -57,69 +54,10 @@ without-filter ns (f ∷ fs) = first (has_name f.0 ns) (without-filter ns fs)
     first true h = h
     first false h = ap (field f.0 f.1) h
 
--- the values of the fields that are left
-abbrev pub left_vals : List Name → List (Name × DataType) → List Val → List Val
-left_vals ns [] vs = []
-left_vals ns (f ∷ fs) [] = []
-left_vals ns (f ∷ fs) (v ∷ vs) = cond (has_name f.0 ns) (left_vals ns fs vs) (v ∷ left_vals ns fs vs)
-
-pub leave-left : (ns : List Name) (fs : List (Name × DataType)) (vs : List Val) → leave ns (fields_of fs) (marked_all (vals_of vs)) ≡ marked_all (vals_of (left_vals ns fs vs))
-leave-left ns [] vs = refl
-leave-left ns (f ∷ fs) [] = refl
-leave-left ns (f ∷ fs) (v ∷ vs) = first (has_name f.0 ns) (leave-left ns fs vs)
-  where
-    first : (b : Bool) → leave ns (fields_of fs) (marked_all (vals_of vs)) ≡ marked_all (vals_of (left_vals ns fs vs))
-        → cond b (leave ns (fields_of fs) (marked_all (vals_of vs))) (more (marked v) (leave ns (fields_of fs) (marked_all (vals_of vs)))) ≡ marked_all (vals_of (cond b (left_vals ns fs vs) (v ∷ left_vals ns fs vs)))
-    first true h = h
-    first false h = ap (more (marked v)) h
-
 -- ---- one field further
 length-names_of : (fs : List (Name × DataType)) → length (names_of fs) ≡ length fs
 length-names_of [] = refl
 length-names_of (f ∷ fs) = ap suc (length-names_of fs)
-
-left_kept : (ns : List Name) (fs : List (Name × DataType)) (vs : List Val) (i : ℕ) (n : Name) → i < length (names_of fs) → i < length vs → n ≡ get_or (names_of fs) i n → has_name n ns ≡ false
-    → left_vals ns (drop i fs) (drop i vs) ≡ get_or vs i null_val ∷ left_vals ns (drop (suc i) fs) (drop (suc i) vs)
-left_kept ns [] vs i n h l at out = absurd (omega arith)
-left_kept ns (f ∷ fs) [] i n h l at out = absurd (omega arith)
-left_kept ns (f ∷ fs) (v ∷ vs) zero n h l at out = let none : has_name f.0 ns ≡ false = cc in rw none refl
-left_kept ns (f ∷ fs) (v ∷ vs) (suc i) n h l at out = left_kept ns fs vs i n (omega arith) (omega arith) at out
-
-no_vals_left : (ns : List Name) (fs : List (Name × DataType)) (vs : List Val) → length vs ≤ 0 → left_vals ns fs vs ≡ []
-no_vals_left ns [] vs h = refl
-no_vals_left ns (f ∷ fs) [] h = refl
-no_vals_left ns (f ∷ fs) (v ∷ vs) h = absurd (omega arith)
-
-left_out : (ns : List Name) (fs : List (Name × DataType)) (vs : List Val) (i : ℕ) (n : Name) → i < length (names_of fs) → n ≡ get_or (names_of fs) i n → has_name n ns ≡ true
-    → left_vals ns (drop i fs) (drop i vs) ≡ left_vals ns (drop (suc i) fs) (drop (suc i) vs)
-left_out ns [] vs i n h at has = absurd (omega arith)
-left_out ns (f ∷ fs) [] i n h at has =
-    no_vals_left ns (drop i (f ∷ fs)) (drop i []) (omega (arith, length-drop {A = Val} i [])) ∙ sym (no_vals_left ns (drop (suc i) (f ∷ fs)) (drop (suc i) []) (omega (arith, length-drop {A = Val} (suc i) [])))
-left_out ns (f ∷ fs) (v ∷ vs) zero n h at has = let one : has_name f.0 ns ≡ true = cc in rw one refl
-left_out ns (f ∷ fs) (v ∷ vs) (suc i) n h at has = left_out ns fs vs i n (omega arith) at has
-
-pub left_step_kept : (ns : List Name) (fs : List (Name × DataType)) (vs : List Val) (i : ℕ) (n : Name) (done : List Val) → left_vals ns fs vs ≡ done ++ left_vals ns (drop i fs) (drop i vs)
-    → i < length (names_of fs) → i < length vs → n ≡ get_or (names_of fs) i n → has_name n ns ≡ false
-    → left_vals ns fs vs ≡ (done ++ get_or vs i null_val ∷ []) ++ left_vals ns (drop (i + 1) fs) (drop (i + 1) vs)
-left_step_kept ns fs vs i n done inv h l at out =
-    inv ∙ rw (add-one, left_kept ns fs vs i n h l at out) (sym (append_assoc done (get_or vs i null_val ∷ []) (left_vals ns (drop (suc i) fs) (drop (suc i) vs))))
-
-pub left_step_out : (ns : List Name) (fs : List (Name × DataType)) (vs : List Val) (i : ℕ) (n : Name) (done : List Val) → left_vals ns fs vs ≡ done ++ left_vals ns (drop i fs) (drop i vs)
-    → i < length (names_of fs) → n ≡ get_or (names_of fs) i n → has_name n ns ≡ true
-    → left_vals ns fs vs ≡ done ++ left_vals ns (drop (i + 1) fs) (drop (i + 1) vs)
-left_step_out ns fs vs i n done inv h at has = inv ∙ rw (add-one, left_out ns fs vs i n h at has) refl
-
-pub left_step_past : (ns : List Name) (fs : List (Name × DataType)) (vs : List Val) (i : ℕ) (done : List Val) → left_vals ns fs vs ≡ done ++ left_vals ns (drop i fs) (drop i vs) → length vs ≤ i
-    → left_vals ns fs vs ≡ done ++ left_vals ns (drop (i + 1) fs) (drop (i + 1) vs)
-left_step_past ns fs vs i done inv h =
-    inv ∙ rw (no_vals_left ns (drop i fs) (drop i vs) (omega (arith, length-drop i vs)), no_vals_left ns (drop (i + 1) fs) (drop (i + 1) vs) (omega (arith, length-drop (i + 1) vs))) refl
-
-pub left_end : (ns : List Name) (fs : List (Name × DataType)) (vs : List Val) (i : ℕ) (done : List Val) → left_vals ns fs vs ≡ done ++ left_vals ns (drop i fs) (drop i vs) → length (names_of fs) ≤ i
-    → marked_all (vals_of done) ≡ leave ns (fields_of fs) (marked_all (vals_of vs))
-left_end ns fs vs i done inv h =
-    let none : drop i fs ≡ [] = drop_of_length-le fs (omega (arith, length-names_of fs)) in
-    let all : left_vals ns fs vs ≡ done = inv ∙ rw none (append-nil done) in
-    sym (leave-left ns fs vs ∙ ap (λ xs. marked_all (vals_of xs)) all)
 
 -- ---- the dtypes of the fields that are left
 filter_kept : (ns : List Name) (fs : List (Name × DataType)) (i : ℕ) (n : Name) (d : DataType) → n ≡ get_or (names_of fs) i n → Some d ≡ slice_get (dtypes_of fs) i → has_name n ns ≡ false

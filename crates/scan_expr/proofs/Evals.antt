@@ -2,15 +2,15 @@
 use Rattle.std.proofs.Common.{◌≡◌, ℕ, Bool, false, ◌||◌, List, [], ◌∷◌, map, refl, ap, ◌∙◌}
 use Rattle.std.specs.List.{All, AllByRecursion}
 use Rattle.std.proofs.lemmas.List.Elements.{recursion_from_All}
-use Rattle.scan_values.specs.DataType.{DataType, Name, Fields}
+use Rattle.scan_values.specs.DataType.{DataType, Name}
 use Rattle.scan_values.specs.declared.ptype.Nullability.{Nullability}
-use Rattle.scan_values.specs.Marked.{Marked, struct, Markeds, more, chained}
+use Rattle.scan_values.specs.Marked.{Marked, struct, more, chained}
 use Rattle.scan_values.specs.Val.{vals_of, marked, marked_all}
 use Rattle.scan_values.specs.Values.{val_of}
 use Rattle.scan_values.specs.declared.value.Value.{Value}
 use Rattle.scan_expr.specs.Bound.{Bound, exprs_of}
 use Rattle.scan_expr.specs.Expr.{Expr, pack, parts_of}
-use Rattle.scan_expr.specs.Eval.{eval, eval_all, pick, pick_all}
+use Rattle.scan_expr.specs.Eval.{eval, eval_all}
 use Rattle.scan_expr.specs.Overflow.{overflows, any_overflows, overflows_on}
 
 abbrev pub mark : Value → Marked
@@ -23,10 +23,6 @@ marks (v ∷ vs) = ap (more (mark v)) (marks vs)
 pub marks-map : (vs : List Value) → map marked (map val_of vs) ≡ map mark vs
 marks-map [] = refl
 marks-map (v ∷ vs) = ap (λ ms. mark v ∷ ms) (marks-map vs)
-
-pub chained-pick : (ns : List Name) (fs : Fields) (ms : Markeds) → chained (map (λ n. pick n fs ms) ns) ≡ pick_all ns fs ms
-chained-pick [] fs ms = refl
-chained-pick (n ∷ ns) fs ms = ap (more (pick n fs ms)) (chained-pick ns fs ms)
 
 eval_all-parts_of : (s : DataType) (ns : List Name) (es : List Expr) (v : Marked) (i : ℕ) → chained (map (λ e. eval s e v i) es) ≡ eval_all s (parts_of ns es) v i
 eval_all-parts_of s ns [] v i = refl

@@ -13,3 +13,4 @@ pub mod Binds
 pub mod Sames
 pub mod Feeding
 pub mod Placing
+pub mod ExpressionsSent

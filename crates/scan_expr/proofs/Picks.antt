@@ -1,11 +1,10 @@
 -- The field of a name, by its place.
-use Rattle.std.proofs.Common.{◌≡◌, ℕ, ◌+◌, ◌<◌, ◌≤◌, zero, suc, List, [], ◌∷◌, length, get_or, map, Some, None, Bool, true, false, cond, not, bytes_eq, refl, sym, ap, arith}
-use Rattle.std.specs.List.{position, position_or_len}
+use Rattle.std.proofs.Common.{◌≡◌, ℕ, ◌<◌, zero, suc, List, [], ◌∷◌, length, get_or, map, Some, true, false, bytes_eq, refl, sym, ap, arith}
+use Rattle.std.specs.List.{position}
 use Rattle.std.proofs.lemmas.List.Quantifiers.{position-Some}
-use Rattle.std.proofs.lemmas.Bool.Decides.{nat_tests}
 use Rattle.scan_values.specs.DataType.{DataType, Name, fields_of}
 use Rattle.scan_values.specs.FieldLists.{names_of}
-use Rattle.scan_values.specs.Marked.{null, Markeds, none, more, listed}
+use Rattle.scan_values.specs.Marked.{listed}
 use Rattle.scan_values.specs.Val.{Val, null_val, vals_of, marked, marked_all}
 use Rattle.scan_values.specs.Values.{val_of}
 use Rattle.scan_values.specs.declared.value.Value.{Value}
@@ -38,32 +37,8 @@ at n (f ∷ fs) [] i a l = absurd (omega arith)
 at n (f ∷ fs) (w ∷ vs) zero a l = rw (a.same) refl
 at n (f ∷ fs) (w ∷ vs) (suc i) a l = rw (a.before 0 (omega arith)) (at n fs vs i (below n f fs i a) (omega arith))
 
-past : (n : Name) (fs : List (Name × DataType)) (vs : List Val) (i : ℕ) → IsAt n fs i → length vs ≤ i → pick n (fields_of fs) (marked_all (vals_of vs)) ≡ null
-past n [] vs i a l = refl
-past n (f ∷ fs) [] i a l = refl
-past n (f ∷ fs) (w ∷ vs) zero a l = absurd (omega arith)
-past n (f ∷ fs) (w ∷ vs) (suc i) a l = rw (a.before 0 (omega arith)) (past n fs vs i (below n f fs i a) (omega arith))
-
-no_name : (n : Name) (fs : List (Name × DataType)) (ms : Markeds) → length (names_of fs) ≤ position_or_len (bytes_eq n) (names_of fs) → pick n (fields_of fs) ms ≡ null
-no_name n [] ms h = refl
-no_name n (f ∷ fs) none h = refl
-no_name n (f ∷ fs) (more m ms) h = first (bytes_eq n f.0) h (no_name n fs ms)
-  where
-    first : (b : Bool) → suc (length (names_of fs)) ≤ cond (not b) (1 + position_or_len (bytes_eq n) (names_of fs)) 0 → (length (names_of fs) ≤ position_or_len (bytes_eq n) (names_of fs) → pick n (fields_of fs) ms ≡ null) → cond b m (pick n (fields_of fs) ms) ≡ null
-    first true h rest = absurd (omega arith)
-    first false h rest = rest (omega arith)
-
-no_place : (p : Name → Bool) (ns : List Name) → position p ns ≡ None → length ns ≤ position_or_len p ns
-no_place p ns h = grind (arith, nat_tests)
-
 pub pick_at : (n : Name) (fs : List (Name × DataType)) (vs : List Val) (i : ℕ) → Some i ≡ position (bytes_eq n) (names_of fs) → i < length vs → pick n (fields_of fs) (marked_all (vals_of vs)) ≡ marked (get_or vs i null_val)
 pick_at n fs vs i h l = at n fs vs i (is_at n fs i (sym h)) l
-
-pub pick_past : (n : Name) (fs : List (Name × DataType)) (vs : List Val) (i : ℕ) → Some i ≡ position (bytes_eq n) (names_of fs) → length vs ≤ i → pick n (fields_of fs) (marked_all (vals_of vs)) ≡ null
-pick_past n fs vs i h l = past n fs vs i (is_at n fs i (sym h)) l
-
-pub pick_none : (n : Name) (fs : List (Name × DataType)) (ms : Markeds) → None ≡ position (bytes_eq n) (names_of fs) → pick n (fields_of fs) ms ≡ null
-pick_none n fs ms h = no_name n fs ms (no_place (bytes_eq n) (names_of fs) (sym h))
 
 -- what stands at a place is the value there
 pub val_at : (vs : List Value) (i : ℕ) (v : Value) → i < length vs → v ≡ get_or vs i v → val_of v ≡ get_or (map val_of vs) i null_val

@@ -1,15 +1,18 @@
 -- Fields by their places.
-use Rattle.std.proofs.Common.{◌≡◌, ℕ, ◌+◌, ◌-◌, ◌<◌, ◌≤◌, zero, suc, Bool, true, false, cond, not, ◌||◌, nat_lt, List, [], ◌∷◌, ◌++◌, append_assoc, length, get_or, take, drop, map, Option, Some, None, slice_get, bytes_eq, refl, sym, ap, subst, ◌∙◌, arith}
+use Rattle.std.proofs.Common.{◌≡◌, ℕ, ◌+◌, ◌<◌, ◌≤◌, zero, suc, Bool, true, false, cond, not, ◌||◌, ◌&&◌, nat_lt, List, [], ◌∷◌, ◌++◌, append_assoc, length, get_or, take, drop, map, Option, Some, None, slice_get, bytes_eq, Bor, refl, sym, ap, subst, ◌∙◌, arith}
 use Rattle.std.specs.Prelude.{is_some}
+use Rattle.std.specs.Ordering.{nat_cmp}
+use Rattle.std.specs.Cmp.Lexicographic.{slice_cmp}
+use Rattle.std.specs.BTreeSet.{BTreeSet, contains_by, UpdatesBy}
+use Rattle.std.proofs.lemmas.Map.Text.{is_eq-slice_cmp}
 use Rattle.std.proofs.Math.Numerals.{add-one, one-add}
 use Rattle.std.proofs.Math.Seq.{drop-cons}
-use Rattle.std.proofs.lemmas.List.{take_more}
-use Rattle.std.specs.List.{position, position_from, position_or_len}
+use Rattle.std.proofs.lemmas.List.{take_more, map-append}
+use Rattle.std.specs.List.{position, position_or_len}
 use Rattle.std.proofs.lemmas.Bool.Decides.{nat_tests}
-use Rattle.std.proofs.lemmas.List.Elements.{recursion_from_All}
 use Rattle.scan_values.specs.Same.{bytes_eq-equivalence}
-use Rattle.scan_values.specs.DataType.{DataType, Name, Fields, no_fields, field, fields_of}
-use Rattle.scan_values.specs.FieldLists.{names_of, dtype_named}
+use Rattle.scan_values.specs.DataType.{DataType, Name, Fields, no_fields, field, fields_of, nullability_of}
+use Rattle.scan_values.specs.FieldLists.{names_of, dtypes_of, dtype_named}
 use Rattle.scan_values.specs.Kinds.{struct_fields_of}
 use Rattle.scan_values.specs.NameFaults.{has_name, field_names}
 use Rattle.scan_values.specs.Marked.{Marked, lost, null, gone, boolean, integer, text, list, struct, Markeds, none, more, listed, chained}
@@ -19,13 +22,12 @@ use Rattle.scan_values.specs.declared.value.Value.{Value}
 use Rattle.scan_expr.specs.declared.op.Unary as ops
 use Rattle.scan_expr.specs.declared.op.Unary.TheVariants.{GetItem, Select, Exclude, Not, IsNull, IsNotNull, ListLength}
 use Rattle.scan_expr.specs.declared.bound.Op.{Op}
-use Rattle.scan_expr.specs.declared.bound.Op.TheVariants.{Unary}
 use Rattle.scan_expr.specs.Bound.{Bound}
-use Rattle.scan_expr.specs.Infer.{infer, struct_fields, fields_or_none}
-use Rattle.scan_expr.specs.Typing.{in_struct, choice_fault, has_field, have_fields, unary_fault, typing_fault, unless, repeats}
+use Rattle.scan_expr.specs.Infer.{struct_fields, fields_or_none, type_or_bool, field_type, raised, unary_type}
+use Rattle.scan_expr.specs.Typing.{in_struct, choice_fault, has_field, have_fields, unary_fault, unless, repeats}
 use Rattle.scan_expr.specs.declared.op.BindFault.TheVariants.{NoField, RepeatedName}
 use Rattle.scan_expr.specs.Eval.{pick, pick_all, leave, of_struct, unary_value}
-use Rattle.scan_expr.specs.Ops.{IsBound, node_places}
+use Rattle.scan_expr.specs.Ops.{node_places}
 use Rattle.scan_expr.specs.Places.{place_of, left_places, unary_places, nth, all_at, there_at}
 use Rattle.scan_expr.proofs.Evals.{mark}
 use Rattle.scan_expr.proofs.Fitting.{and_left, and_right}
@@ -69,30 +71,6 @@ length-names_of (f ∷ fs) = ap suc (length-names_of fs)
 pub lost_place : (n : Name) (fs : List (Name × DataType)) → None ≡ position (bytes_eq n) (names_of fs) → length fs ≡ place_of (fields_of fs) n
 lost_place n fs h = rw (names-fields fs) (omega (arith, within (bytes_eq n) (names_of fs), no_place (bytes_eq n) (names_of fs) h, length-names_of fs))
 
--- the test lifted from the first place on
-from : (t : Name → Bool) (i : ℕ) (ns : List Name) → position_from t i ns ≡ cond (nat_lt (position_or_len t ns) (length ns)) (Some (i + position_or_len t ns)) None
-from t i [] = refl
-from t i (n ∷ ns) = first (t n) (from t (i + 1) ns)
-  where
-    p : ℕ
-    p = position_or_len t ns
-
-    less : nat_lt (1 + p) (suc (length ns)) ≡ nat_lt p (length ns)
-    less = grind (arith, nat_tests)
-
-    sum : i + 1 + p ≡ i + (1 + p)
-    sum = omega arith
-
-    here : nat_lt 0 (suc (length ns)) ≡ true
-    here = grind (arith, nat_tests)
-
-    first : (b : Bool) → position_from t (i + 1) ns ≡ cond (nat_lt p (length ns)) (Some (i + 1 + p)) None → cond b (Some i) (position_from t (i + 1) ns) ≡ cond (nat_lt (cond (not b) (1 + p) 0) (suc (length ns))) (Some (i + cond (not b) (1 + p) 0)) None
-    first true h = rw here (ap Some (let e : i ≡ i + 0 = omega arith in e))
-    first false h = h ∙ rw (less, sum) refl
-
-pub from_first : (t : Name → Bool) (ns : List Name) → position_from t 0 ns ≡ position t ns
-from_first t ns = from t 0 ns ∙ rw (let e : 0 + position_or_len t ns ≡ position_or_len t ns = omega arith in e) refl
-
 has_name-push : (n m : Name) (ns : List Name) → has_name n (ns ++ m ∷ []) ≡ (has_name n ns || bytes_eq n m)
 has_name-push n m [] = or_false (bytes_eq n m)
 has_name-push n m (k ∷ ks) = ap (λ b. bytes_eq n k || b) (has_name-push n m ks) ∙ or_assoc (bytes_eq n k) (has_name n ks) (bytes_eq n m)
@@ -109,19 +87,6 @@ cond_or false false = refl
 pub same_bytes : (a b : Name) → bytes_eq a b ≡ bytes_eq b a
 same_bytes a b = bytes_eq-equivalence.symm a b
 
--- one more name before those that have their places
-pub index_turn : (ns : List Name) (k i : ℕ) (m : Name) (old new : Name → Option ℕ) → k < length ns → i ≡ length ns - 1 - k → m ≡ get_or ns i m
-    → ((n : Name) → old n ≡ position_from (bytes_eq n) (length ns - k) (drop (length ns - k) ns)) → ((n : Name) → new n ≡ cond (bytes_eq m n) (Some i) (old n))
-    → (n : Name) → new n ≡ position_from (bytes_eq n) (length ns - (k + 1)) (drop (length ns - (k + 1)) ns)
-index_turn ns k i m old new h e at was is n =
-    let a : length ns - (k + 1) ≡ i = omega (arith, e) in
-    let b : length ns - k ≡ i + 1 = omega (arith, e) in
-    let l : i < length ns = omega (arith, e) in
-    is n ∙ rw (a, was n, b, same_bytes m n) (sym (rw (drop-cons ns i m, ← at) (ap (λ j. cond (bytes_eq n m) (Some i) (position_from (bytes_eq n) (i + 1) (drop j ns))) (sym (add-one i)))))
-
-pub index_all : (ns : List Name) (k : ℕ) (n : Name) → length ns ≤ k → position_from (bytes_eq n) (length ns - k) (drop (length ns - k) ns) ≡ position (bytes_eq n) ns
-index_all ns k n h = let e : length ns - k ≡ 0 = omega (arith, h) in rw e (from_first (bytes_eq n) ns)
-
 -- the places of the fields that are left, one name further
 pub left_on : (ns ms : List Name) (i : ℕ) (m : Name) (done all : List ℕ) → i < length ms → m ≡ get_or ms i m → has_name m ns ≡ false
     → done ++ left_places ns i (drop i ms) ≡ all → (done ++ i ∷ []) ++ left_places ns (i + 1) (drop (i + 1) ms) ≡ all
@@ -133,6 +98,100 @@ pub left_over : (ns ms : List Name) (i : ℕ) (m : Name) (done all : List ℕ) �
     → done ++ left_places ns i (drop i ms) ≡ all → done ++ left_places ns (i + 1) (drop (i + 1) ms) ≡ all
 left_over ns ms i m done all h at has inv =
     ap (λ xs. done ++ xs) (sym (rw (drop-cons ms i m, ← at, has) (ap (λ j. left_places ns j (drop j ms)) (sym (add-one i))))) ∙ inv
+
+-- ---- names in a set of texts
+abbrev pub is_seen : BTreeSet (Bor (List ℕ)) → Name → Bool
+is_seen seen n = contains_by (λ k. slice_cmp nat_cmp n k.now) seen
+
+pub none_seen : (seen : BTreeSet (Bor (List ℕ))) (n : Name) → seen.keys ≡ [] → is_seen seen n ≡ false
+none_seen seen n h = rw h refl
+
+pub one_more_seen : (q : Bor (List ℕ)) (old new : BTreeSet (Bor (List ℕ))) → UpdatesBy (λ x y. slice_cmp nat_cmp x.now y.now) (λ k. slice_cmp nat_cmp q.now k.now) old new true
+    → (n : Name) → is_seen new n ≡ (is_seen old n || bytes_eq q.now n)
+one_more_seen q old new h n =
+    h.0 (record { ref_ptr = q.ref_ptr; now = n }) ∙ rw (is_eq-slice_cmp q.now n) (cond_or (bytes_eq q.now n) (is_seen old n))
+
+-- the names so far, one further
+pub seen_turn : (ns : List Name) (i : ℕ) (q : Bor (List ℕ)) (m : Name) (old new : BTreeSet (Bor (List ℕ))) → i < length ns → m ≡ get_or ns i m → q.now ≡ m
+    → UpdatesBy (λ x y. slice_cmp nat_cmp x.now y.now) (λ k. slice_cmp nat_cmp q.now k.now) old new true
+    → ((n : Name) → is_seen old n ≡ has_name n (take i ns)) → (n : Name) → is_seen new n ≡ has_name n (take (i + 1) ns)
+seen_turn ns i q m old new h at is u was n =
+    one_more_seen q old new u n ∙ sym (has_name-more n ns i m h ∙ rw (← at, same_bytes n m, ← was n, ← is) refl)
+
+-- ---- fields by their places
+pub dtype_named-at : (n : Name) (fs : List (Name × DataType)) → slice_get (dtypes_of fs) (place_of (fields_of fs) n) ≡ dtype_named n (fields_of fs)
+dtype_named-at n [] = refl
+dtype_named-at n (f ∷ fs) = first (bytes_eq n f.0) (dtype_named-at n fs)
+  where
+    first : (b : Bool) → slice_get (dtypes_of fs) (place_of (fields_of fs) n) ≡ dtype_named n (fields_of fs)
+        → slice_get (f.1 ∷ dtypes_of fs) (cond (not b) (1 + place_of (fields_of fs) n) 0) ≡ cond b (Some f.1) (dtype_named n (fields_of fs))
+    first true h = refl
+    first false h = ap (slice_get (f.1 ∷ dtypes_of fs)) (one-add (place_of (fields_of fs) n)) ∙ h
+
+-- the dtype of the field at a place
+abbrev pub type_at : List (Name × DataType) → ℕ → DataType
+type_at fs p = type_or_bool (slice_get (dtypes_of fs) p)
+
+pub field_type-at : (n : Name) (fs : List (Name × DataType)) → type_at fs (place_of (fields_of fs) n) ≡ field_type n (fields_of fs)
+field_type-at n fs = ap type_or_bool (dtype_named-at n fs)
+
+pub types_at : (ns : List Name) (fs : List (Name × DataType)) → map (type_at fs) (map (place_of (fields_of fs)) ns) ≡ map (λ n. field_type n (fields_of fs)) ns
+types_at [] fs = refl
+types_at (n ∷ ns) fs = λ i. field_type-at n fs i ∷ types_at ns fs i
+
+has_place : (n : Name) (fs : Fields) → has_field n fs ≡ nat_lt (place_of fs n) (length (field_names fs))
+has_place n no_fields = refl
+has_place n (field m d fs) = first (bytes_eq n m) (has_place n fs)
+  where
+    p : ℕ
+    p = place_of fs n
+
+    less : nat_lt (1 + p) (suc (length (field_names fs))) ≡ nat_lt p (length (field_names fs))
+    less = grind (arith, nat_tests)
+
+    here : nat_lt 0 (suc (length (field_names fs))) ≡ true
+    here = grind (arith, nat_tests)
+
+    first : (b : Bool) → has_field n fs ≡ nat_lt p (length (field_names fs)) → is_some (cond b (Some d) (dtype_named n fs)) ≡ nat_lt (cond (not b) (1 + p) 0) (suc (length (field_names fs)))
+    first true h = sym here
+    first false h = h ∙ sym less
+
+some_where : (b : Bool) (p : ℕ) → is_some (cond b (Some p) None) ≡ b
+some_where true p = refl
+some_where false p = refl
+
+has_named : (n : Name) (fs : Fields) → has_field n fs ≡ is_some (position (bytes_eq n) (field_names fs))
+has_named n fs = has_place n fs ∙ sym (some_where (nat_lt (place_of fs n) (length (field_names fs))) (place_of fs n))
+
+pub has_field-found : (n : Name) (fs : List (Name × DataType)) → has_field n (fields_of fs) ≡ is_some (position (bytes_eq n) (names_of fs))
+has_field-found n fs = has_named n (fields_of fs) ∙ ap (λ ns. is_some (position (bytes_eq n) ns)) (names-fields fs)
+
+-- the place of a field that is there
+pub first_place : (n : Name) (fs : Fields) (i : ℕ) → Some i ≡ position (bytes_eq n) (field_names fs) → i ≡ place_of fs n
+first_place n fs i h = some_of (nat_lt (place_of fs n) (length (field_names fs))) i (place_of fs n) h
+
+pub item_faultless : (n : Name) (d : DataType) (i : ℕ) → Some i ≡ position (bytes_eq n) (field_names (struct_fields d)) → unary_fault (GetItem n) d ≡ None
+item_faultless n d i h = in_fields (struct_fields_of d) h
+  where
+    in_fields : (o : Option Fields) → Some i ≡ position (bytes_eq n) (field_names (fields_or_none o)) → in_struct o (λ fs. unless (has_field n fs) NoField) ≡ None
+    in_fields None g = cc
+    in_fields (Some fs) g = let yes : has_field n fs ≡ true = has_named n fs ∙ ap is_some (sym g) in rw yes refl
+
+-- one name further
+pub have_turn : (ns : List Name) (i : ℕ) (n : Name) (fs : List (Name × DataType)) (o : Option ℕ) → i < length ns → n ≡ get_or ns i n → o ≡ position (bytes_eq n) (names_of fs)
+    → have_fields (drop i ns) (fields_of fs) ≡ (is_some o && have_fields (drop (i + 1) ns) (fields_of fs))
+have_turn ns i n fs o h at is = rw (add-one, drop-cons ns i n, ← at, has_field-found n fs, is) refl
+
+pub place_turn : (ns : List Name) (i : ℕ) (n : Name) (fs : List (Name × DataType)) (p : ℕ) (ps : List ℕ) → i < length ns → n ≡ get_or ns i n → Some p ≡ position (bytes_eq n) (names_of fs)
+    → ps ≡ map (place_of (fields_of fs)) (take i ns) → ps ++ p ∷ [] ≡ map (place_of (fields_of fs)) (take (i + 1) ns)
+place_turn ns i n fs p ps h at is was = rw (take_more ns i n h, ← at, map-append, ← was, ← found_place n fs p is) refl
+
+-- the dtype of a field access
+pub item_type : (u : ops.Unary) (n : Name) (d : DataType) (fs : List (Name × DataType)) (ps : List ℕ) → u ≡ GetItem n → fields_of fs ≡ struct_fields d → ps ≡ unary_places u (struct_fields d)
+    → raised (nullability_of d) (type_at fs (get_or ps 0 0)) ≡ unary_type u d
+item_type u n d fs ps o same at =
+    let there : ps ≡ place_of (fields_of fs) n ∷ [] = at ∙ ap (λ w. unary_places w (struct_fields d)) o ∙ ap (λ gs. place_of gs n ∷ []) (sym same) in
+    ap (λ qs. raised (nullability_of d) (type_at fs (get_or qs 0 0))) there ∙ ap (raised (nullability_of d)) (field_type-at n fs ∙ ap (field_type n) same) ∙ sym (ap (λ w. unary_type w d) o)
 
 -- ---- values by places
 pub pick-nth : (n : Name) (fs : Fields) (ms : Markeds) → has_field n fs ≡ true → pick n fs ms ≡ nth ms (place_of fs n)
@@ -181,16 +240,6 @@ leave-there ns (field m d fs) (more v vs) = first (has_name m ns) (leave-there n
     first false h = rw (zero_less (length (listed vs))) (ap (more v) h)
 
 -- ---- a list of values
-pub nth-some : (vs : List Value) (i : ℕ) (v : Value) → Some v ≡ slice_get vs i → nth (marked_all (vals_of (map val_of vs))) i ≡ mark v
-nth-some [] i v h = cc
-nth-some (w ∷ vs) zero v h = let e : v ≡ w = cc in ap mark (sym e)
-nth-some (w ∷ vs) (suc i) v h = nth-some vs i v h
-
-pub nth-none : (vs : List Value) (i : ℕ) → None ≡ slice_get vs i → nth (marked_all (vals_of (map val_of vs))) i ≡ null
-nth-none [] i h = refl
-nth-none (w ∷ vs) zero h = cc
-nth-none (w ∷ vs) (suc i) h = nth-none vs i h
-
 pub nth-at : (vs : List Value) (i : ℕ) (v : Value) → i < length vs → v ≡ get_or vs i v → nth (marked_all (vals_of (map val_of vs))) i ≡ mark v
 nth-at [] i v l e = absurd (omega arith)
 nth-at (w ∷ vs) zero v l e = ap mark (sym e)
@@ -270,19 +319,6 @@ no_places ListLength d h e = refl
 pub pack_places : (bs : List Bound) (op : Op) (k : List ℕ) → k ≡ [] → ((b : Bound) (cs : List Bound) → node_places (b ∷ cs) op ≡ []) → k ≡ node_places bs op
 pack_places [] op k e h = e
 pack_places (b ∷ bs) op k e h = e ∙ sym (h b bs)
-
-first_child : (u : ops.Unary) (bs : List Bound) (s d : DataType) (ps : List ℕ) (b : Bound) → IsBound (Unary u) bs s d ps → b ≡ get_or bs 0 b
-    → (unary_fault u (infer b.scope b.expr) ≡ None) × (ps ≡ unary_places u (struct_fields (infer b.scope b.expr)))
-first_child u [] s d ps b k e = let a = k.arity in absurd (omega (arith, a))
-first_child u (c ∷ d2 ∷ bs) s d ps b k e = let a = k.arity in absurd (omega (arith, a))
-first_child u (c ∷ []) s d ps b k e =
-    let scope : c.scope ≡ s = (recursion_from_All (λ (b : Bound). b.scope ≡ s) (c ∷ []) k.scopes).0 in
-    let fault : unary_fault u (infer s c.expr) ≡ None = (no_fault (typing_fault s c.expr) (unary_fault u (infer s c.expr)) k.faultless).1 in
-    rw e (rw scope fault, k.placed)
-
-pub child_of : (op : Op) (u : ops.Unary) (bs : List Bound) (s d : DataType) (ps : List ℕ) (b : Bound) → op ≡ Unary u → IsBound op bs s d ps → b ≡ get_or bs 0 b
-    → (unary_fault u (infer b.scope b.expr) ≡ None) × (ps ≡ unary_places u (struct_fields (infer b.scope b.expr)))
-child_of op u bs s d ps b o k e = let P : Op → Type 0 = λ x. IsBound x bs s d ps in first_child u bs s d ps b (subst P o k) e
 
 -- ---- operators by places
 pub get_item_at : (n : Name) (d : DataType) → unary_fault (GetItem n) d ≡ None → has_field n (struct_fields d) ≡ true

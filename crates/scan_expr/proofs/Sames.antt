@@ -148,16 +148,6 @@ same-apply p q bs cs h g =
     same-split (apply_op p (exprs_of bs)) (apply_op q (exprs_of cs))
     ∙ rw (head-apply p bs h, head-apply q cs g, children-apply p bs h, children-apply q cs g, list-bounds bs cs) refl
 
-pub uneven_bounds : (bs cs : List Bound) → (length bs ≡ length cs → ⊥) → same_bounds bs cs ≡ false
-uneven_bounds [] [] h = absurd (h refl)
-uneven_bounds [] (c ∷ cs) h = refl
-uneven_bounds (b ∷ bs) [] h = refl
-uneven_bounds (b ∷ bs) (c ∷ cs) h = ap (λ a. same_expr b.expr c.expr && a) (uneven_bounds bs cs (λ e. h (ap suc e))) ∙ and_false (same_expr b.expr c.expr)
-  where
-    and_false : (a : Bool) → (a && false) ≡ false
-    and_false true = refl
-    and_false false = refl
-
 pub bounds_turn : (bs cs : List Bound) (i : ℕ) (b c : Bound) → i < length bs → i < length cs → b ≡ get_or bs i b → c ≡ get_or cs i c
     → same_bounds (drop i bs) (drop i cs) ≡ (same_expr b.expr c.expr && same_bounds (drop (i + 1) bs) (drop (i + 1) cs))
 bounds_turn bs cs i b c h g e f = rw (add-one, drop-cons bs i b, drop-cons cs i c, ← e, ← f) refl

@@ -173,9 +173,6 @@ mutual
   same_parts-self no_parts = refl
   same_parts-self (part n x ps) = rw ((bytes_eq-Decides n n).1 refl, same_expr-self x) (same_parts-self ps)
 
-pub same_expr-Decides : (x y : Expr) → Decides (same_expr x y) (x ≡ y)
-same_expr-Decides x y = (same_expr-is x y, λ p. let P : Expr → Type 0 = λ z. same_expr x z ≡ true in subst P p (same_expr-self x))
-
 -- ---- bound expressions
 abbrev pub same_bound : Bound → Bound → Bool
 same_bound a b = same_expr a.expr b.expr && same_type a.scope b.scope

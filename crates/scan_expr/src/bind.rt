@@ -9,7 +9,7 @@ ghost use Rattle.scan_expr.specs.Bound.{bound_of, bound_unless, exprs_of};
 
 use crate::bound::{BoundExpression, Op};
 use crate::op::{Binary, BindFault, Unary};
-use crate::typing::{binary_typed, fault_of, is_literal, shallow, unary_typed};
+use crate::typing::{binary_typed, fault_of, is_literal, places_typed, shallow, unary_type};
 use scan_values::{DType, Names, NoMemory, Nullability, StructFields, Value, names_fault};
 use std::alloc::Global;
 use std::sync::Arc;
@@ -48,9 +48,10 @@ pub(crate) fn bind_unary(
     ensures { let d = infer child.scope child.expr in let e = unary op.now child.expr in
         result ≢ Err BindFault.NoMemory → result ≡ bound_unless (or_fault (unary_fault op.now d) (depth_fault (infer child.scope e))) child.scope e }
 {
-    let dtype = shallow(unary_typed(alloc, op, child.dtype())?)?;
+    let places = places_typed(alloc, op, child.dtype())?;
+    let dtype = shallow(unary_type(alloc, op, child.dtype(), &places)?)?;
     let op = op.try_clone(alloc)?;
-    Ok(BoundExpression::over_one(alloc, op, child, dtype)?)
+    Ok(BoundExpression::over_one(alloc, op, child, dtype, places)?)
 }
 
 pub(crate) fn bind_binary(

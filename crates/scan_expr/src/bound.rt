@@ -2,10 +2,10 @@
 ghost use Rattle.std.specs.Prelude.{◌≡◌};
 
 use crate::bind::pack_fields;
-use crate::index::places_of;
+use crate::index::{one_place, places_of};
 use crate::op::{Binary, Unary};
 use crate::typing::{binary_type, struct_within, unary_type};
-use scan_values::{DType, Names, NoMemory, Nullability, PType, Value};
+use scan_values::{DType, FieldName, Names, NoMemory, Nullability, PType, Value};
 use std::alloc::Global;
 use std::marker::Model;
 use std::sync::Arc;
@@ -82,7 +82,8 @@ impl BoundExpression {
     ghost use Rattle.std.specs.Prelude.{IfOk, ◌≡◌, length, All, [], None};
     ghost use Rattle.scan_values.specs.Values.{val_of};
     ghost use Rattle.scan_expr.specs.Expr.{unary, binary, pack, parts_of};
-    ghost use Rattle.scan_expr.specs.Infer.{infer};
+    ghost use Rattle.scan_expr.specs.Infer.{infer, struct_fields};
+    ghost use Rattle.scan_expr.specs.Places.{unary_places};
     ghost use Rattle.scan_expr.specs.Typing.{typing_fault, unary_fault, binary_fault};
     ghost use Rattle.scan_expr.specs.Bound.{bound_of, exprs_of};
     ghost use Rattle.scan_expr.specs.Ops.{apply_op, HasArity};
@@ -112,12 +113,13 @@ impl BoundExpression {
         op: Unary,
         child: BoundExpression,
         dtype: DType,
+        places: Vec<usize>,
     ) -> Result<BoundExpression, NoMemory>
         requires typed { infer child.scope (unary op child.expr) ≡ dtype }
         requires faultless { unary_fault op (infer child.scope child.expr) ≡ None }
+        requires placed { places.items ≡ unary_places op (struct_fields (infer child.scope child.expr)) }
         ensures { IfOk result (λ b. b ≡ bound_of child.scope (unary op child.expr)) }
     {
-        let places = places_of(alloc, &op, child.dtype())?;
         let scope = child.scope.clone()?;
         let dtype = Arc::new(alloc, dtype)?;
         let mut children = Vec::with_capacity(alloc, 1)?;
@@ -300,12 +302,13 @@ impl BoundExpression {
 }
 
 impl BoundExpression {
-    ghost use Rattle.std.specs.Prelude.{IfOk, ◌≡◌, ◌≤◌, length, All, None};
+    ghost use Rattle.std.specs.Prelude.{IfOk, ◌≡◌, ◌≤◌, length, position, bytes_eq, All, Some, None};
     ghost use Rattle.scan_values.specs.Values.{val_of};
     ghost use Rattle.scan_values.specs.DataType.{depth_of};
+    ghost use Rattle.scan_values.specs.NameFaults.{field_names};
     ghost use Rattle.scan_expr.specs.Typing.{literal_fault, unary_fault, binary_fault};
     ghost use Rattle.scan_expr.specs.Expr.{root, row_index, literal, unary, binary, pack, parts_of};
-    ghost use Rattle.scan_expr.specs.Infer.{infer};
+    ghost use Rattle.scan_expr.specs.Infer.{infer, struct_fields};
     ghost use Rattle.scan_expr.specs.Bound.{bound_of, exprs_of};
 
     /// `$` over a new scope.
@@ -359,8 +362,27 @@ impl BoundExpression {
         requires { unary_fault op (infer child.scope child.expr) ≡ None }
         ensures { IfOk result (λ b. b ≡ bound_of child.scope (unary op child.expr)) }
     {
-        let dtype = unary_type(alloc, &op, child.dtype())?;
-        BoundExpression::over_one(alloc, op, child, dtype)
+        let places = places_of(alloc, &op, child.dtype())?;
+        let dtype = unary_type(alloc, &op, child.dtype(), &places)?;
+        BoundExpression::over_one(alloc, op, child, dtype, places)
+    }
+
+    /// `$.f`, where the first field of this name stands at this place. It is not looked up.
+    #[tactic(auto, using(crate::proofs::Placing::item_faultless))]
+    pub fn field_at(
+        alloc: Global,
+        scope: &Arc<DType>,
+        name: &FieldName,
+        place: usize,
+    ) -> Result<BoundExpression, NoMemory>
+        requires { Some place ≡ position (bytes_eq name.now) (field_names (struct_fields scope.now.value)) }
+        ensures { IfOk result (λ b. b ≡ bound_of scope.now.value (unary (Unary.GetItem name.now) root)) }
+    {
+        let op = Unary::GetItem(name.try_clone(alloc)?);
+        let places = one_place(alloc, place)?;
+        let dtype = unary_type(alloc, &op, scope, &places)?;
+        let root = BoundExpression::root(alloc, scope)?;
+        BoundExpression::over_one(alloc, op, root, dtype, places)
     }
 
     /// An operator on two expressions over one scope.

@@ -1,8 +1,9 @@
 // The constructors of expressions that take parts, after the crate's `vortex_array::expr`.
 use crate::expression::Expression;
 use crate::op::{Binary, Unary};
-use scan_values::{FieldName, Names, NoMemory};
+use scan_values::{DType, FieldName, Names, NoMemory, Nullability, PType, Text, Value};
 use std::alloc::Global;
+use std::string::String;
 
 impl Expression {
     ghost use Rattle.std.specs.Prelude.{◌≡◌, IfOk};
@@ -140,5 +141,46 @@ impl Expression {
         ensures { IfOk result (λ x. x ≡ binary Binary.CheckedSub a b) }
     {
         Expression::binary(alloc, Binary::CheckedSub, a, b)
+    }
+}
+
+/// Short forms of what requests are mostly made of.
+impl Expression {
+    ghost use Rattle.std.specs.Prelude.{◌≡◌, IfOk};
+    ghost use Rattle.scan_values.specs.DataType.{bool_type, int_type, utf8_type};
+    ghost use Rattle.scan_values.specs.Val.{bool_val, int_val, text_val};
+    ghost use Rattle.scan_expr.specs.Expr.{root, literal, unary};
+
+    /// The column of this name, `$.name`.
+    pub fn col(alloc: Global, name: &str) -> Result<Expression, NoMemory>
+        ensures { IfOk result (λ x. x ≡ unary (Unary.GetItem name.now) root) }
+    {
+        let name = FieldName::new(String::from_str(alloc, name)?);
+        Expression::get_item(alloc, name, Expression::root())
+    }
+
+    /// A literal of an integer type. One outside the type does not bind.
+    pub fn lit_int(p: PType, v: i128) -> Expression
+        ensures { result ≡ literal (int_type p Nullability.NonNullable) (int_val v) }
+    {
+        let dtype = DType::primitive(p, Nullability::NonNullable);
+        Expression::lit(dtype, Value::Int(v))
+    }
+
+    /// A literal truth value.
+    pub fn lit_bool(b: bool) -> Expression
+        ensures { result ≡ literal (bool_type Nullability.NonNullable) (bool_val b) }
+    {
+        let dtype = DType::bool(Nullability::NonNullable);
+        Expression::lit(dtype, Value::Bool(b))
+    }
+
+    /// A literal text.
+    pub fn lit_utf8(alloc: Global, text: &str) -> Result<Expression, NoMemory>
+        ensures { IfOk result (λ x. x ≡ literal (utf8_type Nullability.NonNullable) (text_val text.now)) }
+    {
+        let text = Text::new(String::from_str(alloc, text)?);
+        let dtype = DType::utf8(Nullability::NonNullable);
+        Ok(Expression::lit(dtype, Value::Text(text)))
     }
 }

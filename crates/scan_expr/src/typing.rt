@@ -1,18 +1,21 @@
 // The typing table: the dtype of a node, and its conditions.
-ghost use Rattle.std.specs.Prelude.{◌≡◌, ◌≢◌, ◌≤◌, Err, Some, IfOk, IfErr, [], true, false};
+ghost use Rattle.std.specs.Prelude.{◌≡◌, ◌≢◌, ◌≤◌, Err, Some, None, IfOk, IfErr, [], ◌∷◌, true, false, is_some, map, slice_get};
 ghost use Rattle.scan_values.specs.Values.{val_of};
-ghost use Rattle.scan_values.specs.DataType.{struct_type, fields_of, fields_depth};
-ghost use Rattle.scan_values.specs.Kinds.{ptype_of};
-ghost use Rattle.scan_expr.specs.Infer.{either, struct_fields, field_type, raised, chosen, without, unary_type, sum_type, binary_type};
-ghost use Rattle.scan_expr.specs.Typing.{typed, depth_fault, of_names, repeats, have_fields, unless, literal_fault, unary_fault, binary_fault, same_ptypes, are_operands, logic_fault, choice_fault};
+ghost use Rattle.scan_values.specs.DataType.{struct_type, fields_of, fields_depth, depth_of};
+ghost use Rattle.scan_values.specs.FieldLists.{dtypes_of};
+ghost use Rattle.scan_values.specs.Kinds.{ptype_of, struct_fields_of};
+ghost use Rattle.scan_values.specs.NameFaults.{field_names};
+ghost use Rattle.scan_expr.specs.Infer.{either, struct_fields, type_or_bool, raised, chosen, without, unary_type, sum_type, binary_type};
+ghost use Rattle.scan_expr.specs.Places.{place_of, left_places, unary_places};
+ghost use Rattle.scan_expr.specs.Typing.{typed, depth_fault, of_names, repeats, has_field, unless, literal_fault, unary_fault, binary_fault, same_ptypes, are_operands, logic_fault, choice_fault};
 
-use crate::index::{FieldIndex, NameSet};
+use crate::index::{NameSet, place_found, places_found, places_left};
 use crate::op::{Binary, BindFault, Unary};
 use scan_values::{
     DType, FieldName, NameFault, Names, NoMemory, Nullability, PType, StructFields, Value,
 };
 use std::alloc::Global;
-use std::collections::HashSet;
+use std::collections::BTreeSet;
 
 /// The dtype, unless it is too deep.
 pub(crate) fn shallow(dtype: DType) -> Result<DType, BindFault>
@@ -65,26 +68,43 @@ pub(crate) fn struct_within(fields: StructFields, n: Nullability) -> DType
 
 // ---- Dtypes, whether the conditions hold or not.
 
-/// A copy of the dtype of a field, or a nullable Bool where there is none.
-fn field_or_bool(alloc: Global, name: &FieldName, dtype: &DType) -> Result<DType, NoMemory>
-    ensures { IfOk result (λ d. d ≡ field_type name.now (struct_fields dtype.now)) }
+/// The fields of a struct.
+fn struct_fields(dtype: &DType) -> &StructFields
+    requires { is_some (struct_fields_of dtype.now) ≡ true }
+    ensures fields { fields_of result.now ≡ struct_fields dtype.now }
+    ensures depth { depth_of dtype.now ≤ 66 }
 {
-    let Some(fields) = dtype.as_struct_fields_opt() else {
-        return Ok(DType::bool(Nullability::Nullable));
-    };
-    match fields.field(name) {
+    // What a dtype's depth may be is known of one that was asked for it.
+    let _depth = dtype.depth();
+    match dtype.as_struct_fields_opt() {
+        Some(fields) => fields,
+        None => unreachable!(),
+    }
+}
+
+/// A copy of the dtype of the field at a place, or a nullable Bool where there is none.
+fn dtype_at(alloc: Global, fields: &StructFields, place: usize) -> Result<DType, NoMemory>
+    ensures { IfOk result (λ d. d ≡ type_or_bool (slice_get (dtypes_of fields.now) place)) }
+{
+    match fields.field_by_index(place) {
         Some(field) => field.try_clone(alloc),
         None => Ok(DType::bool(Nullability::Nullable)),
     }
 }
 
-/// The fields of these names, in the order written.
-fn chosen_or_bool(alloc: Global, names: &Names, dtype: &DType) -> Result<StructFields, NoMemory>
-    ensures { IfOk result (λ fs. fields_of fs ≡ chosen names.now (struct_fields dtype.now)) }
+/// The fields of these names, which stand at these places.
+fn chosen(
+    alloc: Global,
+    names: &Names,
+    fields: &StructFields,
+    places: &[usize],
+) -> Result<StructFields, NoMemory>
+    requires { places.now ≡ map (place_of (fields_of fields.now)) names.now }
+    ensures { IfOk result (λ fs. fields_of fs ≡ chosen names.now (fields_of fields.now)) }
 {
-    let mut dtypes = Vec::with_capacity(alloc, names.as_slice().len())?;
-    for name in names.as_slice() {
-        dtypes.push(field_or_bool(alloc, name, dtype)?)?;
+    let mut dtypes = Vec::with_capacity(alloc, places.len())?;
+    for place in places {
+        dtypes.push(dtype_at(alloc, fields, *place)?)?;
     }
     Ok(StructFields::new(names.try_clone(alloc)?.into_vec(), dtypes))
 }
@@ -107,25 +127,28 @@ fn others(alloc: Global, names: &Names, fields: &StructFields) -> Result<StructF
     Ok(StructFields::new(left, dtypes))
 }
 
-fn others_of(alloc: Global, names: &Names, dtype: &DType) -> Result<StructFields, NoMemory>
-    ensures { IfOk result (λ fs. fields_of fs ≡ without names.now (struct_fields dtype.now)) }
-{
-    match dtype.as_struct_fields_opt() {
-        Some(fields) => others(alloc, names, fields),
-        None => Ok(StructFields::new(Vec::new(alloc), Vec::new(alloc))),
-    }
-}
-
-/// The dtype of an operator on a part of this dtype.
-pub(crate) fn unary_type(alloc: Global, op: &Unary, dtype: &DType) -> Result<DType, NoMemory>
+/// The dtype of an operator on a part of this dtype, of which it takes the fields at these places.
+pub(crate) fn unary_type(
+    alloc: Global,
+    op: &Unary,
+    dtype: &DType,
+    places: &[usize],
+) -> Result<DType, NoMemory>
+    requires faultless { unary_fault op.now dtype.now ≡ None }
+    requires placed { places.now ≡ unary_places op.now (struct_fields dtype.now) }
     ensures { IfOk result (λ d. d ≡ unary_type op.now dtype.now) }
 {
-    let _depth = dtype.depth();
     let n = dtype.nullability();
     match op {
-        Unary::GetItem(name) => Ok(raised(n, field_or_bool(alloc, name, dtype)?)),
-        Unary::Select(names) => Ok(struct_within(chosen_or_bool(alloc, names, dtype)?, n)),
-        Unary::Exclude(names) => Ok(struct_within(others_of(alloc, names, dtype)?, n)),
+        Unary::GetItem(_) => Ok(raised(n, dtype_at(alloc, struct_fields(dtype), places[0])?)),
+        Unary::Select(names) => {
+            let picked = chosen(alloc, names, struct_fields(dtype), places)?;
+            Ok(struct_within(picked, n))
+        }
+        Unary::Exclude(names) => {
+            let left = others(alloc, names, struct_fields(dtype))?;
+            Ok(struct_within(left, n))
+        }
         Unary::Not => Ok(DType::bool(n)),
         Unary::IsNull => Ok(DType::bool(Nullability::NonNullable)),
         Unary::IsNotNull => Ok(DType::bool(Nullability::NonNullable)),
@@ -166,118 +189,83 @@ pub(crate) fn binary_type(
 fn repeats(alloc: Global, names: &[FieldName]) -> Result<bool, NoMemory>
     ensures { IfOk result (λ b. b ≡ repeats [] names.now) }
 {
-    let mut seen: HashSet<&FieldName> = HashSet::new(alloc);
+    let mut seen: BTreeSet<&str> = BTreeSet::new(alloc);
     for name in names {
-        if !seen.insert(name)? {
+        if !seen.insert(name.as_str())? {
             return Ok(true);
         }
     }
     Ok(false)
 }
 
-/// The dtype of a field access.
-fn get_item_typed(alloc: Global, name: &FieldName, dtype: &DType) -> Result<DType, BindFault>
-    ensures { result ≢ Err BindFault.NoMemory → result ≡ typed (unary_fault (Unary.GetItem name.now) dtype.now)
-        (unary_type (Unary.GetItem name.now) dtype.now) }
-{
-    let Some(fields) = dtype.as_struct_fields_opt() else {
-        return Err(BindFault::NotStruct);
-    };
-    let Some(field) = fields.field(name) else {
-        return Err(BindFault::NoField);
-    };
-    Ok(raised(dtype.nullability(), field.try_clone(alloc)?))
-}
-
-/// The fields of these names, in the order written.
-fn chosen_typed(
+/// Where the fields of these names stand, or the first condition of a choice of them that fails.
+fn choice_typed(
     alloc: Global,
     names: &Names,
     fields: &StructFields,
-) -> Result<StructFields, BindFault>
-    ensures ok { IfOk result (λ fs. (have_fields names.now (fields_of fields.now) ≡ true) × (fields_of fs ≡ chosen names.now (fields_of fields.now))) }
-    ensures err { IfErr result (λ f. f ≢ BindFault.NoMemory → (f ≡ BindFault.NoField) × (have_fields names.now (fields_of fields.now) ≡ false)) }
+) -> Result<Vec<usize>, BindFault>
+    ensures faultless { IfOk result (λ _. choice_fault names.now (fields_of fields.now) ≡ None) }
+    ensures places { IfOk result (λ v. v.items ≡ map (place_of (fields_of fields.now)) names.now) }
+    ensures fault { IfErr result (λ f. f ≢ BindFault.NoMemory → choice_fault names.now (fields_of fields.now) ≡ Some f) }
 {
-    let index = FieldIndex::of(alloc, fields)?;
-    let mut dtypes = Vec::with_capacity(alloc, names.as_slice().len())?;
-    for name in names.as_slice() {
-        let Some(field) = index.field(name) else {
-            return Err(BindFault::NoField);
-        };
-        dtypes.push(field.try_clone(alloc)?)?;
-    }
-    Ok(StructFields::new(names.try_clone(alloc)?.into_vec(), dtypes))
-}
-
-fn select_typed(alloc: Global, names: &Names, dtype: &DType) -> Result<DType, BindFault>
-    ensures { result ≢ Err BindFault.NoMemory → result ≡ typed (unary_fault (Unary.Select names.now) dtype.now)
-        (unary_type (Unary.Select names.now) dtype.now) }
-{
-    let _depth = dtype.depth();
-    let Some(fields) = dtype.as_struct_fields_opt() else {
-        return Err(BindFault::NotStruct);
-    };
     if repeats(alloc, names.as_slice())? {
         return Err(BindFault::RepeatedName);
     }
-    let picked = chosen_typed(alloc, names, fields)?;
-    Ok(struct_within(picked, dtype.nullability()))
+    places_found(alloc, names, fields)
 }
 
-/// Whether each of these names is a field's.
-fn have_fields(names: &[FieldName], index: &FieldIndex) -> bool
-    ensures { result ≡ have_fields names.now (fields_of index.now.fields.now) }
+/// The fields of a struct, or that it is none.
+fn fields_typed(dtype: &DType) -> Result<&StructFields, BindFault>
+    ensures fields { IfOk result (λ fs. struct_fields_of dtype.now ≡ Some (fields_of fs.now)) }
+    ensures fault { IfErr result (λ f. (f ≡ BindFault.NotStruct) × (struct_fields_of dtype.now ≡ None)) }
 {
-    for name in names {
-        if index.field(name).is_none() {
-            return false;
-        }
+    match dtype.as_struct_fields_opt() {
+        Some(fields) => Ok(fields),
+        None => Err(BindFault::NotStruct),
     }
-    true
 }
 
-fn exclude_typed(alloc: Global, names: &Names, dtype: &DType) -> Result<DType, BindFault>
-    ensures { result ≢ Err BindFault.NoMemory → result ≡ typed (unary_fault (Unary.Exclude names.now) dtype.now)
-        (unary_type (Unary.Exclude names.now) dtype.now) }
+/// Where the fields of other names stand, or the first condition of a choice of these that fails.
+fn left_typed(alloc: Global, names: &Names, fields: &StructFields) -> Result<Vec<usize>, BindFault>
+    ensures faultless { IfOk result (λ _. choice_fault names.now (fields_of fields.now) ≡ None) }
+    ensures places { IfOk result (λ v. v.items ≡ left_places names.now 0 (field_names (fields_of fields.now))) }
+    ensures fault { IfErr result (λ f. f ≢ BindFault.NoMemory → choice_fault names.now (fields_of fields.now) ≡ Some f) }
 {
-    let _depth = dtype.depth();
-    let Some(fields) = dtype.as_struct_fields_opt() else {
-        return Err(BindFault::NotStruct);
-    };
-    if repeats(alloc, names.as_slice())? {
-        return Err(BindFault::RepeatedName);
-    }
-    let index = FieldIndex::of(alloc, fields)?;
-    if !have_fields(names.as_slice(), &index) {
-        return Err(BindFault::NoField);
-    }
-    let left = others(alloc, names, fields)?;
-    Ok(struct_within(left, dtype.nullability()))
+    choice_typed(alloc, names, fields)?;
+    Ok(places_left(alloc, names, fields)?)
 }
 
-/// The dtype of an operator on a part of this dtype, or the first of its conditions that fails.
-pub(crate) fn unary_typed(alloc: Global, op: &Unary, dtype: &DType) -> Result<DType, BindFault>
-    ensures { result ≢ Err BindFault.NoMemory → result ≡ typed (unary_fault op.now dtype.now) (unary_type op.now dtype.now) }
+/// No places, unless a condition does not hold.
+fn none_typed(alloc: Global, holds: bool, fault: BindFault) -> Result<Vec<usize>, BindFault>
+    ensures faultless { IfOk result (λ v. (v.items ≡ []) × (unless holds fault ≡ None)) }
+    ensures fault { IfErr result (λ f. unless holds fault ≡ Some f) }
+{
+    if holds {
+        Ok(Vec::new(alloc))
+    } else {
+        Err(fault)
+    }
+}
+
+/// Where the fields stand that an operator takes of a part of this dtype, or the first of its conditions that fails.
+pub(crate) fn places_typed(
+    alloc: Global,
+    op: &Unary,
+    dtype: &DType,
+) -> Result<Vec<usize>, BindFault>
+    ensures faultless { IfOk result (λ _. unary_fault op.now dtype.now ≡ None) }
+    ensures places { IfOk result (λ v. v.items ≡ unary_places op.now (struct_fields dtype.now)) }
+    ensures fault { IfErr result (λ f. f ≢ BindFault.NoMemory → unary_fault op.now dtype.now ≡ Some f) }
 {
     match op {
-        Unary::GetItem(name) => get_item_typed(alloc, name, dtype),
-        Unary::Select(names) => select_typed(alloc, names, dtype),
-        Unary::Exclude(names) => exclude_typed(alloc, names, dtype),
-        Unary::Not => {
-            if dtype.is_bool() {
-                Ok(DType::bool(dtype.nullability()))
-            } else {
-                Err(BindFault::NotBool)
-            }
-        }
-        Unary::IsNull => Ok(DType::bool(Nullability::NonNullable)),
-        Unary::IsNotNull => Ok(DType::bool(Nullability::NonNullable)),
+        Unary::GetItem(name) => place_found(alloc, name, fields_typed(dtype)?),
+        Unary::Select(names) => choice_typed(alloc, names, fields_typed(dtype)?),
+        Unary::Exclude(names) => left_typed(alloc, names, fields_typed(dtype)?),
+        Unary::Not => none_typed(alloc, dtype.is_bool(), BindFault::NotBool),
+        Unary::IsNull | Unary::IsNotNull => Ok(Vec::new(alloc)),
         Unary::ListLength => {
-            if dtype.as_list_element_opt().is_some() {
-                Ok(DType::primitive(PType::U64, dtype.nullability()))
-            } else {
-                Err(BindFault::NotList)
-            }
+            let is_list = dtype.as_list_element_opt().is_some();
+            none_typed(alloc, is_list, BindFault::NotList)
         }
     }
 }
