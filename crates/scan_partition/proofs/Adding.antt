@@ -20,11 +20,11 @@ abbrev pub groups_seen : List LentGroup → List Group
 groups_seen = map group_seen
 
 -- ---- numbers, one later
-later : (o : Option ℕ) (k : ℕ) → one_later o ≡ Some (suc k) → o ≡ Some k
+pub later : (o : Option ℕ) (k : ℕ) → one_later o ≡ Some (suc k) → o ≡ Some k
 later None k h = cc
 later (Some j) k h = cc
 
-not_first : {A : Type 0} (o : Option ℕ) → one_later o ≡ Some zero → A
+pub not_first : {A : Type 0} (o : Option ℕ) → one_later o ≡ Some zero → A
 not_first o h = absurd (go o h)
   where
     go : (o : Option ℕ) → one_later o ≡ Some zero → ⊥
@@ -35,7 +35,7 @@ nowhere : (o : Option ℕ) → one_later o ≡ None → o ≡ None
 nowhere None h = refl
 nowhere (Some j) h = cc
 
-first_is : {A : Type 0} (k : ℕ) → Some zero ≡ Some (suc k) → A
+pub first_is : {A : Type 0} (k : ℕ) → Some zero ≡ Some (suc k) → A
 first_is k h = absurd (go h)
   where
     go : Some zero ≡ Some (suc k) → ⊥

@@ -21,11 +21,23 @@ use Rattle.scan_expr.specs.declared.op.Binary.TheVariants.{Mask, And, Or, Equal,
 use Rattle.scan_values.specs.Kinds.{ptype_of}
 use Rattle.scan_partition.specs.Rows.{Distinct, item_type}
 use Rattle.scan_values.specs.Marked.{struct}
-use Rattle.scan_partition.specs.Bare.{bare, bare_all}
 use Rattle.scan_partition.specs.Items.{AtMost}
 use Rattle.scan_partition.proofs.Through.{both-split, item_of-spelled}
 use Rattle.scan_partition.proofs.Pushed.{pushed, pushed_all, nulled, nulled_all, expand_like}
 use Rattle.scan_partition.proofs.Expanded.{blank, blank-even}
+
+-- a dtype, whatever may be null in it
+abbrev mutual
+  pub bare : DataType → DataType
+  bare (bool_type n) = bool_type Nullable
+  bare (int_type p n) = int_type p Nullable
+  bare (utf8_type n) = utf8_type Nullable
+  bare (list_type d n) = list_type (bare d) Nullable
+  bare (struct_type fs n) = struct_type (bare_all fs) Nullable
+
+  pub bare_all : Fields → Fields
+  bare_all no_fields = no_fields
+  bare_all (field n d fs) = field n (bare d) (bare_all fs)
 
 pub bare-with : (n : Nullability) (d : DataType) → bare (with_nullability n d) ≡ bare d
 bare-with m (bool_type n) = refl

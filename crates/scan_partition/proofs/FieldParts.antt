@@ -9,7 +9,6 @@ use Rattle.scan_values.specs.declared.ptype.Nullability.TheVariants.{NonNullable
 use Rattle.scan_expr.specs.Needs.{other_names}
 use Rattle.scan_expr.specs.Typing.{unary_fault}
 use Rattle.scan_partition.specs.Rewrite.{NodesHold, AllNodesHold}
-use Rattle.std.proofs.lemmas.List.{length-map}
 use Rattle.scan_values.specs.DataType.{DataType, Name}
 use Rattle.scan_expr.specs.Bound.{Bound, bound_of, exprs_of}
 use Rattle.scan_expr.specs.Expr.{Expr, root, unary, parts_of, part}
@@ -29,9 +28,6 @@ named_parts (n ∷ ns) = ap (part n (field_expr n)) (named_parts ns)
 
 pub field_parts : (s : DataType) (ns : List Name) → parts_of ns (exprs_of (field_bounds s ns)) ≡ items_of ns
 field_parts s ns = ap (parts_of ns) (exprs_are s field_expr ns) ∙ named_parts ns
-
-pub field_count : (s : DataType) (ns : List Name) → length (field_bounds s ns) ≡ length ns
-field_count s ns = length-map ns (λ n. bound_of s (field_expr n))
 
 pub masked_fits : (s : DataType) (n : Nullability) (e : Expr) → NodesHold s (masked n e) → NodesHold s e
 masked_fits s NonNullable e h = h

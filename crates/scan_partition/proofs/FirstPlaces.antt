@@ -1,11 +1,9 @@
 -- The places of names, found from the last on.
-use Rattle.std.proofs.Common.{◌≡◌, ℕ, ◌+◌, ◌<◌, zero, suc, Bool, true, false, cond, not, ◌||◌, is_some, Option, Some, None, List, [], ◌∷◌, length, drop, get_or, map, refl, ap, sym, subst, ◌∙◌, bytes_eq, arith, add-one}
-use Rattle.std.specs.Prelude.{unwrap_or}
-use Rattle.std.specs.List.{position_from, position_or_len}
+use Rattle.std.proofs.Common.{◌≡◌, ℕ, ◌+◌, ◌<◌, zero, suc, Bool, true, false, cond, ◌||◌, is_some, Option, Some, None, List, [], ◌∷◌, length, drop, get_or, refl, ap, sym, subst, ◌∙◌, bytes_eq, arith, add-one}
+use Rattle.std.specs.List.{position_from}
 use Rattle.std.proofs.lemmas.Slice.Eq.{bytes_eq-Decides}
-use Rattle.scan_values.specs.DataType.{Name, Fields}
-use Rattle.scan_values.specs.NameFaults.{has_name, field_names}
-use Rattle.scan_partition.specs.Direct.{place}
+use Rattle.scan_values.specs.DataType.{Name}
+use Rattle.scan_values.specs.NameFaults.{has_name}
 use Rattle.scan_partition.specs.Places.{first_place}
 use Rattle.scan_partition.proofs.Names.{false_if, bytes_eq-refl}
 
@@ -45,24 +43,6 @@ from_end ns n = ap (position_from (λ m. bytes_eq m n) (length ns)) (dropped ns)
     dropped [] = refl
     dropped (x ∷ xs) = dropped xs
 
--- the first of a name, or past the last
-place_from : (i : ℕ) (ns : List Name) (n : Name) → unwrap_or (position_from (λ m. bytes_eq m n) i ns) (i + length ns) ≡ i + position_or_len (bytes_eq n) ns
-place_from i [] n = refl
-place_from i (m ∷ ms) n = subst (λ b. unwrap_or (cond b (Some i) (position_from (λ m. bytes_eq m n) (i + 1) ms)) (i + length (m ∷ ms)) ≡ i + position_or_len (bytes_eq n) (m ∷ ms)) (either_way n m) (go (bytes_eq n m) refl (place_from (i + 1) ms n))
-  where
-    go : (b : Bool) → bytes_eq n m ≡ b → unwrap_or (position_from (λ m. bytes_eq m n) (i + 1) ms) ((i + 1) + length ms) ≡ (i + 1) + position_or_len (bytes_eq n) ms
-        → unwrap_or (cond b (Some i) (position_from (λ m. bytes_eq m n) (i + 1) ms)) (i + length (m ∷ ms)) ≡ i + position_or_len (bytes_eq n) (m ∷ ms)
-    go true h r = (let e : i ≡ i + 0 = omega arith in e) ∙ ap (λ b. i + cond (not b) (1 + position_or_len (bytes_eq n) ms) 0) (sym h)
-    go false h r =
-        (let e : i + length (m ∷ ms) ≡ (i + 1) + length ms = omega arith in ap (unwrap_or (position_from (λ m. bytes_eq m n) (i + 1) ms)) e)
-        ∙ r ∙ (let e : (i + 1) + position_or_len (bytes_eq n) ms ≡ i + (1 + position_or_len (bytes_eq n) ms) = omega arith in e)
-        ∙ ap (λ b. i + cond (not b) (1 + position_or_len (bytes_eq n) ms) 0) (sym h)
-
-pub place_is : (fs : Fields) (n : Name) → unwrap_or (first_place n (field_names fs)) (length (field_names fs)) ≡ place fs n
-place_is fs n =
-    (let e : length (field_names fs) ≡ 0 + length (field_names fs) = omega arith in ap (unwrap_or (first_place n (field_names fs))) e)
-    ∙ place_from 0 (field_names fs) n ∙ (let e : 0 + position_or_len (bytes_eq n) (field_names fs) ≡ position_or_len (bytes_eq n) (field_names fs) = omega arith in e)
-
 -- whether there is one
 some_from : (i : ℕ) (ns : List Name) (n : Name) → is_some (position_from (λ m. bytes_eq m n) i ns) ≡ has_name n ns
 some_from i [] n = refl
@@ -74,10 +54,3 @@ some_from i (m ∷ ms) n = subst (λ b. is_some (cond b (Some i) (position_from 
 
 pub has_place : (ns : List Name) (n : Name) → is_some (first_place n ns) ≡ has_name n ns
 has_place ns n = some_from 0 ns n
-
-pub places_are : (fs : Fields) (f : Name → Option ℕ) (k : ℕ) → ((n : Name) → f n ≡ first_place n (field_names fs)) → k ≡ length (field_names fs) → (n : Name) → unwrap_or (f n) k ≡ place fs n
-places_are fs f k h l n = (λ i. unwrap_or (h n i) (l i)) ∙ place_is fs n
-
-pub map_places : (fs : Fields) (g : Name → ℕ) → ((n : Name) → g n ≡ place fs n) → (ns : List Name) → map g ns ≡ map (place fs) ns
-map_places fs g h [] = refl
-map_places fs g h (n ∷ ns) = λ i. h n i ∷ map_places fs g h ns i

@@ -72,3 +72,5 @@ pub mod Below
 pub mod OffsetOverflows
 pub mod Wholes
 pub mod FirstPlaces
+pub mod OwnFields
+pub mod Leaf

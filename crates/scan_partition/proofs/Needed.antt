@@ -11,7 +11,7 @@ use Rattle.scan_partition.specs.declared.item.Item.{Item}
 use Rattle.scan_partition.specs.declared.item.Item.TheVariants.{Field, Validity}
 use Rattle.scan_partition.specs.Items.{spelled, item_of, Use, or_use, use_of, uses_of, ItemOr, IsExpanded, AreExpanded}
 use Rattle.scan_expr.specs.Expr.{is_root, Expr, root, row_index, literal, unary, binary, pack, Parts, no_parts, part}
-use Rattle.scan_partition.specs.Expand.{is_here, masked, items_of, expanded_fields, expanded_struct_root, null_root, here_root, expand_at, expand, expand_all}
+use Rattle.scan_partition.specs.Expand.{masked, items_of, expanded_fields, expanded_struct_root, null_root, here_root, expand_at, expand, expand_all}
 use Rattle.scan_expr.specs.Needs.{other_names, Demand, whole, null_alone, length_alone, fields, at, asked}
 use Rattle.scan_partition.specs.Partition.{step_into, step_into_all, or_root}
 use Rattle.scan_values.specs.Paths.{to_field, to_validity, Path}
@@ -23,8 +23,7 @@ use Rattle.scan_expr.specs.declared.op.Unary.TheVariants.{GetItem, Select, Exclu
 use Rattle.scan_partition.specs.Rows.{Distinct, item_type}
 use Rattle.scan_partition.specs.Items.{AtMost}
 use Rattle.scan_partition.proofs.Through.{both-split, item_of-spelled}
-use Rattle.scan_partition.specs.Bare.{bare}
-use Rattle.scan_partition.proofs.Bare.{asked-same, expand-bare, step_into-bare, item-bare}
+use Rattle.scan_partition.proofs.Bare.{bare, asked-same, expand-bare, step_into-bare, item-bare}
 use Rattle.scan_partition.proofs.Expanded.{is_root-sound}
 
 -- ---- leaves
@@ -83,9 +82,6 @@ asks-leaf (at f k) d p h = at-leaf f (Asks k) d p (asks-leaf k) h
 module _ (fs : Fields) (n : Nullability) where
   abbrev s : DataType
   s = struct_type fs n
-
-  here_needs : (m : Nullability) (q : Path) → Needs (struct_type fs m) is_here whole q → IsValidity m q
-  here_needs m q h = h
 
   item_needs : (m : Nullability) (f : Name) (p : Path) → Asks (at f whole) (struct_type fs m) p → IsValidity m p ⊎ IsLeafOf fs f p
   item_needs NonNullable f p h = inr h

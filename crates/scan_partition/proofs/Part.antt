@@ -6,7 +6,7 @@ use Rattle.scan_expr.specs.Infer.{infer, infer_all}
 use Rattle.scan_expr.specs.Expr.{Expr, root, row_index, literal, unary, binary, pack, Parts, no_parts, part}
 use Rattle.scan_partition.specs.declared.item.Item.{Item}
 use Rattle.scan_partition.specs.Items.{spelled, AtMost, use_of, IsExpanded, AreExpanded}
-use Rattle.scan_partition.specs.Bare.{bare}
+use Rattle.scan_partition.proofs.Bare.{bare}
 use Rattle.scan_partition.specs.Expand.{expand}
 use Rattle.scan_partition.specs.Partition.{Reads, step_into}
 use Rattle.scan_partition.specs.Rewrite.{NodesHold}

@@ -260,7 +260,3 @@ pub partition_overflows : (r : Reads) (k : ℕ) (e : Expr) → IsExpanded e → 
 partition_overflows r k e p plain few =
     ap (λ b. overflow_at (whole r k (cuts e)) k (root_of (cuts e) [] e) || b) (parts_overflow r k (groups_of (cuts e)) ∙ collected_overflows r k [] (cuts e))
     ∙ root_overflows r k (cuts e) plain few e [] [] p (sym (append-nil (cuts e)))
-
-pub own_partition_overflows : (s : DataType) (e : Expr) (v : Marked) (k : ℕ) → IsExpanded e → AllPlain (cuts e) → length (cuts e) < 2 ^ 64
-    → (overflow_at (whole (own_reads s v k) k (cuts e)) k (root_of (cuts e) [] e) || part_overflows (own_reads s v k) k (groups_of (cuts e))) ≡ overflows s e v k
-own_partition_overflows s e v k p plain few = partition_overflows (own_reads s v k) k e p plain few ∙ through-overflows s v k e p

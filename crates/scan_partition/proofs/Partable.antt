@@ -15,7 +15,6 @@ use Rattle.scan_partition.specs.declared.item.Item.TheVariants.{Field, Validity}
 use Rattle.scan_partition.specs.Conditions.{IsStruct, IsOverStruct}
 use Rattle.scan_partition.specs.Direct.{Choice, chosen_directly}
 use Rattle.scan_partition.specs.Divided.{kept, stepped, group_part}
-use Rattle.scan_partition.specs.Bare.{bare, bare_all}
 use Rattle.scan_partition.specs.Expand.{expand}
 use Rattle.scan_partition.specs.Found.{NamesFound, AllNamesFound}
 use Rattle.scan_partition.specs.Items.{Use, no_use, one, many, use_of, spelled}
@@ -28,7 +27,7 @@ use Rattle.scan_partition.specs.RowSplit.{IsOverRows, row_split_by}
 use Rattle.scan_partition.specs.Rows.{item_type}
 use Rattle.scan_partition.specs.Split.{split_by, split_by_items, direct_or}
 use Rattle.scan_partition.proofs.Binding.{found_at, struct_names, distinct, unreserved, first_of_two, second_of_two, bind_parts, one_bound}
-use Rattle.scan_partition.proofs.Bare.{bare-with}
+use Rattle.scan_partition.proofs.Bare.{bare, bare_all, bare-with}
 use Rattle.scan_partition.proofs.Depths.{as_deep}
 use Rattle.scan_partition.proofs.Part.{step_into_part}
 use Rattle.scan_partition.proofs.Stepping.{stepped_typed}

@@ -1,7 +1,8 @@
 -- The pieces of an expression that is taken apart, group by group.
 use Rattle.std.proofs.Common.{◌≡◌, ℕ, ◌<◌, ◌≤◌, zero, suc, List, [], ◌∷◌, length, map, take, get_or, zip, refl, ap, sym, subst, ◌∙◌, arith}
 use Rattle.std.proofs.lemmas.List.{length-map}
-use Rattle.scan_values.specs.DataType.{field, fields_of}
+use Rattle.scan_values.specs.DataType.{DataType, field, fields_of}
+use Rattle.scan_values.specs.NameFaults.{field_names}
 use Rattle.scan_expr.specs.Bound.{Bound}
 use Rattle.scan_expr.specs.Expr.{Expr}
 use Rattle.scan_partition.specs.declared.item.Item.{Item}
@@ -36,3 +37,7 @@ joined_are b (g ∷ gs) = ap (λ fs. field (item_name g.0) (type_of_part b g.0 (
 
 pub as_many : {B C : Type 0} (f : Group → B) (h : Group → C) (gs : List Group) → length (map f gs) ≡ length (map h gs)
 as_many f h gs = length-map gs f ∙ sym (length-map gs h)
+
+pub joined_names : (t : Item → Expr → DataType) (gs : List Group) → field_names (joined_fields t gs) ≡ map (λ (g : Group). item_name g.0) gs
+joined_names t [] = refl
+joined_names t (g ∷ gs) = ap (λ ns. item_name g.0 ∷ ns) (joined_names t gs)

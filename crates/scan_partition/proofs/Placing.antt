@@ -1,7 +1,7 @@
 -- The places of the fields that an expression chooses.
 use Rattle.std.proofs.Common.{◌≡◌, ℕ, ◌+◌, ◌<◌, ◌≤◌, List, [], ◌∷◌, ◌++◌, length, map, get_or, drop, Option, Some, None, refl, ap, sym, ◌∙◌, arith, append_assoc}
 use Rattle.std.specs.Prelude.{option_map}
-use Rattle.std.proofs.lemmas.List.{append-nil, at_drop_more, drop_all}
+use Rattle.std.proofs.lemmas.List.{at_drop_more}
 use Rattle.scan_values.specs.DataType.{Name, Fields}
 use Rattle.scan_expr.specs.Bound.{Bound, exprs_of}
 use Rattle.scan_expr.specs.Expr.{Expr, parts_of}
@@ -71,7 +71,3 @@ module _ (fs : Fields) (xs : List Bound) where
       ∙ joined is (place fs f) (read_places fs (exprs_of (drop (k + 1) xs)))
       ∙ ap (λ (o : Option Name). option_map (λ js. is ++ js) (before_all (option_map (place fs) o) (read_places fs (exprs_of (drop (k + 1) xs))))) h
       ∙ ap (option_map (λ js. is ++ js)) (sym (read_next k x l e)) ∙ r
-
-  pub all_read : (is : List ℕ) (k : ℕ) → length xs ≤ k → IsRead is k → Some is ≡ read_places fs (exprs_of xs)
-  all_read is k l r =
-      ap Some (sym (append-nil is)) ∙ ap (λ (ys : List Bound). option_map (λ js. is ++ js) (read_places fs (exprs_of ys))) (sym (drop_all k xs l)) ∙ r

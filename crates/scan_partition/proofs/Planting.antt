@@ -1,18 +1,13 @@
 -- The root of a partition, part by part.
-use Rattle.std.proofs.Common.{◌≡◌, ℕ, ◌+◌, ◌<◌, ◌≤◌, zero, suc, false, None, List, [], ◌∷◌, ◌++◌, length, map, get_or, take, refl, ap, sym, subst, ◌∙◌, arith, add-one}
+use Rattle.std.proofs.Common.{◌≡◌, ℕ, ◌+◌, ◌<◌, ◌≤◌, zero, suc, None, List, [], ◌∷◌, ◌++◌, length, map, get_or, take, refl, ap, sym, subst, ◌∙◌, arith, add-one}
 use Rattle.scan_values.specs.DataType.{DataType, Name, depth_of}
 use Rattle.scan_values.specs.declared.ptype.Nullability.{Nullability}
 use Rattle.scan_expr.specs.Bound.{Bound, bound_of, exprs_of}
 use Rattle.std.specs.List.{All}
 use Rattle.std.proofs.lemmas.List.{length-map}
 use Rattle.scan_partition.specs.declared.item.Item.{Item}
-use Rattle.std.specs.Fmt.{decimal}
-use Rattle.std.specs.Prelude.{nat_le}
-use Rattle.scan_values.specs.Val.{Val}
-use Rattle.scan_expr.specs.declared.op.Unary.{Unary}
 use Rattle.scan_expr.specs.declared.op.Unary.TheVariants.{GetItem}
-use Rattle.scan_expr.specs.declared.op.Binary.{Binary}
-use Rattle.scan_expr.specs.Typing.{literal_fault, unary_fault, binary_fault}
+use Rattle.scan_expr.specs.Typing.{unary_fault}
 use Rattle.scan_partition.specs.Items.{item_name, one, use_of}
 use Rattle.scan_partition.proofs.Rewriting.{length_exprs}
 use Rattle.scan_expr.specs.Expr.{Expr, root, row_index, literal, unary, binary, pack, part, parts_of, expr_size, parts_size}
@@ -20,7 +15,7 @@ use Rattle.scan_expr.specs.Infer.{infer}
 use Rattle.scan_partition.specs.Partition.{Group, Leaf, leaf_of}
 use Rattle.scan_partition.specs.Planted.{Planted, planted, all_planted, list_planted, parts_planted, unary_planted, binary_planted, pack_planted, leaf_or_planted, first_leaf, AllFit}
 use Rattle.scan_partition.specs.Rewrite.{NodesHold, AllNodesHold}
-use Rattle.scan_partition.proofs.Loops.{take_whole, scopes_of}
+use Rattle.scan_partition.proofs.Loops.{scopes_of}
 use Rattle.scan_partition.proofs.CutLists.{map_one_more}
 
 abbrev pub sizes : List Expr → ℕ
@@ -94,9 +89,6 @@ module _ (gs : List Group) where
   pub pack_depth : (s : DataType) (ls : List Leaf) (ns : List Name) (bs : List Bound) (n : Nullability) (e : Expr) → pack (parts_of ns (exprs_of bs)) n ≡ e → NodesHold s (parts_planted gs ls e).0 → depth_of (infer s (pack (parts_of ns (list_planted gs ls (exprs_of bs)).0) n)) ≤ 66
   pack_depth s ls ns bs n e h f = (subst (NodesHold s) (pack_listed ls ns bs n e h) f).0
 
-pub done_whole : (bs : List Bound) (k : ℕ) → length bs ≤ k → exprs_of (take k bs) ≡ exprs_of bs
-done_whole bs k h = ap exprs_of (take_whole bs k h)
-
 -- ---- leaves
 pub planted_leaf : (gs : List Group) (ls : List Leaf) (e : Expr) (i : Item) → use_of e ≡ one i → planted gs ls e ≡ first_leaf gs ls
 planted_leaf gs ls root i h = cc
@@ -124,28 +116,11 @@ made_even gs ls s bs made ns ms m h e = ap length m ∙ length-map (list_planted
 pub made_pack : (gs : List Group) (ls : List Leaf) (s : DataType) (bs made : List Bound) (ns ms : List Name) → made ≡ map (bound_of s) (list_planted gs ls (exprs_of bs)).0 → ms ≡ ns → parts_of ms (exprs_of made) ≡ parts_of ns (list_planted gs ls (exprs_of bs)).0
 made_pack gs ls s bs made ns ms m e = (λ i. parts_of (e i) (exprs_of (m i))) ∙ ap (parts_of ns) (exprs_bound s (list_planted gs ls (exprs_of bs)).0)
 
--- ---- what holds of a node's parts
-module _ (gs : List Group) (s : DataType) (ls : List Leaf) where
-  pub planted_literal : (d : DataType) (v : Val) (e : Expr) → literal d v ≡ e → NodesHold s (parts_planted gs ls e).0 → literal_fault d v ≡ None
-  planted_literal d v e h f = subst (λ x. NodesHold s (parts_planted gs ls x).0) (sym h) f
-
-  pub planted_unary : (u : Unary) (x e : Expr) → unary u x ≡ e → NodesHold s (parts_planted gs ls e).0 → (unary_fault u (infer s (planted gs ls x).0) ≡ None) × NodesHold s (planted gs ls x).0
-  planted_unary u x e h f = subst (λ y. NodesHold s (parts_planted gs ls y).0) (sym h) f
-
-  pub planted_binary : (b : Binary) (x y e : Expr) → binary b x y ≡ e → NodesHold s (parts_planted gs ls e).0
-      → (binary_fault b (infer s (planted gs ls x).0) (infer s (planted gs (planted gs ls x).1 y).0) ≡ None) × NodesHold s (planted gs ls x).0 × NodesHold s (planted gs (planted gs ls x).1 y).0
-  planted_binary b x y e h f = subst (λ z. NodesHold s (parts_planted gs ls z).0) (sym h) f
-
-  pub leaf_first : (e : Expr) (i : Item) → use_of e ≡ one i → NodesHold s (planted gs ls e).0 → NodesHold s (first_leaf gs ls).0
-  leaf_first e i h f = subst (λ (p : Planted). NodesHold s p.0) (planted_leaf gs ls e i h) f
+pub leaf_first : (gs : List Group) (s : DataType) (ls : List Leaf) (e : Expr) (i : Item) → use_of e ≡ one i → NodesHold s (planted gs ls e).0 → NodesHold s (first_leaf gs ls).0
+leaf_first gs s ls e i h f = subst (λ (p : Planted). NodesHold s p.0) (planted_leaf gs ls e i h) f
 
 -- where a leaf reads
 pub leaf_reads : (s : DataType) (es : List Expr) (i : Item) (k : ℕ) → NodesHold s (leaf_of es i k) → unary_fault (GetItem (item_name i)) s ≡ None
 leaf_reads s [] i k h = h.0
 leaf_reads s (e ∷ []) i k h = h.0
 leaf_reads s (e ∷ f ∷ es) i k h = h.1.0
-
-pub leaf_numbered : (s : DataType) (es : List Expr) (i : Item) (k : ℕ) → nat_le (length es) 1 ≡ false → NodesHold s (leaf_of es i k) → unary_fault (GetItem (decimal k)) (infer s (unary (GetItem (item_name i)) root)) ≡ None
-leaf_numbered s [] i k n h = cc
-leaf_numbered s (e ∷ []) i k n h = cc
-leaf_numbered s (e ∷ f ∷ es) i k n h = h.0

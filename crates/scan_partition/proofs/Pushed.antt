@@ -101,13 +101,6 @@ nullability_of-pushed (list_type d n) = refl
 nullability_of-pushed (struct_type fs NonNullable) = refl
 nullability_of-pushed (struct_type fs Nullable) = refl
 
-nullability_of-nulled : (d : DataType) → nullability_of (nulled d) ≡ Nullable
-nullability_of-nulled (bool_type n) = refl
-nullability_of-nulled (int_type p n) = refl
-nullability_of-nulled (utf8_type n) = refl
-nullability_of-nulled (list_type d n) = refl
-nullability_of-nulled (struct_type fs n) = refl
-
 ptype_of-pushed : (d : DataType) → ptype_of (pushed d) ≡ ptype_of d
 ptype_of-pushed (bool_type n) = refl
 ptype_of-pushed (int_type p n) = refl

@@ -1,15 +1,11 @@
 -- An expression written again, part by part.
-use Rattle.std.proofs.Common.{◌≡◌, ℕ, ◌<◌, ◌≤◌, zero, suc, true, cond, Option, Some, None, List, [], ◌∷◌, length, map, get_or, take, refl, ap, sym, subst, ◌∙◌, arith}
+use Rattle.std.proofs.Common.{◌≡◌, ℕ, ◌<◌, ◌≤◌, zero, suc, List, [], ◌∷◌, length, map, get_or, take, refl, ap, sym, subst, ◌∙◌, arith}
 use Rattle.scan_values.specs.DataType.{DataType, Name, depth_of}
 use Rattle.scan_values.specs.declared.ptype.Nullability.{Nullability}
 use Rattle.scan_expr.specs.Bound.{Bound, bound_of, exprs_of}
-use Rattle.scan_values.specs.Val.{Val}
-use Rattle.scan_expr.specs.declared.op.Unary.{Unary}
-use Rattle.scan_expr.specs.declared.op.Binary.{Binary}
-use Rattle.scan_expr.specs.Typing.{literal_fault, unary_fault, binary_fault}
-use Rattle.scan_expr.specs.Expr.{is_root, Expr, root, literal, unary, binary, pack, part, parts_of, expr_size, parts_size}
+use Rattle.scan_expr.specs.Expr.{Expr, pack, part, parts_of, expr_size, parts_size}
 use Rattle.scan_expr.specs.Infer.{infer}
-use Rattle.scan_partition.specs.Rewrite.{Rules, or_kept, rewritten, all_rewritten, NodesHold, AllNodesHold}
+use Rattle.scan_partition.specs.Rewrite.{Rules, rewritten, all_rewritten, NodesHold, AllNodesHold}
 use Rattle.scan_partition.proofs.Loops.{map_done, exprs_are}
 
 part_size : (ns : List Name) (es : List Expr) (k : ℕ) (x : Expr) → k < length es → expr_size (get_or es k x) ≤ parts_size (parts_of ns es)
@@ -70,21 +66,3 @@ part_fits r s ns bs n e k x h l is f =
 
 pub pack_fits : (r : Rules) (s : DataType) (ns : List Name) (es : List Expr) (n : Nullability) (e : Expr) → pack (parts_of ns es) n ≡ e → NodesHold s (rewritten r e) → depth_of (infer s (pack (all_rewritten r (parts_of ns es)) n)) ≤ 66
 pack_fits r s ns es n e h f = (whole_fits r s e (pack (parts_of ns es) n) h f).0
-
--- ---- what holds of a node's parts
-pub literal_holds : (r : Rules) (s d : DataType) (v : Val) (e : Expr) → literal d v ≡ e → NodesHold s (rewritten r e) → literal_fault d v ≡ None
-literal_holds r s d v e h f = whole_fits r s e (literal d v) h f
-
-pub unary_holds : (r : Rules) (s : DataType) (u : Unary) (x e : Expr) → unary u x ≡ e → cond (is_root x) (r.on_operator u) None ≡ None → NodesHold s (rewritten r e) → (unary_fault u (infer s (rewritten r x)) ≡ None) × NodesHold s (rewritten r x)
-unary_holds r s u x e h n f = subst (λ (o : Option Expr). NodesHold s (or_kept o (unary u (rewritten r x)))) n (whole_fits r s e (unary u x) h f)
-
-pub operator_holds : (r : Rules) (s : DataType) (u : Unary) (x e : Expr) → unary u x ≡ e → is_root x ≡ true → NodesHold s (rewritten r e) → NodesHold s (or_kept (r.on_operator u) root)
-operator_holds r s u x e h t f = go (r.on_operator u) (subst (λ b. NodesHold s (or_kept (cond b (r.on_operator u) None) (unary u (rewritten r x)))) t (whole_fits r s e (unary u x) h f))
-  where
-    go : (o : Option Expr) → NodesHold s (or_kept o (unary u (rewritten r x))) → NodesHold s (or_kept o root)
-    go None g = tt
-    go (Some y) g = g
-
-pub binary_holds : (r : Rules) (s : DataType) (b : Binary) (x y e : Expr) → binary b x y ≡ e → NodesHold s (rewritten r e)
-    → (binary_fault b (infer s (rewritten r x)) (infer s (rewritten r y)) ≡ None) × NodesHold s (rewritten r x) × NodesHold s (rewritten r y)
-binary_holds r s b x y e h f = whole_fits r s e (binary b x y) h f

@@ -23,8 +23,7 @@ use Rattle.scan_expr.specs.Expr.{Expr, root, row_index, literal, unary, binary, 
 use Rattle.scan_partition.specs.Items.{AtMost}
 use Rattle.scan_partition.proofs.Through.{both-split, item_of-spelled}
 use Rattle.scan_partition.proofs.Pushed.{Named, pick_named, pick_all_named, leave_named, of_struct_same}
-use Rattle.scan_partition.specs.Bare.{bare, bare_all}
-use Rattle.scan_partition.proofs.Bare.{fields-same, step_into-bare, ptypes-same}
+use Rattle.scan_partition.proofs.Bare.{bare, bare_all, fields-same, step_into-bare, ptypes-same}
 
 named-bare : (fs : Fields) → Named (bare_all fs) fs
 named-bare no_fields = tt

@@ -14,7 +14,6 @@ use Rattle.scan_expr.specs.declared.op.Binary.TheVariants.{Mask, And, Or, Equal,
 use Rattle.scan_expr.specs.Expr.{Expr, root, row_index, literal, unary, binary, pack, Parts, no_parts, part}
 use Rattle.scan_expr.specs.Infer.{either, raised, struct_fields, type_or_bool, field_type, chosen, without, unary_type, ptype_or_u64, binary_type, infer, infer_all}
 use Rattle.scan_expr.specs.Typing.{unless, binary_fault}
-use Rattle.scan_partition.specs.Bare.{bare, bare_all}
 use Rattle.scan_partition.specs.declared.item.Item.{Item}
 use Rattle.scan_partition.specs.declared.item.Item.TheVariants.{Field, Validity}
 use Rattle.scan_partition.specs.Items.{spelled}
@@ -22,7 +21,7 @@ use Rattle.scan_partition.specs.Rows.{item_type}
 use Rattle.scan_partition.specs.Tighter.{IsStricter, IsTighter, AreTighter}
 use Rattle.scan_partition.proofs.Parted.{with_own}
 use Rattle.scan_partition.proofs.Typed.{NodesTyped, AllNodesTyped, unary_fault-same, bools, logics, operands, sums}
-use Rattle.scan_partition.proofs.Bare.{ptypes-same}
+use Rattle.scan_partition.proofs.Bare.{bare, bare_all, ptypes-same}
 
 clash : {A : Type 0} → true ≡ false → A
 clash h = absurd (go h)

@@ -18,8 +18,7 @@ use Rattle.scan_partition.specs.declared.item.Item.{Item}
 use Rattle.scan_partition.specs.Items.{item_of, AtMost, or_use, use_of, uses_of, ItemOr, IsExpanded, AreExpanded}
 use Rattle.scan_partition.specs.Partition.{Reads, or_root, step_into, step_into_all}
 use Rattle.scan_partition.specs.Found.{AllFound}
-use Rattle.scan_partition.specs.Bare.{bare, bare_all}
-use Rattle.scan_partition.proofs.Bare.{ptypes-same}
+use Rattle.scan_partition.proofs.Bare.{bare, bare_all, ptypes-same}
 use Rattle.scan_values.specs.Marked.{Marked}
 use Rattle.scan_partition.proofs.Through.{both-split, through, own_reads, through-seen, step_into-through}
 

@@ -1,13 +1,12 @@
 -- The items and the cuts of an expression, part by part.
-use Rattle.std.proofs.Common.{◌≡◌, ℕ, ◌+◌, ◌<◌, ◌≤◌, zero, suc, Bool, true, false, cond, None, List, [], ◌∷◌, ◌++◌, length, get_or, take, refl, ap, sym, ◌∙◌, arith, add-one, append_assoc}
+use Rattle.std.proofs.Common.{◌≡◌, ℕ, ◌+◌, ◌<◌, ◌≤◌, zero, suc, Bool, true, false, cond, List, [], ◌∷◌, ◌++◌, length, get_or, take, refl, ap, sym, ◌∙◌, arith, add-one, append_assoc}
 use Rattle.std.proofs.lemmas.List.{append-nil}
 use Rattle.scan_values.specs.DataType.{Name}
 use Rattle.scan_values.specs.declared.ptype.Nullability.{Nullability}
 use Rattle.scan_expr.specs.Bound.{Bound, exprs_of}
-use Rattle.scan_expr.specs.Expr.{is_root, Expr, root, row_index, literal, unary, binary, pack, parts_of}
-use Rattle.scan_expr.specs.declared.op.Unary.{Unary}
+use Rattle.scan_expr.specs.Expr.{Expr, root, row_index, literal, unary, binary, pack, parts_of}
 use Rattle.scan_partition.specs.declared.item.Item.{Item}
-use Rattle.scan_partition.specs.Items.{same_item, root_item, Use, no_use, one, many, both, or_use, use_of, uses_of}
+use Rattle.scan_partition.specs.Items.{same_item, Use, no_use, one, many, both, use_of, uses_of}
 use Rattle.scan_partition.specs.Partition.{Cut, cut_or, cuts, all_cuts, part_cuts}
 use Rattle.scan_partition.proofs.Through.{same_item-sound}
 use Rattle.scan_partition.proofs.Loops.{take_whole}
@@ -73,21 +72,6 @@ parts_cuts ns [] = refl
 parts_cuts [] (e ∷ es) = ap (λ cs. cuts e ++ cs) (parts_cuts [] es)
 parts_cuts (n ∷ ns) (e ∷ es) = ap (λ cs. cuts e ++ cs) (parts_cuts ns es)
 
--- ---- an operator
-use_root : (e : Expr) → is_root e ≡ true → use_of e ≡ no_use
-use_root root h = refl
-use_root row_index h = cc
-use_root (literal d v) h = cc
-use_root (unary u e) h = cc
-use_root (binary b x y) h = cc
-use_root (pack ps n) h = cc
-
-pub use_at_root : (u : Unary) (e : Expr) → is_root e ≡ true → or_use (root_item u) no_use ≡ use_of (unary u e)
-use_at_root u e h = (λ i. or_use (cond (sym h i) (root_item u) None) (sym (use_root e h) i))
-
-pub use_at_part : (u : Unary) (e : Expr) → is_root e ≡ false → use_of e ≡ use_of (unary u e)
-use_at_part u e h = λ i. or_use (cond (sym h i) (root_item u) None) (use_of e)
-
 -- ---- a pack
 folded_many : (es : List Expr) → folded many es ≡ many
 folded_many [] = refl
@@ -113,20 +97,6 @@ cuts_step xs k x l e = rw add-one (cuts_suc xs k x l e)
 
 pub pack_cuts : (ns : List Name) (xs : List Bound) (n : Nullability) (e : Expr) (k : ℕ) → pack (parts_of ns (exprs_of xs)) n ≡ e → length xs ≤ k → cuts_list (exprs_of (take k xs)) ≡ part_cuts e
 pack_cuts ns xs n e k h l = ap (λ ys. cuts_list (exprs_of ys)) (take_whole xs k l) ∙ sym (parts_cuts ns (exprs_of xs)) ∙ ap part_cuts h
-
-by : (w : Use) (e : Expr) (cs : List Cut) → ((i : Item) → w ≡ one i → ⊥) → cut_or w e cs ≡ cs
-by no_use e cs n = refl
-by (one i) e cs n = absurd (n i refl)
-by many e cs n = refl
-
--- not one item: the cuts are those of the parts
-pub cuts_of_parts : (e : Expr) (w : Use) → w ≡ use_of e → ((i : Item) → w ≡ one i → ⊥) → cuts e ≡ part_cuts e
-cuts_of_parts root w h n = refl
-cuts_of_parts row_index w h n = refl
-cuts_of_parts (literal d v) w h n = refl
-cuts_of_parts (unary u e) w h n = by (use_of (unary u e)) (unary u e) (cuts e) (λ i q. n i (h ∙ q))
-cuts_of_parts (binary b x y) w h n = by (use_of (binary b x y)) (binary b x y) (cuts x ++ cuts y) (λ i q. n i (h ∙ q))
-cuts_of_parts (pack ps m) w h n = by (use_of (pack ps m)) (pack ps m) (all_cuts ps) (λ i q. n i (h ∙ q))
 
 -- one item: the whole is the cut
 pub cuts_of_one : (e : Expr) (i : Item) → use_of e ≡ one i → cuts e ≡ (i, e) ∷ []

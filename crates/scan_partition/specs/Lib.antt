@@ -17,11 +17,11 @@ pub mod Rewritings
 pub mod Soles
 pub mod Planted
 pub mod Plans
+pub mod Leaves
 pub mod Shallow
 pub mod Divided
 pub mod Dividing
 pub mod Conditions
-pub mod Bare
 pub mod Split
 pub mod Joining
 pub mod ListUses

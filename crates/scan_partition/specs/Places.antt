@@ -1,6 +1,8 @@
 -- Where each item's group stands.
 use Rattle.std.specs.Prelude.{◌≡◌, ℕ, suc, cond, bytes_eq, List, [], ◌∷◌, Option, Some, None}
-use Rattle.std.specs.HashMap.{get_by}
+use Rattle.std.specs.Ordering.{nat_cmp}
+use Rattle.std.specs.Cmp.Lexicographic.{slice_cmp}
+use Rattle.std.specs.BTreeMap.{get_by}
 use Rattle.std.specs.List.{position_from}
 use Rattle.scan_values.specs.DataType.{Name}
 use Rattle.scan_partition.specs.declared.item.Item.{Item}
@@ -10,7 +12,7 @@ use Rattle.scan_partition.specs.Items.{same_item}
 use Rattle.scan_partition.specs.Partition.{Group}
 
 abbrev pub place_of : Places → Item → Option ℕ
-place_of p (Field n) = get_by (λ k. bytes_eq n k.now) p.fields
+place_of p (Field n) = get_by (λ k. slice_cmp nat_cmp n k.now) p.fields
 place_of p Validity = p.validity
 
 -- the place of the first of this name

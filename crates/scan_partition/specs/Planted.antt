@@ -3,16 +3,22 @@ use Rattle.std.specs.Prelude.{List, [], ◌∷◌, ◌++◌}
 use Rattle.scan_values.specs.DataType.{DataType}
 use Rattle.scan_partition.specs.Rewrite.{NodesHold}
 use Rattle.scan_values.specs.declared.ptype.Nullability.{Nullability}
+use Rattle.scan_expr.specs.Bound.{Bound, bound_of}
 use Rattle.scan_expr.specs.declared.op.Unary.{Unary}
+use Rattle.scan_expr.specs.declared.op.Unary.TheVariants.{GetItem}
 use Rattle.scan_expr.specs.declared.op.Binary.{Binary}
 use Rattle.scan_expr.specs.Expr.{Expr, root, row_index, literal, unary, binary, pack, Parts, no_parts, part}
-use Rattle.scan_partition.specs.Items.{Use, no_use, one, many, use_of}
+use Rattle.scan_partition.specs.Items.{item_name, Use, no_use, one, many, use_of}
 use Rattle.scan_partition.specs.Partition.{Cut, Group, Leaf, found, count_item, leaf_of}
 
 -- each cut by its item, and how many of the item's stand before it
 abbrev pub numbered_cuts : List Cut → List Cut → List Leaf
 numbered_cuts before [] = []
 numbered_cuts before (c ∷ cs) = (c.0, count_item c.0 before) ∷ numbered_cuts (before ++ c ∷ []) cs
+
+-- `$.item`
+abbrev pub item_root : DataType → Group → Bound
+item_root s g = bound_of s (unary (GetItem (item_name g.0)) root)
 
 -- an expression, with the leaves that are left
 abbrev pub Planted : Type 0

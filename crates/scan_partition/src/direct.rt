@@ -1,20 +1,15 @@
 // Expressions that only choose fields of a struct.
-ghost use Rattle.std.specs.Prelude.{◌≡◌, IfOk, map, length, option_map, unwrap_or};
-ghost use Rattle.scan_values.specs.DataType.{Name};
-ghost use Rattle.scan_values.specs.NameFaults.{field_names};
+ghost use Rattle.std.specs.Prelude.{◌≡◌, IfOk, map, length, option_map};
+ghost use Rattle.scan_values.specs.DataType.{fields_of};
 ghost use Rattle.scan_expr.specs.Expr.{parts_of};
 ghost use Rattle.scan_expr.specs.Bound.{exprs_of};
 ghost use Rattle.scan_expr.specs.Infer.{struct_fields};
-ghost use Rattle.scan_partition.specs.declared.item.Item.TheVariants.{Field};
 ghost use Rattle.scan_partition.specs.Items.{root_item};
-ghost use Rattle.scan_partition.specs.Places.{place_of, first_place};
-ghost use Rattle.scan_partition.specs.Direct.{same_names, field_item, field_of, direct_at, direct_parts, chosen_directly, read_places, projected};
+ghost use Rattle.scan_partition.specs.Direct.{same_names, field_item, field_of, direct_at, direct_parts, chosen_directly, place, read_places, projected};
 
-use crate::cuts::ItemRef;
 use crate::expand::struct_names;
-use crate::places::Places;
 use scan_expr::{BoundExpression, BoundNode, Unary};
-use scan_values::{DType, FieldName, Names, NoMemory, Nullability};
+use scan_values::{DType, FieldName, Names, NoMemory, Nullability, StructFields};
 use std::alloc::Global;
 use std::marker::Model;
 
@@ -51,42 +46,33 @@ impl DirectProjection {
     }
 }
 
-/// Where each field of a struct stands, by its name.
-fn field_places<'a>(alloc: Global, scope: &'a DType) -> Result<Places<'a>, NoMemory>
-    ensures { IfOk result (λ p. (n : Name) → place_of p (Field n) ≡ first_place n (field_names (struct_fields scope.entry.now))) }
+/// The place of the first field of this name, or the number of fields where there is none.
+fn place_in(fields: &StructFields, name: &FieldName) -> usize
+    ensures { result ≡ place (fields_of fields.now) name.now }
 {
-    match scope.as_struct_fields_opt() {
-        Some(fields) => Places::of_names(alloc, fields.names()),
-        None => Ok(Places::new(alloc)),
+    match fields.find(name) {
+        Some(i) => i,
+        None => fields.nfields(),
     }
 }
 
-/// How many fields a struct has.
-fn field_count(scope: &DType) -> usize
-    ensures { result ≡ length (field_names (struct_fields scope.now)) }
+/// The same of a struct's fields.
+fn place(scope: &DType, name: &FieldName) -> usize
+    ensures { result ≡ place (struct_fields scope.now) name.now }
 {
     match scope.as_struct_fields_opt() {
-        Some(fields) => fields.nfields(),
+        Some(fields) => place_in(fields, name),
         None => 0,
     }
-}
-
-/// The place of the first field of this name, or the number of fields where there is none.
-fn place(places: &Places, count: usize, name: &FieldName) -> usize
-    ensures { result ≡ unwrap_or (place_of places.now (Field name.now)) count }
-{
-    places.get(ItemRef::Field(name)).unwrap_or(count)
 }
 
 /// The fields of these names, under their own names.
 fn chosen(alloc: Global, scope: &DType, names: Names) -> Result<DirectProjection, NoMemory>
     ensures { IfOk result (λ p. p ≡ projected (struct_fields scope.now) (same_names names)) }
 {
-    let places = field_places(alloc, scope)?;
-    let count = field_count(scope);
     let mut fields = Vec::with_capacity(alloc, names.as_slice().len())?;
     for name in names.as_slice() {
-        fields.push(place(&places, count, name))?;
+        fields.push(place(scope, name))?;
     }
     Ok(DirectProjection { names, fields })
 }
@@ -132,12 +118,10 @@ fn places_read(
 ) -> Result<Option<Vec<usize>>, NoMemory>
     ensures { IfOk result (λ o. option_map (λ v. v.items) o ≡ read_places (struct_fields scope.now) (exprs_of parts.now)) }
 {
-    let places = field_places(alloc, scope)?;
-    let count = field_count(scope);
     let mut read = Vec::with_capacity(alloc, parts.len())?;
     for part in parts {
         match field_read(part) {
-            Some(name) => read.push(place(&places, count, name))?,
+            Some(name) => read.push(place(scope, name))?,
             None => return Ok(None),
         }
     }

@@ -3,20 +3,21 @@ ghost use Rattle.std.specs.Prelude.{◌≡◌, ◌≤◌, ◌<◌, ◌^◌, IfOk
 ghost use Rattle.scan_values.specs.DataType.{struct_type, fields_of, fields_depth};
 ghost use Rattle.scan_expr.specs.Bound.{Bound};
 ghost use Rattle.scan_partition.specs.Items.{item_name};
-ghost use Rattle.scan_partition.specs.Partition.{Group as CutGroup, cuts, groups_of, part_of, root_of, joined_type, joined_fields};
+ghost use Rattle.scan_partition.specs.Partition.{Group as CutGroup, cuts, groups_of, part_of, root_of, joined_type};
 ghost use Rattle.scan_partition.specs.Divided.{group_part, type_of_part, divided};
 ghost use Rattle.scan_partition.specs.Dividing.{parting, GroupsFit};
 ghost use Rattle.scan_partition.specs.Rewrite.{NodesHold};
-ghost use Rattle.scan_partition.specs.Plans.{group_seen, lent_exprs};
+ghost use Rattle.scan_partition.specs.Plans.{group_seen};
 ghost use Rattle.scan_partition.specs.Soles.{item_seen};
 
 use crate::cuts::{ItemRef, add_cuts};
 use crate::groups::{Group, planned};
 use crate::item::Item;
 use crate::join::joined;
+use crate::leaves::{Leaves, name_of};
 use crate::parts::{item_dtype, part_over};
 use crate::rewrite::Rewriting;
-use crate::root::{name_of, plant};
+use crate::root::plant;
 use scan_expr::{ApplyFault, BoundExpression};
 use scan_values::{Array, DType, FieldName, NoMemory, Nullability, StructFields};
 use std::alloc::Global;
@@ -204,7 +205,8 @@ pub(crate) fn divide(
     let plan = planned(alloc, &found)?;
     let pieces = pieces_of(alloc, how, &plan.groups, expr.shared_scope())?;
     let scope = Arc::new(alloc, struct_within(pieces.names, pieces.dtypes))?;
-    let (root, _) = plant(alloc, &plan, 0, expr, &scope)?;
+    let leaves = Leaves::over(alloc, &plan, &scope)?;
+    let (root, _) = plant(alloc, &leaves, 0, expr)?;
     Ok(PartitionedExpr {
         items: pieces.items,
         parts: pieces.parts,

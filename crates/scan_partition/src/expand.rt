@@ -72,6 +72,20 @@ fn field_roots(
     Ok(fields)
 }
 
+/// The fields of a struct, each by itself.
+pub(crate) fn scope_fields(
+    alloc: Global,
+    scope: &Arc<DType>,
+) -> Result<Vec<BoundExpression>, NoMemory>
+    ensures { IfOk result (λ v. v.items ≡ map (λ (n : Name). bound_of scope.now.value (unary (Unary.GetItem n) root))
+        (field_names (struct_fields scope.now.value))) }
+{
+    match scope.as_struct_fields_opt() {
+        Some(fields) => field_roots(alloc, scope, fields.names()),
+        None => Ok(Vec::new(alloc)),
+    }
+}
+
 /// The struct of these fields, null where the whole is.
 fn expanded_fields(
     alloc: Global,

@@ -1,10 +1,10 @@
 // Cuts by their items.
-ghost use Rattle.std.specs.Prelude.{◌≡◌, IfOk, map, length, nat_le, []};
+ghost use Rattle.std.specs.Prelude.{◌≡◌, IfOk, map, length, []};
 ghost use Rattle.scan_partition.specs.Partition.{added, groups_of, found};
 ghost use Rattle.scan_partition.specs.Soles.{item_seen, cut_seen};
 ghost use Rattle.scan_partition.specs.Planted.{numbered_cuts};
 ghost use Rattle.scan_partition.specs.Plans.{group_seen, leaf_seen};
-ghost use Rattle.scan_partition.specs.Places.{ArePlaced};
+ghost use Rattle.scan_partition.specs.Places.{ArePlaced, index_of};
 
 use crate::cuts::{Cut, ItemRef};
 use crate::places::Places;
@@ -89,12 +89,9 @@ pub(crate) fn planned<'a>(alloc: Global, cuts: &[Cut<'a>]) -> Result<Plan<'a>, N
     })
 }
 
-/// Whether an item has one part at most.
-pub(crate) fn is_alone(plan: &Plan, item: ItemRef) -> bool
-    ensures { result ≡ nat_le (length (found (item_seen item.entry) (map group_seen plan.now.groups.items))) 1 }
+/// The place of an item's group.
+pub(crate) fn group_place(plan: &Plan, item: ItemRef) -> Option<usize>
+    ensures { result ≡ index_of (item_seen item.entry) (map group_seen plan.now.groups.items) }
 {
-    match plan.places.get(item) {
-        Some(k) => plan.groups[k].parts.len() <= 1,
-        None => true,
-    }
+    plan.places.get(item)
 }

@@ -9,6 +9,7 @@ mod groups;
 mod item;
 mod join;
 mod laws;
+mod leaves;
 mod list_;
 mod parts;
 mod places;

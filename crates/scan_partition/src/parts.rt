@@ -12,8 +12,8 @@ ghost use Rattle.scan_partition.specs.Plans.{lent_exprs};
 ghost use Rattle.scan_partition.specs.Soles.{item_seen};
 
 use crate::cuts::ItemRef;
+use crate::leaves::number_name;
 use crate::rewrite::{Rewriting, rewritten};
-use crate::root::number_name;
 use scan_expr::BoundExpression;
 use scan_values::{DType, FieldName, Names, NoMemory, Nullability};
 use std::alloc::Global;

@@ -7,12 +7,12 @@ ghost use Rattle.scan_partition.specs.Places.{place_of};
 use crate::cuts::ItemRef;
 use scan_values::{FieldName, NoMemory};
 use std::alloc::Global;
-use std::collections::HashMap;
+use std::collections::BTreeMap;
 
 /// A number for each of some items.
 #[derive(Drop)]
 pub(crate) struct Places<'a> {
-    fields: HashMap<&'a str, usize>,
+    fields: BTreeMap<&'a str, usize>,
     validity: Option<usize>,
 }
 
@@ -30,7 +30,7 @@ impl<'a> Places<'a> {
         ensures { (i : Item) → place_of result i ≡ None }
     {
         Places {
-            fields: HashMap::new(alloc),
+            fields: BTreeMap::new(alloc),
             validity: None,
         }
     }

@@ -1,9 +1,5 @@
 use Rattle.std.proofs.Common.{◌∙◌, ◌++◌, ◌∷◌, [], ap}
 use Rattle.scan_expr.specs.Infer.{struct_fields}
-use Rattle.scan_values.specs.DataType.{Name}
-use Rattle.scan_partition.specs.declared.item.Item.TheVariants.{Field}
-use Rattle.scan_partition.specs.Places.{place_of}
-use Rattle.scan_partition.proofs.FirstPlaces.{places_are}
 use Rattle.scan_partition.proofs.Placing.{none_read, one_read}
 use Rattle.scan_partition.proofs.direct.places_read.Goals as goal
 
@@ -14,7 +10,4 @@ returns-in-None c =
 pub loop-part-preserved : goal.loop-part-preserved
 loop-part-preserved c =
     one_read (struct_fields c.args.scope.now) c.args.parts.now c.loop-part.read.items c.push.new.self.items c.loop-part.part-index c.part-item.result c.in-Some.name.now c.loop-part-test.true c.part-item.is c.in-Some.ensures
-    (c.in_ok-push-in-Some.ensures.items ∙ ap (λ i. c.loop-part.read.items ++ i ∷ [])
-    (c.place.ensures ∙ places_are (struct_fields c.args.scope.now)
-    (λ (n : Name). place_of c.in_ok-places.places (Field n)) c.field_count-count.result c.in_ok-places.ensures c.field_count-count.ensures
-    c.in-Some.name.now)) c.loop-part.invariant
+    (c.in_ok-push-in-Some.ensures.items ∙ ap (λ i. c.loop-part.read.items ++ i ∷ []) c.place.ensures) c.loop-part.invariant

@@ -1,8 +1,8 @@
-use Rattle.std.proofs.Common.{◌≡◌, ◌+◌, ◌*◌, map, take, drop}
+use Rattle.std.proofs.Common.{◌≡◌, ◌+◌, ◌*◌, map, take}
 use Rattle.scan_expr.specs.Expr.{expr_size}
 use Rattle.scan_expr.specs.Bound.{bound_of, exprs_of}
 use Rattle.scan_partition.specs.Planted.{list_planted}
-use Rattle.scan_partition.specs.Plans.{group_seen, leaf_seen}
+use Rattle.scan_partition.specs.Leaves.{groups_in, leaves_from, scope_in}
 use Rattle.scan_partition.proofs.Planting.{sizes}
 use Rattle.scan_partition.proofs.root.+planting.Given as goal
 
@@ -17,6 +17,6 @@ decreases-plant_all l = 3 * sizes (exprs_of l.exprs.now) + 3
 
 abbrev pub invariant-plant_all-loop-expr : goal.invariant-plant_all-loop-expr
 invariant-plant_all-loop-expr l = record {
-  made : l.planted.items ≡ map (bound_of l.scope.value) ((list_planted (map group_seen l.plan.groups.items) (map leaf_seen (drop l.at l.plan.leaves.items)) (exprs_of (take l.expr-index l.exprs))).0);
-  left : map leaf_seen (drop l.next l.plan.leaves.items) ≡ (list_planted (map group_seen l.plan.groups.items) (map leaf_seen (drop l.at l.plan.leaves.items)) (exprs_of (take l.expr-index l.exprs))).1;
+  made : l.planted.items ≡ map (bound_of (scope_in l.leaves)) ((list_planted (groups_in l.leaves) (leaves_from l.at l.leaves) (exprs_of (take l.expr-index l.exprs))).0);
+  left : leaves_from l.next l.leaves ≡ (list_planted (groups_in l.leaves) (leaves_from l.at l.leaves) (exprs_of (take l.expr-index l.exprs))).1;
 }

@@ -15,3 +15,6 @@ crosses-requires-7-send-T c κs = let a = Bound-send in let p = RowParts-send in
 
 pub crosses-requires-7-sync-T : goal.crosses-requires-7-sync-T
 crosses-requires-7-sync-T c κs = let a = Bound-sync in let p = RowParts-sync in search sendable depth 40
+
+pub crosses-requires-6-sync-T : goal.crosses-requires-6-sync-T
+crosses-requires-6-sync-T c κs = let a = Bound-sync in let p = RowParts-sync in search sendable depth 40
