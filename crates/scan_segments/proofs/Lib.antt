@@ -1,20 +1,5 @@
-pub mod Agrees
+mod Boxes
 pub mod Counts
-pub mod Evictions
-pub mod Faithful
-pub mod Given
-pub mod Keeps
-pub mod Links
 pub mod LiveSets
 pub mod Lookups
 pub mod Moves
-pub mod Numbers
-pub mod Pasts
-pub mod Replayed
-pub mod Replays
-pub mod Slots
-pub mod TableSteps
-pub mod Weights
-mod Joins
-pub mod Plain
-pub mod UseOrder

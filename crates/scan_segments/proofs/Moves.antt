@@ -4,11 +4,10 @@ use Rattle.std.proofs.Math.Nat.{le_refl}
 use Rattle.std.specs.Ordering.{nat_cmp}
 use Rattle.std.specs.BTreeSet.{insert_key}
 use Rattle.scan_values.specs.Selections.{is_among}
-use Rattle.scan_segments.specs.Sharing.{has}
+use Rattle.scan_segments.specs.Source.{has, Begins, Ends, with_live, without_live}
 use Rattle.std.specs.Prelude.{true, false, Option, None, Some, if◌then◌else◌}
 use Rattle.std.specs.FinMap as map
 use Rattle.scan_segments.specs.Script.{ScriptState, turns_left, has_number}
-use Rattle.scan_segments.specs.Source.{Begins, Ends, with_live, without_live}
 use Rattle.scan_segments.specs.MemorySource.{MemoryState, source_state, ended, stepped, answer_of}
 use Rattle.scan_segments.specs.Outcomes.{outcome_of, outcome_at}
 use Rattle.scan_segments.specs.declared.script.Outcome.TheVariants.{Goes, Waits, Fails}

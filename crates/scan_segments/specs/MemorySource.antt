@@ -7,9 +7,8 @@ use Rattle.std.specs.BTreeMap.{is_at}
 use Rattle.std.specs.BTreeSet.{insert_key}
 use Rattle.std.specs.Set.{remove_key}
 use Rattle.scan_segments.specs.Faults.{one_more}
-use Rattle.scan_segments.specs.Source.{SourceState}
+use Rattle.scan_segments.specs.Source.{SourceState, has}
 use Rattle.scan_segments.specs.Script.{ScriptState, turns_left, number_after, has_number}
-use Rattle.scan_segments.specs.Sharing.{has}
 use Rattle.scan_segments.specs.Outcomes.{outcome_of}
 use Rattle.scan_segments.specs.declared.script.Outcome.{Outcome}
 use Rattle.scan_segments.specs.declared.script.Outcome.TheVariants.{Goes, Waits, Fails}

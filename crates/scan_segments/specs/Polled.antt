@@ -1,5 +1,5 @@
 -- What one poll of a segment may answer.
-use Rattle.std.specs.Prelude.{◌≡◌, ℕ, ◌<◌, List, true}
+use Rattle.std.specs.Prelude.{◌≡◌, ℕ, ◌<◌, List, true, ◌⊎◌}
 use Rattle.scan_segments.specs.declared.source.Polled.{Polled}
 use Rattle.scan_segments.specs.declared.source.Polled.TheVariants.{Pending, Bytes, Missing, Failed, NoMemory}
 use Rattle.scan_segments.specs.Faults.{Rose}
@@ -12,3 +12,7 @@ IsPolled fits id old new (Bytes bytes) = Ends id old new × TellsBytes old id by
 IsPolled fits id old new Missing = Ends id old new × TellsNone old id
 IsPolled fits id old new Failed = Ends id old new × Rose old.faults new.faults × (old.can_fail ≡ true)
 IsPolled fits id old new NoMemory = Stays old new
+
+-- the source was polled once, or not at all
+abbrev pub PolledOnce : {S : Type 0} → (S → ℕ → S → Polled → Type 0) → ℕ → S → S → Type 0
+PolledOnce polls id old new = (new ≡ old) ⊎ ((answer : Polled) × polls old id new answer)

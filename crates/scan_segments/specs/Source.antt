@@ -1,5 +1,6 @@
 -- What a source of segments is, and what its calls do to it.
 use Rattle.std.specs.Prelude.{◌≡◌, ℕ, ◌≤◌, List, [], ◌∷◌, ◌++◌, Bool, true, false, cond, nat_eq, Option, None, Some, filter, not, ◌==◌, IfSome}
+use Rattle.std.specs.List.{list_any}
 
 -- the bytes of each segment that there is
 abbrev pub Store : Type 0
@@ -70,3 +71,7 @@ TellsBytes s id bytes = IfSome s.holds (λ store. store id ≡ Some bytes)
 -- a told store has nothing at the id
 abbrev pub TellsNone : SourceState → ℕ → Type 0
 TellsNone s id = IfSome s.holds (λ store. store id ≡ None)
+
+-- the number is among these
+abbrev pub has : ℕ → List ℕ → Bool
+has n ns = list_any (λ x. nat_eq x n) ns

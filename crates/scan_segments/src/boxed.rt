@@ -7,7 +7,7 @@ use crate::source::{Fits, Polled, Polls, SegmentSource};
 use scan_values::NoMemory;
 use std::alloc::Global;
 
-/// A boxed source. It passes each call on.
+/// A boxed source. It passes each call on, once.
 #[derive(Drop)]
 pub struct BoxedSource(pub Box<dyn SegmentSource + Drop>);
 
@@ -15,9 +15,12 @@ impl Fits for BoxedSource {
     ghost fits = { λ id bytes. Unit {0} };
 }
 
-// Of the poll of a source whose type is not known no more is said than of any source's.
+// One poll of a box is one poll of the source in it, whatever its type, and the box holds that source still.
 impl Polls for BoxedSource {
-    ghost polls = { λ s id t r. Unit {0} };
+    ghost use Rattle.std.specs.Prelude.{◌≡◌};
+
+    ghost polls = { λ s id t r. (v : _) × (t.0 ≡ record s.0 { value = v })
+        × (SegmentSource-box s.0).Polls.polls s.0.value id v r };
 }
 
 impl SegmentSource for BoxedSource {

@@ -4,13 +4,13 @@ ghost use Rattle.std.specs.FinMap as map;
 ghost use Rattle.std.specs.Ordering.{nat_cmp};
 ghost use Rattle.std.specs.BTreeSet.{insert_key};
 ghost use Rattle.scan_segments.specs.MemorySource.{MemoryState, source_state, asked_also, ended, PollsMemory};
-ghost use Rattle.scan_segments.specs.Sharing.{has};
-ghost use Rattle.scan_segments.specs.Source.{Begins, Stays, Ends, with_live, without_live};
+ghost use Rattle.scan_segments.specs.Source.{has, Begins, Stays, Ends, with_live, without_live};
 ghost use Rattle.scan_segments.specs.Polled.{IsPolled};
 ghost use Rattle.scan_segments.specs.Outcomes.{outcome_of};
 ghost use Rattle.scan_segments.specs.declared.script.Outcome.TheVariants as outcome;
 ghost use Rattle.scan_segments.specs.declared.source.Polled.TheVariants as polled;
 
+use crate::requests::Requests;
 use crate::script::{Outcome, Script};
 use crate::segment::{ByteBuffer, SegmentId};
 use crate::source::{Fits, Polled, Polls, SegmentSource};
@@ -25,8 +25,7 @@ use std::marker::Model;
 pub struct MemorySource {
     segments: BTreeMap<SegmentId, ByteBuffer>,
     script: Script,
-    asked: Vec<SegmentId>,
-    live: BTreeSet<SegmentId>,
+    requests: Requests,
     faults: u64,
 }
 
@@ -41,8 +40,8 @@ impl Model for MemorySource {
     ghost view = { λ a. record {
       segments = map.from_entries a.segments.entries;
       script = a.script;
-      asked = a.asked.items;
-      live = a.live.keys;
+      asked = a.requests.asked;
+      live = a.requests.live;
       faults = a.faults;
     } };
 }
@@ -67,8 +66,7 @@ impl MemorySource {
         MemorySource {
             segments,
             script: Script::new(failing, pending),
-            asked: Vec::new(alloc),
-            live: BTreeSet::new(alloc),
+            requests: Requests::new(alloc),
             faults: 0,
         }
     }
@@ -77,14 +75,14 @@ impl MemorySource {
     pub fn asked(&self) -> &[SegmentId]
         ensures { result.now ≡ self.now.asked }
     {
-        self.asked.as_slice()
+        self.requests.asked()
     }
 
     /// The ids with a request that has not ended.
     pub fn live(&self) -> &BTreeSet<SegmentId>
         ensures { result.now.keys ≡ self.now.live }
     {
-        &self.live
+        self.requests.live()
     }
 
     /// How many polls failed, up to the greatest u64.
@@ -98,7 +96,7 @@ impl MemorySource {
         ensures after { self.new ≡ record self.old { live = ended id self.old.live } }
         ensures live { (λ k. has k (ended id self.old.live)) ≡ without_live id (λ k. has k self.old.live) }
     {
-        drop_id(&mut self.live, id);
+        self.requests.end(id);
     }
 }
 
@@ -119,9 +117,7 @@ impl SegmentSource for MemorySource {
         ensures asked { OnOk result (self.new ≡ asked_also id self.old) }
         ensures refused { OnErr result (self.new ≡ self.old) }
     {
-        self.asked.reserve(1)?;
-        add_id(&mut self.live, id)?;
-        self.asked.push_reserved(id);
+        self.requests.begin(id)?;
         Ok(())
     }
 
@@ -159,25 +155,4 @@ impl SegmentSource for MemorySource {
     fn fault_count(&self) -> u64 {
         self.faults
     }
-}
-
-// One more id of a set.
-fn add_id(ids: &mut BTreeSet<SegmentId>, id: SegmentId) -> Result<(), NoMemory>
-    ensures ok { OnOk result (ids.new.keys ≡ insert_key nat_cmp ids.old.keys id) }
-    ensures live { OnOk result ((λ k. has k (insert_key nat_cmp ids.old.keys id)) ≡ with_live id
-        (λ k. has k ids.old.keys)) }
-    ensures err { OnErr result (ids.new.keys ≡ ids.old.keys) }
-{
-    match ids.insert(id) {
-        Ok(_) => Ok(()),
-        Err(_) => Err(NoMemory),
-    }
-}
-
-// The id out of a set.
-fn drop_id(ids: &mut BTreeSet<SegmentId>, id: SegmentId)
-    ensures keys { ids.new.keys ≡ ended id ids.old.keys }
-    ensures live { (λ k. has k (ended id ids.old.keys)) ≡ without_live id (λ k. has k ids.old.keys) }
-{
-    ids.remove(&id);
 }

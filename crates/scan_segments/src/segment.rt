@@ -1,9 +1,9 @@
 //! The numbers of segments, the names of sources, and shared bytes. After the Rust's `segments`.
 ghost use Rattle.std.specs.Prelude.{◌≡◌, ◌<◌, ◌≤◌, ◌^◌, ◌↔◌, List, ℕ, IfOk, IsTrue, is_ok, string_bytes};
-ghost use Rattle.scan_segments.specs.Digest.{digest as digest_of};
 
 use scan_values::NoMemory;
 use std::alloc::Global;
+use std::cmp::Ordering;
 use std::fmt;
 use std::hash::{Hash, Hasher};
 use std::marker::Model;
@@ -75,12 +75,11 @@ impl fmt::Display for SegmentId {
 }
 
 /// The name of a source, which its holders share. Sources of one name share cached segments, so a name has to identify
-/// the contents of its source: the object and its version, and not a path that may be written anew. It is hashed by a
-/// number that is made of its text once, so a lookup in a cache hashes no text. Contracts see the bytes of the text.
+/// the contents of its source: the object and its version, and not a path that may be written anew. Contracts see the
+/// bytes of the text.
 #[derive(Debug, Drop)]
 pub struct SegmentSourceId {
     text: Arc<String>,
-    digest: u64,
 }
 
 impl Model for SegmentSourceId {
@@ -90,11 +89,6 @@ impl Model for SegmentSourceId {
     ghost Value = { List ℕ };
 
     ghost view = { λ s. string_bytes (arc_value s.text) };
-
-    ghost use Rattle.std.specs.Prelude.{◌≡◌};
-    ghost use Rattle.scan_segments.specs.Digest.{digest as digest_of};
-
-    ghost invariant = { λ s. s.digest ≡ digest_of (string_bytes (arc_value s.text)) };
 }
 
 impl PartialEq for SegmentSourceId {
@@ -117,18 +111,49 @@ impl Eq for SegmentSourceId {
     ghost laws = { nat_list_eq_equiv };
 }
 
+impl PartialOrd for SegmentSourceId {
+    ghost use Rattle.std.specs.Prelude.{Some};
+    ghost use Rattle.std.specs.Ordering.{nat_cmp};
+    ghost use Rattle.std.specs.Cmp.Lexicographic.{slice_cmp, texts_po};
+
+    ghost partial_cmp = { λ a b. Some (slice_cmp nat_cmp a b) };
+
+    ghost laws = { texts_po };
+
+    fn partial_cmp(&self, other: &SegmentSourceId) -> Option<Ordering> {
+        Some(self.cmp(other))
+    }
+}
+
+impl Ord for SegmentSourceId {
+    ghost use Rattle.std.specs.Prelude.{refl};
+    ghost use Rattle.std.specs.Ordering.{nat_cmp};
+    ghost use Rattle.std.specs.Cmp.Lexicographic.{slice_cmp, nat_list_cmp_total, texts_ties};
+
+    ghost cmp = { slice_cmp nat_cmp };
+
+    ghost total = { nat_list_cmp_total };
+
+    ghost matches_partial_cmp = { λ a b. refl };
+
+    ghost matches_eq = { texts_ties };
+
+    fn cmp(&self, other: &SegmentSourceId) -> Ordering {
+        self.text.cmp(&other.text)
+    }
+}
+
 impl Hash for SegmentSourceId {
     ghost use Rattle.std.specs.Hash as fed;
     ghost use Rattle.std.specs.Cmp.Rules.{hashing};
     ghost use Rattle.std.proofs.Common.{rules};
-    ghost use Rattle.scan_segments.specs.Digest.{digest as digest_of};
 
-    ghost hash_input = { λ s. fed.u64 (digest_of s) };
+    ghost hash_input = { fed.str };
 
     ghost respects_eq = { Prim.search (hashing, rules) };
 
     fn hash<H: Hasher>(&self, state: &mut H) {
-        self.digest.hash(state);
+        self.text.hash(state);
     }
 }
 
@@ -137,10 +162,8 @@ impl SegmentSourceId {
     pub fn new(alloc: Global, id: String) -> Result<SegmentSourceId, NoMemory>
         ensures { IfOk result (λ s. s ≡ string_bytes id) }
     {
-        let digest = digest(id.as_bytes());
         Ok(SegmentSourceId {
             text: Arc::new(alloc, id)?,
-            digest,
         })
     }
 
@@ -157,26 +180,12 @@ impl SegmentSourceId {
     {
         Ok(SegmentSourceId {
             text: Arc::try_clone(&self.text)?,
-            digest: self.digest,
         })
     }
 }
 
-// The number that stands for a text where it is hashed.
-fn digest(bytes: &[u8]) -> u64
-    ensures { result ≡ digest_of bytes.now }
-{
-    let mut made: u64 = 0;
-    for byte in bytes {
-        made = made
-            .wrapping_mul(1099511628211)
-            .wrapping_add(u64::from(*byte));
-    }
-    made
-}
-
 /// A segment of a named source.
-#[derive(Debug, PartialEq, Eq, Hash, Drop)]
+#[derive(Debug, PartialEq, Eq, PartialOrd, Ord, Hash, Drop)]
 pub struct SegmentKey {
     pub source_id: SegmentSourceId,
     pub segment: SegmentId,

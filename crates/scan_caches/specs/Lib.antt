@@ -1,0 +1,5 @@
+pub mod Adapter
+pub mod Bounded
+pub mod Counted
+pub mod MemoryCache
+pub mod UseOrder

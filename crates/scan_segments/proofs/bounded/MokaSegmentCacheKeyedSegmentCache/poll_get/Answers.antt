@@ -1,5 +1,0 @@
-use Rattle.scan_segments.proofs.Keeps.{is_got}
-use Rattle.scan_segments.proofs.bounded.MokaSegmentCacheKeyedSegmentCache.poll_get.Goals as goal
-
-pub returns-clause-got : goal.returns-clause-got
-returns-clause-got c = is_got c.args.key.now c.args.self.now c.look_up.new.self c.look_up.result c.look_up.ensures

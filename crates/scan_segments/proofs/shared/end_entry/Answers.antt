@@ -1,9 +1,0 @@
-use Rattle.std.proofs.Common.{◌≤◌, sym, subst}
-use Rattle.std.specs.Ordering.{nat_cmp}
-use Rattle.std.specs.BTreeMap.{is_at}
-use Rattle.scan_segments.specs.Sharing.{owed}
-use Rattle.scan_segments.proofs.Slots.{owed-remove}
-use Rattle.scan_segments.proofs.shared.end_entry.Goals as goal
-
-pub returns-in-Some-clause-owed : goal.returns-in-Some-clause-owed
-returns-in-Some-clause-owed c = subst (λ es. owed es ≤ owed c.args.entries.now.entries) (sym c.remove.ensures.entries) (owed-remove (is_at (nat_cmp c.args.id)) c.args.entries.now.entries)
