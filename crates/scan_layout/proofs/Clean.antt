@@ -18,8 +18,8 @@ use Rattle.scan_layout.specs.Check.{serves, total_rows}
 use Rattle.scan_layout.specs.Form.{HasForm, HaveForms, AllHaveRows}
 use Rattle.scan_layout.specs.Laws.{Each, Decodes, InOrder, OffsetsAreGood, AllOffsetsAreGood, is_there}
 use Rattle.scan_values.specs.Paths.{Step, to_validity, to_offsets, to_elements}
-use Rattle.scan_layout.specs.declared.spelling.Spelling.{Spelling}
-use Rattle.scan_layout.specs.Places.{Place, place_of, places_of}
+use Rattle.scan_spelling.specs.declared.spelling.Spelling.{Spelling}
+use Rattle.scan_spelling.specs.Places.{Place, place_of, places_of}
 use Rattle.scan_layout.specs.RowValue.{row_value, row_values, leaf_value, segment_value, under, elements_between, offset_of, values_from}
 use Rattle.scan_layout.specs.Touched.{touched, all_touched, leaf_touched, nth_touched, under_step, struct_steps, element_from, element_to, least_offset, greatest_offset}
 use Rattle.scan_layout.proofs.RowFits.{row_fits}

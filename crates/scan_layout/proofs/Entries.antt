@@ -1,48 +1,50 @@
--- The entries of a context one by one.
-use Rattle.std.proofs.Common.{◌≡◌, ℕ, zero, suc, ◌+◌, ◌<◌, ◌≤◌, List, [], ◌∷◌, ◌++◌, length, get_or, drop, arith, add-one, refl, Bool, true, false, ◌==◌, Some, None, drop-cons}
+-- The entries of a context, as a finite map.
+use Rattle.std.proofs.Common.{◌≡◌, ℕ, List, [], ◌∷◌, refl, ap, sym, ◌∙◌, Bool, true, false, cond, map, Option, Some, None}
+use Rattle.std.specs.Prelude.{option_map}
 use Rattle.std.specs.Arc.{arc_value}
+use Rattle.std.specs.Borrow.{Bor}
+use Rattle.std.specs.Cmp.{nat_cmp_total, eq_by_cmp_equiv}
+use Rattle.std.specs.FinMap as fin
+use Rattle.std.specs.List.{AllZip}
+use Rattle.std.specs.Map.{lookup}
+use Rattle.std.specs.Option.{option_copied}
+use Rattle.std.specs.Ordering.{is_eq, nat_cmp}
 use Rattle.std.specs.declared.alloc.Global.{Global}
 use Rattle.std.specs.declared.sync.Arc.{Arc}
-use Rattle.std.proofs.lemmas.Bool.{eqb-true, eq-eqb}
-use Rattle.std.proofs.lemmas.List.{map-append}
-use Rattle.scan_layout.specs.Contexts.{find, others, seen}
+use Rattle.scan_segments.proofs.Lookups.{get-from_entries-lookup}
+use Rattle.scan_layout.specs.Contexts.{seen}
 
-same_test : (a b : ℕ) → a ≡ b → (a == b) ≡ true
-same_test a b e = eq-eqb a b e
+module _ {V : Type 0} where
+  seen_step : (b : Bool) (a : Arc V Global) (v : Option V) (o : Option (Arc V Global)) → v ≡ option_map arc_value o → cond b (Some (arc_value a)) v ≡ option_map arc_value (cond b (Some a) o)
+  seen_step true a v o e = refl
+  seen_step false a v o e = e
 
-other_test : (a b : ℕ) → (a ≡ b → ⊥) → (a == b) ≡ false
-other_test a b n = go (a == b) refl
-  where
-    go : (t : Bool) → (a == b) ≡ t → (a == b) ≡ false
-    go true p = absurd (n (eqb-true a b p))
-    go false p = p
+  lookup_seen : (test : ℕ → Bool) (es : List (ℕ × Arc V Global)) → lookup test (map (λ e. (e.0, arc_value e.1)) es) ≡ option_map arc_value (lookup test es)
+  lookup_seen test [] = refl
+  lookup_seen test (e ∷ es) = seen_step (test e.0) e.1 _ (lookup test es) (lookup_seen test es)
 
-pub find_here : {V : Type 0} → (es : List (ℕ × Arc V Global)) (i id : ℕ) (e : ℕ × Arc V Global) → i < length es → e ≡ get_or es i e → e.0 ≡ id → find id (seen (drop i es)) ≡ Some (arc_value e.1)
-find_here es i id e h g k = rw (drop-cons es i e h, ← g, same_test e.0 id k) refl
+  pub get_seen : (es : List (ℕ × Arc V Global)) (id : ℕ) → fin.get (seen es) id ≡ option_map arc_value (lookup (λ k. is_eq (nat_cmp id k)) es)
+  get_seen es id = get-from_entries-lookup (map (λ e. (e.0, arc_value e.1)) es) id ∙ lookup_seen (λ k. is_eq (nat_cmp id k)) es
 
-pub find_later : {V : Type 0} → (es : List (ℕ × Arc V Global)) (i id : ℕ) (e : ℕ × Arc V Global) → i < length es → e ≡ get_or es i e → (e.0 ≡ id → ⊥) → find id (seen (drop i es)) ≡ find id (seen (drop (i + 1) es))
-find_later es i id e h g k = rw (drop-cons es i e h, ← g, other_test e.0 id k, add-one) refl
+  -- what a look-up lends
+  pub lent : (r : Option (Bor (Arc V Global))) (o : Option (Arc V Global)) → option_copied r ≡ o → option_map (λ x. arc_value x.now) r ≡ option_map arc_value o
+  lent None o e = ap (option_map arc_value) e
+  lent (Some x) o e = ap (option_map arc_value) e
 
-pub seen_past : {V : Type 0} → (es : List (ℕ × Arc V Global)) (i : ℕ) → length es ≤ i → seen (drop i es) ≡ []
-seen_past [] zero h = refl
-seen_past [] (suc i) h = refl
-seen_past (e ∷ es) zero h = absurd (omega arith)
-seen_past (e ∷ es) (suc i) h = seen_past es i (omega arith)
+  chosen : (b : Bool) (a : Arc V Global) (o : Option (Arc V Global)) → option_map arc_value (cond b (Some a) o) ≡ cond b (Some (arc_value a)) (option_map arc_value o)
+  chosen true a o = refl
+  chosen false a o = refl
 
-pub find_past : {V : Type 0} → (es : List (ℕ × Arc V Global)) (i id : ℕ) → length es ≤ i → find id (seen (drop i es)) ≡ None
-find_past es i id h = rw (seen_past es i h) refl
+  pub seen_inserted : (es new : List (ℕ × Arc V Global)) (id : ℕ) (a : Arc V Global)
+      → ((q : ℕ) → lookup (λ k. is_eq (nat_cmp q k)) new ≡ cond (is_eq (nat_cmp id q)) (Some a) (lookup (λ k. is_eq (nat_cmp q k)) es))
+      → seen new ≡ fin.insert (seen es) id (arc_value a)
+  seen_inserted es new id a updates = fin.same_map nat_cmp_total fin.nat_cmp-IsAntisymmetric (seen new) (fin.insert (seen es) id (arc_value a)) (λ q.
+      get_seen new q ∙ ap (option_map arc_value) (updates q) ∙ chosen (is_eq (nat_cmp id q)) a (lookup (λ k. is_eq (nat_cmp q k)) es)
+      ∙ ap (λ b. cond b (Some (arc_value a)) (option_map arc_value (lookup (λ k. is_eq (nat_cmp q k)) es))) ((eq_by_cmp_equiv nat_cmp_total).symm id q)
+      ∙ ap (cond (is_eq (nat_cmp q id)) (Some (arc_value a))) (sym (get_seen es q)) ∙ sym (fin.get-insert nat_cmp_total (seen es) id (arc_value a) q))
 
-pub others_kept : {V : Type 0} → (es : List (ℕ × Arc V Global)) (i id : ℕ) (e : ℕ × Arc V Global) → i < length es → e ≡ get_or es i e → (e.0 ≡ id → ⊥) → others id (seen (drop i es)) ≡ (e.0, arc_value e.1) ∷ others id (seen (drop (i + 1) es))
-others_kept es i id e h g k = rw (drop-cons es i e h, ← g, other_test e.0 id k, add-one) refl
-
-pub others_left : {V : Type 0} → (es : List (ℕ × Arc V Global)) (i id : ℕ) (e : ℕ × Arc V Global) → i < length es → e ≡ get_or es i e → e.0 ≡ id → others id (seen (drop i es)) ≡ others id (seen (drop (i + 1) es))
-others_left es i id e h g k = rw (drop-cons es i e h, ← g, same_test e.0 id k, add-one) refl
-
-pub others_past : {V : Type 0} → (es : List (ℕ × Arc V Global)) (i id : ℕ) → length es ≤ i → others id (seen (drop i es)) ≡ []
-others_past es i id h = rw (seen_past es i h) refl
-
-pub seen_at : {V : Type 0} → (es : List (ℕ × Arc V Global)) (i : ℕ) (e : ℕ × Arc V Global) → i < length es → e ≡ get_or es i e → seen (drop i es) ≡ (e.0, arc_value e.1) ∷ seen (drop (i + 1) es)
-seen_at es i e h g = rw (drop-cons es i e h, ← g, add-one) refl
-
-pub seen_pushed : {V : Type 0} → (es : List (ℕ × Arc V Global)) (e : ℕ × Arc V Global) → seen (es ++ e ∷ []) ≡ seen es ++ (e.0, arc_value e.1) ∷ []
-seen_pushed es e = map-append (λ x. (x.0, arc_value x.1)) es (e ∷ [])
+  pub seen_clone : (es new : List (ℕ × Arc V Global)) → AllZip (λ p q. (q.0 ≡ p.0) × (arc_value q.1 ≡ arc_value p.1)) es new → seen new ≡ seen es
+  seen_clone [] [] z = refl
+  seen_clone [] (f ∷ new) z = absurd z
+  seen_clone (e ∷ es) [] z = absurd z
+  seen_clone (e ∷ es) (f ∷ new) z = rw (z.0.0, z.0.1, seen_clone es new z.1) refl

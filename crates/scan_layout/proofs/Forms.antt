@@ -9,13 +9,10 @@ use Rattle.scan_layout.specs.declared.node.LayoutKind.TheVariants.{Leaf, Struct,
 use Rattle.scan_values.specs.DataType.{DataType, bool_type, int_type, utf8_type, list_type, struct_type, depth_of}
 use Rattle.scan_values.specs.Same.{same_type, same_type-Decides}
 use Rattle.std.proofs.lemmas.Bool.{eqb-true, eq-eqb, ltb-true, lt-ltb, leb-true, le-leb}
+use Rattle.scan_spelling.proofs.Fitting.{and_true}
 use Rattle.scan_layout.specs.Layout.{Layout, Nodes, node, no_nodes, child, count, rows_of}
 use Rattle.scan_layout.specs.Check.{fault_in, faults_in, first_fault, ◌then◌, unless, child_types, serves, offsets_fit, rows_fault, all_have_rows, total_rows, node_fault, shape_fault}
 use Rattle.scan_layout.specs.Form.{HasForm, HaveForms, RowsFit, AllHaveRows, IsWellFormed}
-
-pub and_true : (a b : Bool) → (a && b) ≡ true → (a ≡ true) × (b ≡ true)
-and_true true b e = (refl, e)
-and_true false b e = absurd cc
 
 pub then_none_parts : (a b : Option LayoutFault) → (a then b) ≡ None → (a ≡ None) × (b ≡ None)
 then_none_parts None b e = (refl, e)

@@ -14,10 +14,10 @@ use Rattle.scan_layout.specs.Check.{child_types}
 use Rattle.scan_layout.specs.Form.{HasForm, HaveForms, RowsFit, AllHaveRows}
 use Rattle.scan_layout.specs.Laws.{Each, Agree}
 use Rattle.scan_layout.specs.RowValue.{row_value, nth_value, row_values, nth_rows, item_of, leaf_value, segment_value, offset_of, elements_between, values_from, struct_value, where_valid}
-use Rattle.scan_layout.specs.Places.{Place, places_of}
+use Rattle.scan_spelling.specs.Places.{Place, places_of}
 use Rattle.scan_layout.specs.Touched.{touched, below_step, nth_touched, all_touched, leaf_touched, under_step, struct_steps, least_offset, greatest_offset, lesser, greater, row_at, element_from, element_to}
-use Rattle.scan_layout.specs.Spelling.{decode}
-use Rattle.scan_layout.proofs.Forms.{and_true}
+use Rattle.scan_spelling.specs.Spelling.{decode}
+use Rattle.scan_spelling.proofs.Fitting.{and_true}
 
 pub agree_left : (P : Place → Type 0) (ps qs : List Place) → Each P (ps ++ qs) → Each P ps
 agree_left P [] qs h = tt

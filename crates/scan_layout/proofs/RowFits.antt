@@ -1,5 +1,5 @@
 -- A row of a well-formed layout has a value that fits its dtype.
-use Rattle.std.proofs.Common.{◌≡◌, ℕ, zero, suc, ◌+◌, ◌-◌, ◌<◌, ◌^◌, List, [], ◌∷◌, length, get_or, refl, ap, subst, Bool, false, true, Option, Some, None, arith, ◌&&◌}
+use Rattle.std.proofs.Common.{◌≡◌, ℕ, zero, suc, ◌+◌, ◌-◌, ◌<◌, ◌^◌, List, [], ◌∷◌, length, refl, ap, subst, Bool, false, true, Option, Some, None, arith, ◌&&◌}
 use Rattle.std.specs.Prelude.{option_and_then, nat_lt, nat_le, if◌then◌else◌, ℤ, pos, negsuc}
 use Rattle.std.proofs.lemmas.Bool.{ltb-true, lt-ltb}
 use Rattle.scan_values.specs.declared.ptype.Nullability.{Nullability}
@@ -12,19 +12,18 @@ use Rattle.scan_values.specs.Kinds.{is_scalar_type}
 use Rattle.scan_values.specs.Ranges.{in_range}
 use Rattle.scan_values.specs.Fits.{fits, fits_all, fits_fields, is_short}
 use Rattle.scan_values.specs.Marked.{Marked, lost, null, gone, boolean, integer, text, list, struct, listed}
-use Rattle.scan_values.specs.Val.{Val, null_val, marked, marked_all, vals_of}
+use Rattle.scan_values.specs.Val.{Val}
 use Rattle.scan_values.specs.Damage.{damaged_of}
 use Rattle.scan_segments.specs.Source.{Store}
 use Rattle.scan_layout.specs.declared.node.LayoutKind.TheVariants.{Leaf, Struct, List as List'}
 use Rattle.scan_layout.specs.Layout.{Layout, Nodes, node, no_nodes, child}
 use Rattle.scan_layout.specs.Form.{HasForm, HaveForms}
-use Rattle.scan_layout.specs.Spelling.{decode}
+use Rattle.scan_spelling.specs.Spelling.{decode}
 use Rattle.scan_layout.specs.RowValue.{row_value, nth_value, row_values, leaf_value, segment_value, item_of, where_valid, under, elements_between, offset_of, nth_rows, values_from}
-use Rattle.scan_layout.proofs.Forms.{and_true}
-use Rattle.scan_layout.specs.declared.spelling.Spelling.{Spelling}
-use Rattle.scan_layout.specs.Places.{Place, place_of, places_of}
-use Rattle.scan_layout.proofs.Lengths.{decode_length}
-use Rattle.scan_layout.proofs.Fitting.{decoded_fit}
+use Rattle.scan_spelling.proofs.Fitting.{decoded_fit, fits_at}
+use Rattle.scan_spelling.specs.declared.spelling.Spelling.{Spelling}
+use Rattle.scan_spelling.specs.Places.{Place, place_of, places_of}
+use Rattle.scan_spelling.proofs.Lengths.{decode_length}
 
 damaged_fits : (t : DataType) → is_scalar_type t ≡ true → fits (damaged_of t) t ≡ true
 damaged_fits (bool_type NonNullable) s = refl
@@ -35,11 +34,6 @@ damaged_fits (utf8_type NonNullable) s = refl
 damaged_fits (utf8_type Nullable) s = refl
 damaged_fits (list_type t n) s = absurd cc
 damaged_fits (struct_type fs n) s = absurd cc
-
-pub fits_at : (vs : List Val) (t : DataType) (i : ℕ) → fits_all (marked_all (vals_of vs)) t ≡ true → i < length vs → fits (marked (get_or vs i null_val)) t ≡ true
-fits_at [] t i e h = absurd (omega arith)
-fits_at (v ∷ vs) t zero e h = (and_true (fits (marked v) t) (fits_all (marked_all (vals_of vs)) t) e).0
-fits_at (v ∷ vs) t (suc i) e h = fits_at vs t i (and_true (fits (marked v) t) (fits_all (marked_all (vals_of vs)) t) e).1 (omega arith)
 
 item_fits : (sp : Spelling) (t : DataType) (n i : ℕ) (bytes : List ℕ) (o : Option (List Val)) → is_scalar_type t ≡ true → i < n → decode sp t n bytes ≡ o → fits (item_of t i o) t ≡ true
 item_fits sp t n i bytes None s h e = damaged_fits t s

@@ -13,7 +13,7 @@ use Rattle.scan_layout.specs.Edges.{MaskPath, is_all, place_of, at_place, matchi
 use Rattle.scan_layout.specs.Edges as edges
 use Rattle.scan_layout.specs.Slots.{every_field, field_of, named_fields}
 use Rattle.scan_layout.specs.Laws.{path_of, found_at, MasksSplitByFields}
-use Rattle.scan_layout.proofs.Lengths.{bind_some, map_some}
+use Rattle.scan_spelling.proofs.Lengths.{bind_some, map_some}
 
 same_all : (m : FieldMask) → is_all (path_of m) ≡ matches_all m
 same_all All = refl

@@ -7,12 +7,12 @@ use Rattle.scan_values.specs.Marked.{null, gone, integer, list, struct, none, mo
 use Rattle.scan_segments.specs.Source.{Store}
 use Rattle.scan_layout.specs.declared.node.LayoutKind.TheVariants.{Leaf, Struct, List as List'}
 use Rattle.scan_layout.specs.declared.fault.LayoutFault.TheVariants.{Offsets}
-use Rattle.scan_layout.specs.declared.spelling.Spelling.TheVariants.{One, Two}
+use Rattle.scan_spelling.specs.declared.spelling.Spelling.TheVariants.{One, Two}
 use Rattle.scan_layout.specs.Layout.{Layout, node, no_nodes, child}
 use Rattle.scan_layout.specs.Check.{first_fault}
-use Rattle.scan_layout.specs.declared.spelling.Spelling.{Spelling}
-use Rattle.scan_layout.specs.Spelling.{decode}
-use Rattle.scan_layout.specs.Written.{spelled}
+use Rattle.scan_spelling.specs.declared.spelling.Spelling.{Spelling}
+use Rattle.scan_spelling.specs.Spelling.{decode}
+use Rattle.scan_spelling.specs.Written.{spelled}
 use Rattle.scan_values.specs.Val.{Val, null_val, bool_val, int_val}
 use Rattle.scan_layout.specs.RowValue.{row_value}
 use Rattle.scan_layout.specs.Touched.{touched}

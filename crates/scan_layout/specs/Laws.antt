@@ -12,7 +12,7 @@ use Rattle.scan_segments.specs.Source.{Store}
 use Rattle.scan_layout.specs.declared.node.LayoutKind.TheVariants.{Leaf, Struct, List as List'}
 use Rattle.scan_layout.specs.Layout.{Layout, Nodes, node, no_nodes, child, rows_of}
 use Rattle.scan_layout.specs.Form.{HasForm}
-use Rattle.scan_layout.specs.Places.{Place, decoded}
+use Rattle.scan_spelling.specs.Places.{Place, decoded}
 use Rattle.scan_layout.specs.RowValue.{row_value, nth_value, nth_rows, offset_of}
 use Rattle.scan_layout.specs.Touched.{touched}
 use Rattle.scan_layout.specs.Edges.{MaskPath, matching}

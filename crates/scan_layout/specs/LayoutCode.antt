@@ -7,7 +7,7 @@ use Rattle.scan_values.specs.Trees.{left, right, itself}
 use Rattle.scan_values.specs.DataType.{tree, read, read-tree, ptype_tree, tree_ptype, tree_ptype-ptype_tree}
 use Rattle.scan_layout.specs.declared.node.LayoutKind.{LayoutKind}
 use Rattle.scan_layout.specs.declared.node.LayoutKind.TheVariants.{Leaf, Struct, List as List'}
-use Rattle.scan_layout.specs.declared.spelling.Spelling.TheVariants.{One, Two}
+use Rattle.scan_spelling.specs.declared.spelling.Spelling.TheVariants.{One, Two}
 use Rattle.scan_layout.specs.Layout.{Layout, Nodes, node, no_nodes, child}
 
 abbrev pub pairs_tree : List (ℕ × ℕ) → Gv

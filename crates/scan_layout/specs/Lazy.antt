@@ -3,6 +3,7 @@ use Rattle.std.specs.Prelude.{◌≡◌, ℕ, length, replicate, List, Option, N
 use Rattle.scan_values.specs.DataType.{DataType, Name}
 use Rattle.scan_layout.specs.declared.children.ChildTypes.{ChildTypes}
 use Rattle.scan_layout.specs.declared.children.ChildTypes.TheVariants.{Each, Uniform}
+use Rattle.scan_layout.specs.Contexts.{Context}
 use Rattle.scan_layout.specs.Layout.{Layout}
 
 -- there is a dtype and a name for each of so many children
@@ -24,13 +25,13 @@ pub record Children (V K M : Type 0) : Type 0 where
   pub nodes : List Layout
   pub dtypes : List DataType
   pub names : List Name
-  pub ctx : List (ℕ × V)
+  pub ctx : Context V
   pub opener : K
   pub made : List (Option M)
 
 -- what an opener makes of a node, a dtype, a name and a context
 abbrev pub Opens : Type 0 → Type 0 → Type 0 → Type 1
-Opens V K M = K → Layout → DataType → Name → List (ℕ × V) → M → Type 0
+Opens V K M = K → Layout → DataType → Name → Context V → M → Type 0
 
 module _ {V K M : Type 0} where
   -- the child of an index, where it is made

@@ -1,20 +1,21 @@
 -- How lazy children are kept as numbers, and read back.
-use Rattle.std.specs.Prelude.{ℕ, List, Option, refl}
+use Rattle.std.specs.Prelude.{List, Option, refl}
 use Rattle.std.specs.Coded.{Coded, code_by, coded×, coded_ℕ, coded_list, coded_option}
 use Rattle.scan_values.specs.DataType.{DataType, Name, data_type_code}
+use Rattle.scan_layout.specs.Contexts.{Context, context_code}
 use Rattle.scan_layout.specs.Layout.{Layout}
 use Rattle.scan_layout.specs.LayoutCode.{layouts_code}
 use Rattle.scan_layout.specs.Lazy.{Children}
 
 abbrev pub Parts : Type 0 → Type 0 → Type 0 → Type 0
-Parts V K M = List Layout × (List DataType × (List Name × (List (ℕ × V) × (K × List (Option M)))))
+Parts V K M = List Layout × (List DataType × (List Name × (Context V × (K × List (Option M)))))
 
 module _ {V K M : Type 0} where
   abbrev pub parts_code : Coded V → Coded K → Coded M → Coded (Parts V K M)
   parts_code v k m =
       coded× layouts_code (coded× (coded_list data_type_code)
       (coded× (coded_list (coded_list coded_ℕ))
-      (coded× (coded_list (coded× coded_ℕ v)) (coded× k (coded_list (coded_option m))))))
+      (coded× (context_code v) (coded× k (coded_list (coded_option m))))))
 
   abbrev pub to_parts : Children V K M → Parts V K M
   to_parts c = (c.nodes, (c.dtypes, (c.names, (c.ctx, (c.opener, c.made)))))

@@ -4,15 +4,10 @@ pub mod LayoutFalls
 pub mod LayoutView
 pub mod Check
 pub mod Form
-pub mod Spelling
-pub mod Spells
-pub mod Written
-pub mod Places
 pub mod RowValue
 pub mod Touched
 pub mod Edges
 pub mod PickGroups
-pub mod Decoded
 pub mod Laws
 pub mod Slots
 pub mod Contexts
@@ -21,6 +16,3 @@ pub mod LazyCode
 pub mod LazyLends
 pub mod OptionLends
 pub mod Examples
-pub mod LeafColumns
-pub mod TextColumns
-pub mod SlotValues

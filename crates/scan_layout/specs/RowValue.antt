@@ -9,7 +9,7 @@ use Rattle.scan_values.specs.Damage.{damaged_of}
 use Rattle.scan_segments.specs.Source.{Store}
 use Rattle.scan_layout.specs.declared.node.LayoutKind.TheVariants.{Leaf, Struct, List as List'}
 use Rattle.scan_layout.specs.Layout.{Layout, Nodes, node, no_nodes, child, rows_of}
-use Rattle.scan_layout.specs.Places.{Place, places_of, decoded}
+use Rattle.scan_spelling.specs.Places.{Place, places_of, decoded}
 
 -- row i of a segment of so many rows
 abbrev pub item_of : DataType → ℕ → Option (List Val) → Marked

@@ -7,7 +7,7 @@ use Rattle.scan_values.specs.Paths.{Step, to_field, to_validity, to_offsets, to_
 use Rattle.scan_segments.specs.Source.{Store}
 use Rattle.scan_layout.specs.declared.node.LayoutKind.TheVariants.{Leaf, Struct, List as List'}
 use Rattle.scan_layout.specs.Layout.{Layout, Nodes, node, no_nodes, child}
-use Rattle.scan_layout.specs.Places.{Place, places_of}
+use Rattle.scan_spelling.specs.Places.{Place, places_of}
 use Rattle.scan_layout.specs.RowValue.{nth_value, nth_rows, offset_of}
 
 abbrev pub below_step : Step → Place → Place

@@ -14,14 +14,14 @@ use thiserror::Error;
 
 /// Makes a child of a node.
 pub trait ChildOpener<V> {
-    ghost use Rattle.std.specs.Prelude.{ℕ, List};
     ghost use Rattle.scan_values.specs.DataType.{DataType, Name};
+    ghost use Rattle.scan_layout.specs.Contexts.{Context};
     ghost use Rattle.scan_layout.specs.Layout.{Layout};
 
     type Made: Drop;
 
     /// What it makes of a node, a dtype, a name and a context.
-    ghost makes: { Self → Layout → DataType → Name → List (ℕ × V) → Self.Made → Type 0 };
+    ghost makes: { Self → Layout → DataType → Name → Context V → Self.Made → Type 0 };
 
     /// The child of a node, of a dtype and a name.
     fn make(

@@ -51,6 +51,14 @@ impl<K: VTable> Layout<K> {
     {
         &self.node
     }
+
+    /// The layout's node, given away.
+    pub fn into_node(self) -> LayoutRef
+        ensures { result.value ≡ self }
+    {
+        let Layout { node, kind: _ } = self;
+        node
+    }
 }
 
 /// Why a slot has no dtype.

@@ -1,5 +1,5 @@
-//! Layout trees, their check, the spelling of leaf segments, typed layouts, the context of readers and children that
-//! are made at first use.
+//! Layout trees, their check, typed layouts, the context of readers and children that are made at first use. It gives
+//! the items of scan_spelling on, by which leaves are written and read.
 #![tactic(auto)]
 
 pub mod check;
@@ -9,7 +9,6 @@ pub mod laws;
 pub mod layouts;
 pub mod node;
 pub mod reader_context;
-pub mod spelling;
 
 pub use children::{ChildFault, ChildOpener, LazyReaderChildren};
 pub use fault::LayoutFault;
@@ -21,6 +20,7 @@ pub use layouts::struct_::{Struct, StructLayout, StructLayoutEncoding};
 pub use layouts::{Layout, MaskFault, SlotFault};
 pub use node::{LayoutKind, LayoutNode, LayoutRef, LeafSegments, Nodes};
 pub use reader_context::LayoutReaderContext;
-pub use spelling::{
-    DecodeFault, EncodeFault, LeafColumn, Spelling, decode_segment, encode_segment, recode_segment,
+pub use scan_spelling::{
+    BoolRun, DecodeFault, EncodeFault, IntRun, LeafColumn, Spelling, decode_segment,
+    encode_segment, keep_true, recode_segment,
 };

@@ -7,8 +7,8 @@ ghost use Rattle.scan_layout.specs.LayoutView.{layouts_of};
 
 use crate::check::total_rows;
 use crate::fault::LayoutFault;
-use crate::spelling::Spelling;
 use scan_segments::SegmentId;
+use scan_spelling::Spelling;
 use scan_values::{DType, NoMemory, PType};
 use std::alloc::Global;
 use std::marker::Model;

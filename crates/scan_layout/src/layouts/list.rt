@@ -282,3 +282,26 @@ fn slot_dtype(
         Nullability::Nullable => Ok(DType::bool(Nullability::NonNullable)),
     }
 }
+
+impl LayoutNode {
+    /// A node of a list of these children, its validity where it is nullable. It has one row less than offsets.
+    ///
+    /// # Errors
+    /// Those of `Layout::<List>::new`.
+    pub fn list(
+        alloc: Global,
+        dtype: DType,
+        elements: LayoutRef,
+        offsets: LayoutRef,
+        validity: Option<LayoutRef>,
+    ) -> Result<LayoutRef, LayoutFault>
+        ensures made { IfOk result (λ r. list_made_of dtype (offsets_type (dtype_of offsets.value))
+            elements.value offsets.value (optional_node validity) ≡ Some r.value) }
+        ensures first { TellsOrNoMemory result (level_fault_of
+            (list_made_of dtype (offsets_type (dtype_of offsets.value)) elements.value offsets.value
+            (optional_node validity))) }
+    {
+        let layout = Layout::<List>::new(alloc, dtype, elements, offsets, validity)?;
+        Ok(layout.into_node())
+    }
+}

@@ -242,3 +242,22 @@ fn matches_of(
         named_fields(alloc, fields, masks)
     }
 }
+
+impl LayoutNode {
+    /// A node of a struct of so many rows: its validity, where it is nullable, and a child for each field.
+    ///
+    /// # Errors
+    /// Those of `Layout::<Struct>::new`.
+    pub fn struct_(
+        alloc: Global,
+        dtype: DType,
+        row_count: u64,
+        children: Vec<LayoutRef>,
+    ) -> Result<LayoutRef, LayoutFault>
+        ensures made { IfOk result (λ r. r.value ≡ node dtype row_count LayoutKind.Struct (nodes (layouts_of children.items))) }
+        ensures first { TellsOrNoMemory result (level_fault (node dtype row_count LayoutKind.Struct (nodes (layouts_of children.items)))) }
+    {
+        let layout = Layout::<Struct>::new(alloc, row_count, dtype, children)?;
+        Ok(layout.into_node())
+    }
+}

@@ -1,6 +1,0 @@
-use Rattle.std.proofs.Common.{arith}
-use Rattle.scan_layout.proofs.Bytes.{small_bytes}
-use Rattle.scan_layout.proofs.spelling.read.read_segment.Goals as goal
-
-pub returns : goal.returns
-returns c = rw (small_bytes c.args.bytes.now (λ i. omega (arith, c.type_inv.bytes i)), ← c.nullability.ensures, ← c.kind.ensures) c.read_rows.ensures

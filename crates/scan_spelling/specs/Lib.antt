@@ -1,0 +1,9 @@
+pub mod Decoded
+pub mod LeafColumns
+pub mod Places
+pub mod SlotValues
+pub mod Spelling
+pub mod Spells
+pub mod TextColumns
+pub mod Written
+pub mod Typed
