@@ -1,5 +1,6 @@
 -- What operators make of typed cells.
-use Rattle.std.proofs.Common.{◌≡◌, ℕ, suc, ◌+◌, ℤ, Bool, true, false, not, ◌&&◌, ◌||◌, cond, List, [], ◌∷◌, ◌++◌, Some, slice_get, map, drop, length, replicate, refl, ap, sym, ◌∙◌}
+use Rattle.std.proofs.Common.{◌≡◌, ℕ, suc, ◌+◌, ℤ, Bool, true, false, not, ◌&&◌, ◌||◌, cond, List, [], ◌∷◌, ◌++◌, Some, slice_get, map, drop, length, replicate, refl, ap, sym, ◌∙◌, arith}
+use Rattle.std.specs.List.{zip}
 use Rattle.std.specs.Ordering.{int_cmp}
 use Rattle.scan_values.specs.DataType.{DataType, bool_type, nullability_of, is_nullable}
 use Rattle.scan_values.specs.declared.ptype.Nullability.{Nullability}
@@ -7,7 +8,7 @@ use Rattle.scan_values.specs.declared.ptype.Nullability.TheVariants.{Nullable}
 use Rattle.scan_values.specs.Damage.{damaged}
 use Rattle.scan_values.specs.Fits.{fits_int}
 use Rattle.scan_values.specs.Marked.{null, gone, boolean, integer, is_true}
-use Rattle.scan_values.specs.Masks.{null_where_false}
+use Rattle.scan_values.specs.Masks.{both_true, null_where_false}
 use Rattle.scan_values.specs.Val.{Val, null_val, bool_val, int_val, text_val, list_val, struct_val, marked, read_marked, read-marked}
 use Rattle.scan_expr.specs.declared.op.Unary.TheVariants.{Not, ListLength}
 use Rattle.scan_expr.specs.declared.op.Binary.{Binary}
@@ -251,3 +252,23 @@ pub slot_step : {A : Type 0} (f : A → Val) (g : Val → Val) (vs : List Val) (
 slot_step f g vs k v xs more bs longer z b at m n is even inv =
     let next : map g (drop k vs) ≡ g v ∷ map g (drop (k + 1) vs) = λ i. map g (drop_got vs k (k + 1) v at refl i) in
     (rw (m, n) (pushed_even xs bs z b even), rw (m, n) (typed_step f xs bs z b (g v) (map g (drop (k + 1) vs)) (map g vs) even (sym is) (ap (λ us. typed f xs bs ++ us) (sym next) ∙ inv)))
+
+-- ---- two columns of numbers, side by side
+pub compare_pairs : (op : Binary) (xs ys : List ℤ) (bs cs : List Bool) → is_comparison op ≡ true → length bs ≡ length xs → length cs ≡ length ys
+    → typed bool_val (map (λ p. holds op (int_cmp p.0 p.1)) (zip xs ys)) (both_true bs cs) ≡ paired (pair_val op) (typed int_val xs bs) (typed int_val ys cs)
+compare_pairs op [] ys bs cs k h g = refl
+compare_pairs op (x ∷ xs) ys [] cs k h g = absurd (omega (arith, h))
+compare_pairs op (x ∷ xs) [] (b ∷ bs) cs k h g = refl
+compare_pairs op (x ∷ xs) (y ∷ ys) (b ∷ bs) [] k h g = absurd (omega (arith, g))
+compare_pairs op (x ∷ xs) (y ∷ ys) (b ∷ bs) (c ∷ cs) k h g = λ i. compare_cells op x y b c k i ∷ compare_pairs op xs ys bs cs k (omega (arith, h)) (omega (arith, g)) i
+
+pub pairs_long : (op : Binary) (xs ys : List ℤ) (bs cs : List Bool) → length bs ≡ length xs → length cs ≡ length ys → length ys ≡ length xs
+    → length (both_true bs cs) ≡ length (map (λ p. holds op (int_cmp p.0 p.1)) (zip xs ys))
+pairs_long op [] [] [] [] h g e = refl
+pairs_long op [] ys (b ∷ bs) cs h g e = absurd (omega (arith, h))
+pairs_long op [] ys [] (c ∷ cs) h g e = refl
+pairs_long op [] (y ∷ ys) [] [] h g e = absurd (omega (arith, e))
+pairs_long op (x ∷ xs) ys [] cs h g e = absurd (omega (arith, h))
+pairs_long op (x ∷ xs) [] (b ∷ bs) cs h g e = absurd (omega (arith, e))
+pairs_long op (x ∷ xs) (y ∷ ys) (b ∷ bs) [] h g e = absurd (omega (arith, g))
+pairs_long op (x ∷ xs) (y ∷ ys) (b ∷ bs) (c ∷ cs) h g e = λ i. suc (pairs_long op xs ys bs cs (omega (arith, h)) (omega (arith, g)) (omega (arith, e)) i)

@@ -14,4 +14,8 @@ pub mod Pairing
 pub mod Joining
 pub mod KernelLemmas
 pub mod PickLemmas
+pub mod LastUses
 pub mod StructLemmas
+pub mod KeptLemmas
+pub mod AccessLemmas
+pub mod ColumnsSent

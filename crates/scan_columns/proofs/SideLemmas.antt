@@ -70,3 +70,7 @@ by_order op s e b a Greater = rw (a, e) (upper (holds op Greater) (holds op Equa
 pub sided_all : (op : Binary) (s : Sides) (lit : ℤ) (zs : List ℤ) → ((o : Ordering) → sided s o ≡ holds op o) → map (λ z. sided s (int_cmp z lit)) zs ≡ map (λ z. holds op (int_cmp z lit)) zs
 sided_all op s lit [] h = refl
 sided_all op s lit (z ∷ zs) h = λ i. h (int_cmp z lit) i ∷ sided_all op s lit zs h i
+
+pub sided_pairs : (op : Binary) (s : Sides) (ps : List (ℤ × ℤ)) → ((o : Ordering) → sided s o ≡ holds op o) → map (λ p. sided s (int_cmp p.0 p.1)) ps ≡ map (λ p. holds op (int_cmp p.0 p.1)) ps
+sided_pairs op s [] h = refl
+sided_pairs op s (p ∷ ps) h = λ i. h (int_cmp p.0 p.1) i ∷ sided_pairs op s ps h i

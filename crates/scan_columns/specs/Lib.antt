@@ -10,3 +10,6 @@ pub mod Joined
 pub mod Literals
 pub mod Operands
 pub mod Rows
+pub mod Kept
+pub mod LastUses
+pub mod Access

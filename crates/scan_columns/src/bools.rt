@@ -1,16 +1,20 @@
 // Truth values, kept as bits.
-ghost use Rattle.std.specs.Prelude.{◌≡◌, ◌<◌, ◌≤◌, ◌++◌, ◌∷◌, [], slice_range, cond, IfOk, IfSome, Some, map, length, slice_get};
+ghost use Rattle.std.specs.Prelude.{◌≡◌, ◌<◌, ◌≤◌, ◌++◌, ◌∷◌, [], slice_range, cond, IfOk, IfSome, Some, map, length, slice_get, ◌||◌, true};
 ghost use Rattle.std.specs.List.{items_where_true};
 ghost use Rattle.scan_values.specs.Marked.{is_true};
 ghost use Rattle.scan_values.specs.Values.{val_of};
 ghost use Rattle.scan_values.specs.Val.{marked, null_val, bool_val};
 ghost use Rattle.scan_values.specs.Masks.{null_where_false};
 ghost use Rattle.scan_expr.specs.Eval.{is_nothing};
-ghost use Rattle.scan_layout.specs.LeafColumns.{bool_or_null};
 ghost use Rattle.scan_columns.specs.Typed.{typed, cell};
-ghost use Rattle.scan_columns.specs.Evaluated.{not_val};
+ghost use Rattle.scan_columns.specs.Evaluated.{not_val, paired};
+ghost use Rattle.scan_columns.specs.Literals.{is_comparison, is_logic};
+ghost use Rattle.scan_columns.specs.Operands.{pair_val};
 
 use crate::slots::{both, contrary, kept};
+use crate::truths::paired_slots;
+use scan_expr::Binary;
+use scan_spelling::BoolRun;
 use scan_values::{Mask, NoMemory, Value};
 use std::alloc::Global;
 use std::marker::Model;
@@ -137,18 +141,18 @@ impl Bools {
         Ok(Bools::new(values, valid))
     }
 
-    /// These, and then one more.
-    #[tactic(auto, using(crate::proofs::TypedLemmas::typed_append, crate::proofs::TypedLemmas::pushed_even))]
-    pub fn pushed(self, value: Option<bool>) -> Result<Bools, NoMemory>
-        ensures { IfOk result (λ v. v ≡ self ++ bool_or_null value ∷ []) }
+    /// These, and then those of a run.
+    #[tactic(auto, using(crate::proofs::KeptLemmas::none_before))]
+    pub fn extend(self, run: BoolRun) -> Result<Bools, NoMemory>
+        ensures { IfOk result (λ v. v ≡ self ++ run) }
     {
-        let Bools {
-            mut values,
-            mut valid,
-        } = self;
-        values.push(value.unwrap_or(false))?;
-        valid.push(value.is_some())?;
-        Ok(Bools::new(values, valid))
+        let (bits, valid) = run.into_parts();
+        let more = Bools::new(bits, valid);
+        if self.len() == 0 {
+            Ok(more)
+        } else {
+            self.append(&more)
+        }
     }
 
     /// A copy that equals this one.
@@ -162,6 +166,26 @@ impl Bools {
 }
 
 impl Bools {
+    /// What an operator makes of each pair of these and others.
+    #[tactic(auto, using(crate::proofs::TypedLemmas::typed_length))]
+    pub fn pair(&self, alloc: Global, op: Binary, other: &Bools) -> Result<Bools, NoMemory>
+        requires kind { (is_comparison op || is_logic op) ≡ true }
+        requires even { length other.now ≡ length self.now }
+        ensures { IfOk result (λ v. v ≡ paired (pair_val op) self.now other.now) }
+    {
+        let bits = vec![in alloc; false; self.len()]?;
+        let valid = vec![in alloc; false; self.len()]?;
+        Ok(pairs_written(
+            op,
+            bits,
+            valid,
+            self.values.as_slice(),
+            self.valid.as_slice(),
+            other.values.as_slice(),
+            other.valid.as_slice(),
+        ))
+    }
+
     /// These truth values, each there.
     #[tactic(auto, using(crate::proofs::KernelLemmas::typed_full))]
     pub fn of_bits(alloc: Global, bits: Vec<bool>) -> Result<Bools, NoMemory>
@@ -189,6 +213,34 @@ impl Bools {
         let bits = both(alloc, self.values.as_slice(), self.valid.as_slice())?;
         Ok(Mask::from_bools(bits))
     }
+}
+
+/// What an operator makes of each pair of slots, written over others.
+fn pairs_written(
+    op: Binary,
+    bits: Vec<bool>,
+    valid: Vec<bool>,
+    x: &[bool],
+    x_valid: &[bool],
+    y: &[bool],
+    y_valid: &[bool],
+) -> Bools
+    requires kind { (is_comparison op || is_logic op) ≡ true }
+    requires length { length valid.items ≡ length bits.items }
+    requires first { length x.now ≡ length bits.items }
+    requires first_valid { length x_valid.now ≡ length bits.items }
+    requires second { length y.now ≡ length bits.items }
+    requires second_valid { length y_valid.now ≡ length bits.items }
+    ensures { result ≡ paired (pair_val op) (typed bool_val x.now x_valid.now) (typed bool_val y.now y_valid.now) }
+{
+    let mut bits = bits;
+    let mut valid = valid;
+    for i in 0..bits.len() {
+        let (bit, there) = paired_slots(op, (x[i], x_valid[i]), (y[i], y_valid[i]));
+        bits[i] = bit;
+        valid[i] = there;
+    }
+    Bools::new(bits, valid)
 }
 
 fn bool_cell(b: bool, valid: bool) -> Value

@@ -1,8 +1,8 @@
 // The cells of a column, by kind.
-ghost use Rattle.std.specs.Prelude.{◌≡◌, ◌<◌, ◌≤◌, ◌++◌, IfOk, Some, map, length, slice_get, slice_range};
+ghost use Rattle.std.specs.Prelude.{◌≡◌, ◌<◌, ◌≤◌, ◌++◌, IfOk, IfSome, Some, map, length, slice_get, slice_range};
 ghost use Rattle.std.specs.List.{items_where_true};
 ghost use Rattle.scan_values.specs.Values.{val_of};
-ghost use Rattle.scan_values.specs.Val.{marked};
+ghost use Rattle.scan_values.specs.Val.{marked, int_val};
 ghost use Rattle.scan_values.specs.Marked.{is_true};
 ghost use Rattle.scan_values.specs.Masks.{null_where_false};
 ghost use Rattle.scan_expr.specs.Eval.{is_nothing};
@@ -131,6 +131,16 @@ impl Cells {
             Cells::Constant(constant) => constant.len(),
             Cells::Lists(lists) => lists.len(),
             Cells::Structs(structs) => structs.len(),
+        }
+    }
+
+    /// The numbers, where they are kept as integers, all are there, and none is past those of an i64.
+    pub fn numbers<'a>(&'a self) -> Option<&'a [i64]>
+        ensures { IfSome result (λ xs. map int_val xs.now ≡ vals_in self.entry.now) }
+    {
+        match self {
+            Cells::Ints(ints) => ints.numbers(),
+            _ => None,
         }
     }
 

@@ -1,9 +1,9 @@
 // Columns.
-ghost use Rattle.std.specs.Prelude.{◌≡◌, ◌<◌, ◌≤◌, ◌==◌, ◌++◌, IfOk, Some, map, length, replicate, true, slice_get, slice_range};
+ghost use Rattle.std.specs.Prelude.{◌≡◌, ◌<◌, ◌≤◌, ◌==◌, ◌++◌, IfOk, IfSome, Some, map, length, replicate, true, slice_get, slice_range};
 ghost use Rattle.std.specs.List.{items_where_true};
 ghost use Rattle.scan_values.specs.Arrays.{of_parts};
 ghost use Rattle.scan_values.specs.Values.{val_of};
-ghost use Rattle.scan_values.specs.Val.{vals_of, marked, marked_all};
+ghost use Rattle.scan_values.specs.Val.{vals_of, marked, marked_all, int_val};
 ghost use Rattle.scan_values.specs.Fits.{fits, fits_all, is_bool_type};
 ghost use Rattle.scan_values.specs.Marked.{is_true};
 ghost use Rattle.scan_values.specs.Masks.{null_where_false};
@@ -15,6 +15,7 @@ ghost use Rattle.scan_columns.specs.Cells.{vals_in};
 
 use crate::cells::Cells;
 use crate::constant::Constant;
+use crate::ints::Ints;
 use scan_expr::Lent;
 use scan_values::{Array, DType, Mask, NoMemory, Nullability, Value};
 use std::alloc::Global;
@@ -74,6 +75,26 @@ impl Column {
         ensures { result ≡ of_parts dtype.value (replicate len (val_of value)) }
     {
         Column::of_fitting(dtype, Cells::Constant(Constant::new(value, len)))
+    }
+
+    /// These numbers, which are of the dtype.
+    pub fn of_numbers(
+        alloc: Global,
+        dtype: Arc<DType>,
+        numbers: Vec<i64>,
+    ) -> Result<Column, NoMemory>
+        requires { fits_all (marked_all (vals_of (map int_val numbers.items))) dtype.value ≡ true }
+        ensures { IfOk result (λ c. c ≡ of_parts dtype.value (map int_val numbers.items)) }
+    {
+        let ints = Ints::of_numbers(alloc, numbers)?;
+        Ok(Column::of_fitting(dtype, Cells::Ints(ints)))
+    }
+
+    /// The numbers, where the values are kept as integers, all are there, and none is past those of an i64.
+    pub fn numbers<'a>(&'a self) -> Option<&'a [i64]>
+        ensures { IfSome result (λ xs. map int_val xs.now ≡ self.entry.now.items) }
+    {
+        self.cells.numbers()
     }
 
     /// The dtype of the values.
@@ -158,11 +179,15 @@ impl Column {
         Ok(Column { dtype, cells })
     }
 
-    /// The values, and then those of another column of the dtype.
+    /// The values, and then those of another column of the dtype, which are moved where there is no value yet.
+    #[tactic(auto, using(crate::proofs::KeptLemmas::joined_none))]
     pub fn append(self, alloc: Global, other: Column) -> Result<Column, NoMemory>
         requires { other.dtype ≡ self.dtype }
         ensures { IfOk result (λ c. c ≡ of_parts self.dtype (self.items ++ other.items)) }
     {
+        if self.is_empty() {
+            return Ok(other);
+        }
         let Column { dtype, cells } = self;
         let cells = cells.append(alloc, other.cells)?;
         Ok(Column { dtype, cells })

@@ -1,5 +1,6 @@
 // One value compared with a number.
 ghost use Rattle.std.specs.Prelude.{◌≡◌, length, map, true, false};
+ghost use Rattle.std.specs.List.{zip};
 ghost use Rattle.std.specs.Ordering.{int_cmp};
 ghost use Rattle.std.specs.declared.cmp.Ordering.{Ordering};
 ghost use Rattle.scan_values.specs.Values.{val_of};
@@ -66,6 +67,19 @@ impl Sides {
         }
     }
 
+    /// Of each pair of numbers whether it holds of them, in bits that are so many.
+    pub(crate) fn write_each(self, bits: Vec<bool>, numbers: &[i64], others: &[i64]) -> Vec<bool>
+        requires first { length bits.items ≡ length numbers.now }
+        requires second { length bits.items ≡ length others.now }
+        ensures { result.items ≡ map (λ p. sided self (int_cmp p.0 p.1)) (zip numbers.now others.now) }
+    {
+        let mut bits = bits;
+        for i in 0..bits.len() {
+            bits[i] = lies_apart(self, numbers[i], others[i]);
+        }
+        bits
+    }
+
     /// Of each number whether it holds of that and another, in bits that are so many.
     pub(crate) fn write(self, bits: Vec<bool>, numbers: &[i128], literal: i128) -> Vec<bool>
         requires { length bits.items ≡ length numbers.now }
@@ -81,6 +95,13 @@ impl Sides {
             write_above(bits, self.above, self.other, numbers, literal)
         }
     }
+}
+
+/// Whether a comparison by these sides holds of two numbers.
+fn lies_apart(sides: Sides, number: i64, other: i64) -> bool
+    ensures { result ≡ sided sides (int_cmp number other) }
+{
+    ((sides.below & (number < other)) | (sides.above & (other < number))) == sides.other
 }
 
 /// The bits of a comparison of which both sides are other than equal numbers.

@@ -13,6 +13,7 @@ use crate::by_value::checked_of;
 use crate::cells::Cells;
 use crate::compared::holds_of;
 use crate::ints::Ints;
+use crate::kept::Kept;
 use scan_expr::{ApplyFault, Binary};
 use scan_values::{DType, NoMemory};
 use std::alloc::Global;
@@ -59,8 +60,29 @@ fn compared_slots(op: Binary, x: (i128, bool), y: (i128, bool)) -> (bool, bool)
     (holds_of(op, x.0.cmp(&y.0)), x.1 & y.1)
 }
 
-/// Of each pair of integers whether a comparison holds.
+/// Of each pair of integers whether a comparison holds: of two columns of i64 at once.
 pub(crate) fn numbers_compared<'a>(
+    alloc: Global,
+    op: Binary,
+    x: Numbers<'a>,
+    y: Numbers<'a>,
+    len: usize,
+) -> Result<Bools, NoMemory>
+    requires compares { is_comparison op ≡ true }
+    requires first { length (numbers_in x) ≡ len }
+    requires second { length (numbers_in y) ≡ len }
+    ensures { IfOk result (λ v. v ≡ paired (pair_val op) (numbers_in x.entry) (numbers_in y.entry)) }
+{
+    if let (Numbers::Each(first), Numbers::Each(second)) = (x, y) {
+        if let Some(made) = first.compare_each(alloc, op, second)? {
+            return Ok(made);
+        }
+    }
+    slots_compared(alloc, op, x, y, len)
+}
+
+/// The same, slot by slot.
+fn slots_compared<'a>(
     alloc: Global,
     op: Binary,
     x: Numbers<'a>,
@@ -129,5 +151,6 @@ pub(crate) fn numbers_summed<'a>(
         values.push(sum)?;
         valid.push(there)?;
     }
-    Ok(Ints::new(values, valid))
+    let numbers = Kept::of_wide(alloc, values)?;
+    Ok(Ints::new(numbers, valid))
 }

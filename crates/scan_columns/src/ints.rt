@@ -1,5 +1,5 @@
 // Integers, kept as numbers.
-ghost use Rattle.std.specs.Prelude.{◌≡◌, ◌<◌, ◌≤◌, ◌++◌, ◌∷◌, [], slice_range, cond, IfOk, IfSome, Some, map, length, slice_get};
+ghost use Rattle.std.specs.Prelude.{◌≡◌, ◌<◌, ◌≤◌, ◌++◌, ◌∷◌, [], slice_range, cond, IfOk, IfSome, Some, map, length, slice_get, true};
 ghost use Rattle.std.specs.List.{items_where_true};
 ghost use Rattle.std.specs.Ordering.{int_cmp};
 ghost use Rattle.scan_expr.specs.Eval.{holds};
@@ -8,22 +8,28 @@ ghost use Rattle.scan_values.specs.Values.{val_of};
 ghost use Rattle.scan_values.specs.Val.{marked, null_val, int_val};
 ghost use Rattle.scan_values.specs.Masks.{null_where_false};
 ghost use Rattle.scan_expr.specs.Eval.{is_nothing};
-ghost use Rattle.scan_layout.specs.LeafColumns.{int_or_null};
+ghost use Rattle.scan_spelling.specs.LeafColumns.{int_or_null};
 ghost use Rattle.scan_columns.specs.Typed.{typed, cell};
+ghost use Rattle.scan_columns.specs.Kept.{numbers_in};
+ghost use Rattle.scan_columns.specs.Evaluated.{paired};
+ghost use Rattle.scan_columns.specs.Literals.{is_comparison};
+ghost use Rattle.scan_columns.specs.Operands.{pair_val};
 
 use crate::bools::Bools;
 use crate::compared::Sides;
-use crate::slots::{both, contrary, kept};
+use crate::kept::Kept;
+use crate::slots::{all_true, both, contrary, kept};
 use scan_expr::Binary;
+use scan_spelling::IntRun;
 use scan_values::{Mask, NoMemory, Value};
-use std::alloc::Global;
+use std::alloc::{AllocError, Global};
 use std::marker::Model;
 use std::ops::Range;
 
 /// Integers, each with whether it is there.
 #[derive(Drop)]
 pub struct Ints {
-    values: Vec<i128>,
+    numbers: Kept,
     valid: Vec<bool>,
 }
 
@@ -37,18 +43,20 @@ impl Model for Ints {
 
     ghost coded = { coded_list val_code };
 
-    ghost view = { λ a. typed int_val a.values.items a.valid.items };
+    ghost use Rattle.scan_columns.specs.Kept.{numbers_in};
 
-    ghost invariant = { λ a. length a.valid.items ≡ length a.values.items };
+    ghost view = { λ a. typed int_val (numbers_in a.numbers) a.valid.items };
+
+    ghost invariant = { λ a. length a.valid.items ≡ length (numbers_in a.numbers) };
 }
 
 impl Ints {
     /// These values, null where `valid` is false.
-    pub fn new(values: Vec<i128>, valid: Vec<bool>) -> Ints
-        requires { length valid.items ≡ length values.items }
-        ensures { result ≡ typed int_val values.items valid.items }
+    pub fn new(numbers: Kept, valid: Vec<bool>) -> Ints
+        requires { length valid.items ≡ length (numbers_in numbers) }
+        ensures { result ≡ typed int_val (numbers_in numbers) valid.items }
     {
-        Ints { values, valid }
+        Ints { numbers, valid }
     }
 
     /// How many.
@@ -56,7 +64,7 @@ impl Ints {
     pub fn len(&self) -> usize
         ensures { result ≡ length self.now }
     {
-        self.values.len()
+        self.numbers.len()
     }
 
     /// The value at a place.
@@ -65,7 +73,7 @@ impl Ints {
         requires { i < length self.now }
         ensures { Some (val_of result) ≡ slice_get self.now i }
     {
-        int_at(self.values.as_slice(), self.valid.as_slice(), i)
+        int_at(&self.numbers, self.valid.as_slice(), i)
     }
 
     /// The number of the slot at a place, and whether it is there.
@@ -74,14 +82,38 @@ impl Ints {
         requires { i < length self.now }
         ensures { Some (cell int_val result) ≡ slice_get self.now i }
     {
-        int_slot_at(self.values.as_slice(), self.valid.as_slice(), i)
+        int_slot_at(&self.numbers, self.valid.as_slice(), i)
+    }
+
+    /// The numbers, where all are there and they are kept as i64.
+    #[tactic(auto, using(crate::proofs::KeptLemmas::typed_all))]
+    pub fn numbers<'a>(&'a self) -> Option<&'a [i64]>
+        ensures { IfSome result (λ xs. map int_val xs.now ≡ self.entry.now) }
+    {
+        if all_true(self.valid.as_slice()) {
+            self.numbers.as_narrow()
+        } else {
+            None
+        }
+    }
+
+    /// These numbers, each there.
+    #[tactic(auto, using(crate::proofs::KernelLemmas::typed_full))]
+    pub fn of_numbers(alloc: Global, numbers: Vec<i64>) -> Result<Ints, NoMemory>
+        ensures { IfOk result (λ v. v ≡ map int_val numbers.items) }
+    {
+        let valid = vec![in alloc; true; numbers.len()]?;
+        Ok(Ints::new(Kept::Narrow(numbers), valid))
     }
 
     /// The values.
     pub fn to_values(&self, alloc: Global) -> Result<Vec<Value>, NoMemory>
         ensures { IfOk result (λ v. map val_of v.items ≡ self.now) }
     {
-        int_values(alloc, self.values.as_slice(), self.valid.as_slice())
+        match &self.numbers {
+            Kept::Narrow(numbers) => narrow_values(alloc, numbers, self.valid.as_slice()),
+            Kept::Wide(numbers) => int_values(alloc, numbers, self.valid.as_slice()),
+        }
     }
 
     /// Where there is no value.
@@ -99,9 +131,9 @@ impl Ints {
         requires { length m.now ≡ length self.now }
         ensures { IfOk result (λ v. v ≡ items_where_true m.now self.now) }
     {
-        let values = kept(alloc, self.values.as_slice(), m)?;
+        let numbers = self.numbers.filter(alloc, m)?;
         let valid = kept(alloc, self.valid.as_slice(), m)?;
-        Ok(Ints::new(values, valid))
+        Ok(Ints::new(numbers, valid))
     }
 
     /// These, null where the mask is false.
@@ -110,9 +142,9 @@ impl Ints {
         requires { length m.now ≡ length self.now }
         ensures { IfOk result (λ v. v ≡ null_where_false m.now self.now) }
     {
-        let values = Vec::from_slice(alloc, self.values.as_slice())?;
+        let numbers = self.numbers.try_clone(alloc)?;
         let valid = both(alloc, self.valid.as_slice(), m.as_slice())?;
-        Ok(Ints::new(values, valid))
+        Ok(Ints::new(numbers, valid))
     }
 
     /// Those of a range of places.
@@ -122,9 +154,10 @@ impl Ints {
         requires within { r.end ≤ length self.now }
         ensures { IfOk result (λ v. v ≡ slice_range self.now r.start r.end) }
     {
-        let values = Vec::from_slice(alloc, &self.values[r.start..r.end])?;
-        let valid = Vec::from_slice(alloc, &self.valid[r.start..r.end])?;
-        Ok(Ints::new(values, valid))
+        let (start, end) = (r.start, r.end);
+        let numbers = self.numbers.slice(alloc, start..end)?;
+        let valid = Vec::from_slice(alloc, &self.valid[start..end])?;
+        Ok(Ints::new(numbers, valid))
     }
 
     /// These, and then the others.
@@ -132,13 +165,25 @@ impl Ints {
     pub fn append(self, other: &Ints) -> Result<Ints, NoMemory>
         ensures { IfOk result (λ v. v ≡ self ++ other.now) }
     {
-        let Ints {
-            mut values,
-            mut valid,
-        } = self;
-        values.extend_from_slice(other.values.as_slice())?;
+        let Ints { numbers, mut valid } = self;
+        let alloc = *valid.allocator();
+        let numbers = numbers.append(alloc, &other.numbers)?;
         valid.extend_from_slice(other.valid.as_slice())?;
-        Ok(Ints::new(values, valid))
+        Ok(Ints::new(numbers, valid))
+    }
+
+    /// These, and then those of a run.
+    #[tactic(auto, using(crate::proofs::KeptLemmas::none_before))]
+    pub fn extend(self, run: IntRun) -> Result<Ints, NoMemory>
+        ensures { IfOk result (λ v. v ≡ self ++ run) }
+    {
+        let (numbers, valid) = run.into_parts();
+        let more = Ints::new(Kept::Narrow(numbers), valid);
+        if self.len() == 0 {
+            Ok(more)
+        } else {
+            self.append(&more)
+        }
     }
 
     /// These, and then one more.
@@ -146,22 +191,20 @@ impl Ints {
     pub fn pushed(self, value: Option<i128>) -> Result<Ints, NoMemory>
         ensures { IfOk result (λ v. v ≡ self ++ int_or_null value ∷ []) }
     {
-        let Ints {
-            mut values,
-            mut valid,
-        } = self;
-        values.push(value.unwrap_or(0))?;
+        let Ints { numbers, mut valid } = self;
+        let alloc = *valid.allocator();
+        let numbers = numbers.pushed(alloc, value.unwrap_or(0))?;
         valid.push(value.is_some())?;
-        Ok(Ints::new(values, valid))
+        Ok(Ints::new(numbers, valid))
     }
 
     /// A copy that equals this one.
     pub fn try_clone(&self, alloc: Global) -> Result<Ints, NoMemory>
         ensures { IfOk result (λ v. v ≡ self.now) }
     {
-        let values = Vec::from_slice(alloc, self.values.as_slice())?;
+        let numbers = self.numbers.try_clone(alloc)?;
         let valid = Vec::from_slice(alloc, self.valid.as_slice())?;
-        Ok(Ints::new(values, valid))
+        Ok(Ints::new(numbers, valid))
     }
 }
 
@@ -171,42 +214,98 @@ impl Ints {
     pub fn compare(&self, alloc: Global, op: Binary, literal: i128) -> Result<Bools, NoMemory>
         ensures { IfOk result (λ b. b ≡ map (compare_val op literal) self.now) }
     {
-        let values = compared(alloc, op, self.values.as_slice(), literal)?;
+        let values = self.numbers.compare(alloc, op, literal)?;
         let valid = Vec::from_slice(alloc, self.valid.as_slice())?;
         Ok(Bools::new(values, valid))
     }
 }
 
-fn int_cell(number: &i128, valid: bool) -> Value
-    ensures { val_of result ≡ cond valid (int_val number.now) null_val }
+impl Ints {
+    /// Of each pair of these and others whether it compares so, where both are kept as i64.
+    #[tactic(auto, using(crate::proofs::TypedLemmas::typed_length, crate::proofs::KernelLemmas::compare_pairs, crate::proofs::KernelLemmas::pairs_long))]
+    pub fn compare_each(
+        &self,
+        alloc: Global,
+        op: Binary,
+        other: &Ints,
+    ) -> Result<Option<Bools>, NoMemory>
+        requires compares { is_comparison op ≡ true }
+        requires even { length other.now ≡ length self.now }
+        ensures { IfOk result (λ o. IfSome o (λ b. b ≡ paired (pair_val op) self.now other.now)) }
+    {
+        let Some(values) = self.numbers.compare_each(alloc, op, &other.numbers)? else {
+            return Ok(None);
+        };
+        let valid = both(alloc, self.valid.as_slice(), other.valid.as_slice())?;
+        Ok(Some(Bools::new(values, valid)))
+    }
+}
+
+fn int_cell(number: i128, valid: bool) -> Value
+    ensures { val_of result ≡ cond valid (int_val number) null_val }
 {
     if valid {
-        Value::Int(*number)
+        Value::Int(number)
     } else {
         Value::Null
     }
 }
 
-fn int_at(values: &[i128], valid: &[bool], i: usize) -> Value
-    requires place { i < length values.now }
-    requires even { length valid.now ≡ length values.now }
-    ensures { Some (val_of result) ≡ slice_get (typed int_val values.now valid.now) i }
+fn int_at(numbers: &Kept, valid: &[bool], i: usize) -> Value
+    requires place { i < length (numbers_in numbers.now) }
+    requires even { length valid.now ≡ length (numbers_in numbers.now) }
+    ensures { Some (val_of result) ≡ slice_get (typed int_val (numbers_in numbers.now) valid.now) i }
 {
-    int_cell(&values[i], valid[i])
+    int_cell(numbers.at(i), valid[i])
 }
 
-fn int_pair(number: &i128, there: bool) -> (i128, bool)
-    ensures { cell int_val result ≡ cond there (int_val number.now) null_val }
+fn int_pair(number: i128, there: bool) -> (i128, bool)
+    ensures { cell int_val result ≡ cond there (int_val number) null_val }
 {
-    (*number, there)
+    (number, there)
 }
 
-fn int_slot_at(values: &[i128], valid: &[bool], i: usize) -> (i128, bool)
-    requires place { i < length values.now }
-    requires even { length valid.now ≡ length values.now }
-    ensures { Some (cell int_val result) ≡ slice_get (typed int_val values.now valid.now) i }
+fn int_slot_at(numbers: &Kept, valid: &[bool], i: usize) -> (i128, bool)
+    requires place { i < length (numbers_in numbers.now) }
+    requires even { length valid.now ≡ length (numbers_in numbers.now) }
+    ensures { Some (cell int_val result) ≡ slice_get (typed int_val (numbers_in numbers.now) valid.now) i }
 {
-    int_pair(&values[i], valid[i])
+    int_pair(numbers.at(i), valid[i])
+}
+
+fn int_value(number: i64) -> Value
+    ensures { val_of result ≡ int_val number }
+{
+    Value::Int(i128::from(number))
+}
+
+fn full_values(alloc: Global, numbers: &[i64]) -> Result<Vec<Value>, AllocError>
+    ensures { IfOk result (λ v. map val_of v.items ≡ map int_val numbers.now) }
+{
+    numbers.iter().map(|n| int_value(*n)).collect(alloc)
+}
+
+#[tactic(auto, using(crate::proofs::KeptLemmas::typed_all))]
+fn narrow_values(alloc: Global, values: &[i64], valid: &[bool]) -> Result<Vec<Value>, NoMemory>
+    requires { length valid.now ≡ length values.now }
+    ensures { IfOk result (λ v. map val_of v.items ≡ typed int_val values.now valid.now) }
+{
+    if all_true(valid) {
+        let made = full_values(alloc, values)?;
+        return Ok(made);
+    }
+    null_values(alloc, values, valid)
+}
+
+fn null_values(alloc: Global, values: &[i64], valid: &[bool]) -> Result<Vec<Value>, NoMemory>
+    requires { length valid.now ≡ length values.now }
+    ensures { IfOk result (λ v. map val_of v.items ≡ typed int_val values.now valid.now) }
+{
+    let mut made = Vec::with_capacity(alloc, values.len())?;
+    for (i, number) in values.iter().enumerate() {
+        made.push(int_cell(i128::from(*number), valid[i]))?;
+    }
+    Ok(made)
 }
 
 fn int_values(alloc: Global, values: &[i128], valid: &[bool]) -> Result<Vec<Value>, NoMemory>
@@ -215,13 +314,13 @@ fn int_values(alloc: Global, values: &[i128], valid: &[bool]) -> Result<Vec<Valu
 {
     let mut made = Vec::with_capacity(alloc, values.len())?;
     for (i, number) in values.iter().enumerate() {
-        made.push(int_cell(number, valid[i]))?;
+        made.push(int_cell(*number, valid[i]))?;
     }
     Ok(made)
 }
 
 #[tactic(auto, using(crate::proofs::SideLemmas::sided_all))]
-fn compared(
+pub(crate) fn compared(
     alloc: Global,
     op: Binary,
     values: &[i128],
@@ -259,5 +358,6 @@ pub(crate) fn ints_of(alloc: Global, values: &[Value]) -> Result<Option<Ints>, N
             None => return Ok(None),
         }
     }
+    let numbers = Kept::of_wide(alloc, numbers)?;
     Ok(Some(Ints::new(numbers, valid)))
 }

@@ -4,15 +4,16 @@ ghost use Rattle.std.specs.List.{items_where_true};
 ghost use Rattle.scan_values.specs.Arrays.{of_parts};
 ghost use Rattle.scan_values.specs.Kinds.{ptype_of};
 ghost use Rattle.scan_values.specs.Fits.{is_bool_type};
-ghost use Rattle.scan_layout.specs.LeafColumns.{int_or_null, bool_or_null};
+ghost use Rattle.scan_spelling.specs.LeafColumns.{int_or_null};
 ghost use Rattle.scan_columns.specs.Cells.{vals_in};
 
 use crate::bools::Bools;
 use crate::cells::Cells;
 use crate::column::Column;
 use crate::ints::Ints;
+use crate::kept::Kept;
 use crate::values::appended;
-use scan_layout::LeafColumn;
+use scan_spelling::LeafColumn;
 use scan_values::{DType, NoMemory, Values};
 use std::alloc::Global;
 use std::sync::Arc;
@@ -70,7 +71,7 @@ impl Cells {
         ensures { vals_in result ≡ [] }
     {
         if dtype.as_ptype_opt().is_some() {
-            Cells::Ints(Ints::new(Vec::new(alloc), Vec::new(alloc)))
+            Cells::Ints(Ints::new(Kept::Narrow(Vec::new(alloc)), Vec::new(alloc)))
         } else if dtype.is_bool() {
             Cells::Bools(Bools::new(Vec::new(alloc), Vec::new(alloc)))
         } else {
@@ -127,7 +128,7 @@ fn ints_extended(
         ++ items_where_true mask.now (slice_range leaf.now.items first (first + length mask.now))) }
 {
     if leaf.dtype().as_ptype_opt().is_some() {
-        Ok(Cells::Ints(more_ints(ints, leaf, first, mask)?))
+        Ok(Cells::Ints(more_ints(alloc, ints, leaf, first, mask)?))
     } else {
         values_extended(alloc, Cells::Ints(ints), leaf, first, mask)
     }
@@ -145,13 +146,32 @@ fn bools_extended(
         ++ items_where_true mask.now (slice_range leaf.now.items first (first + length mask.now))) }
 {
     if leaf.dtype().is_bool() {
-        Ok(Cells::Bools(more_bools(bools, leaf, first, mask)?))
+        Ok(Cells::Bools(more_bools(alloc, bools, leaf, first, mask)?))
     } else {
         values_extended(alloc, Cells::Bools(bools), leaf, first, mask)
     }
 }
 
-fn more_ints(ints: Ints, leaf: &LeafColumn, first: usize, mask: &[bool]) -> Result<Ints, NoMemory>
+/// The numbers of a run, or one after another, where one of the rows is past those of an i64.
+fn more_ints(
+    alloc: Global,
+    ints: Ints,
+    leaf: &LeafColumn,
+    first: usize,
+    mask: &[bool],
+) -> Result<Ints, NoMemory>
+    requires ints { is_some (ptype_of leaf.now.dtype) ≡ true }
+    requires within { first + length mask.now ≤ length leaf.now.items }
+    ensures { IfOk result (λ v. v ≡ ints
+        ++ items_where_true mask.now (slice_range leaf.now.items first (first + length mask.now))) }
+{
+    match leaf.ints(alloc, first, mask)? {
+        Some(run) => ints.extend(run),
+        None => ints_by_row(ints, leaf, first, mask),
+    }
+}
+
+fn ints_by_row(ints: Ints, leaf: &LeafColumn, first: usize, mask: &[bool]) -> Result<Ints, NoMemory>
     requires ints { is_some (ptype_of leaf.now.dtype) ≡ true }
     requires within { first + length mask.now ≤ length leaf.now.items }
     ensures { IfOk result (λ v. v ≡ ints
@@ -179,6 +199,7 @@ fn one_int(ints: Ints, leaf: &LeafColumn, row: usize, taken: bool) -> Result<Int
 }
 
 fn more_bools(
+    alloc: Global,
     bools: Bools,
     leaf: &LeafColumn,
     first: usize,
@@ -189,23 +210,6 @@ fn more_bools(
     ensures { IfOk result (λ v. v ≡ bools
         ++ items_where_true mask.now (slice_range leaf.now.items first (first + length mask.now))) }
 {
-    let _rows = leaf.len();
-    let mut made = bools;
-    for i in 0..mask.len() {
-        made = one_bool(made, leaf, first + i, mask[i])?;
-    }
-    Ok(made)
-}
-
-#[tactic(auto, using(crate::proofs::LeafLemmas::one_taken))]
-fn one_bool(bools: Bools, leaf: &LeafColumn, row: usize, taken: bool) -> Result<Bools, NoMemory>
-    requires bools { is_bool_type leaf.now.dtype ≡ true }
-    requires within { row < length leaf.now.items }
-    ensures { IfOk result (λ v. v ≡ bools ++ items_where_true (taken ∷ []) (take 1 (drop row leaf.now.items))) }
-{
-    if taken {
-        bools.pushed(leaf.bool_at(row))
-    } else {
-        Ok(bools)
-    }
+    let run = leaf.bools(alloc, first, mask)?;
+    bools.extend(run)
 }

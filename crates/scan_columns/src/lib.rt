@@ -1,6 +1,7 @@
 //! Columns: values of one dtype, kept by kind, and the evaluation of expressions over them.
 #![tactic(auto)]
 
+mod access;
 mod binary;
 mod bools;
 mod by_value;
@@ -12,6 +13,7 @@ mod ends;
 mod evaluate;
 mod integers;
 mod ints;
+mod kept;
 mod laws;
 mod leaf;
 mod lists;
@@ -28,7 +30,11 @@ mod truths;
 mod unary;
 mod values;
 
+pub use bools::Bools;
+pub use cells::{Cells, Lists, Structs};
 pub use column::Column;
+pub use constant::Constant;
+pub use ints::Ints;
 pub use laws::{
     an_evaluation_gives_what_apply_gives, an_evaluation_over_parts_gives_what_apply_gives,
 };

@@ -11,6 +11,7 @@ ghost use Rattle.scan_columns.specs.Numbers.{numbers_from};
 use crate::cells::Cells;
 use crate::column::Column;
 use crate::ints::Ints;
+use crate::kept::Kept;
 use scan_values::{DType, NoMemory, Nullability, PType};
 use std::alloc::Global;
 use std::sync::Arc;
@@ -33,7 +34,7 @@ fn numbered(alloc: Global, first: u64, mask: &[bool]) -> Result<Ints, NoMemory>
     requires { first + length mask.now ≤ 2 ^ 64 }
     ensures { IfOk result (λ v. v ≡ items_where_true mask.now (numbers_from first (length mask.now))) }
 {
-    let mut made = Ints::new(Vec::new(alloc), Vec::new(alloc));
+    let mut made = Ints::new(Kept::Narrow(Vec::new(alloc)), Vec::new(alloc));
     for i in 0..mask.len() {
         made = one_number(made, first + i as u64, mask[i])?;
     }

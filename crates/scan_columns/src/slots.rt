@@ -3,11 +3,23 @@ ghost use Rattle.std.specs.Prelude.{◌≡◌, ◌≤◌, IfOk, map, length, not
 ghost use Rattle.std.specs.List.{items_where_true, list_all};
 ghost use Rattle.scan_values.specs.Masks.{both_true};
 
+use scan_spelling::keep_true;
 use scan_values::{Mask, NoMemory};
 use std::alloc::Global;
 
-/// The items at which the mask is true.
+/// The items at which the mask is true: of one that is true at few of them one by one, else without a branch.
 pub(crate) fn kept<T: Copy>(alloc: Global, items: &[T], m: &Mask) -> Result<Vec<T>, NoMemory>
+    requires { length m.now ≡ length items.now }
+    ensures { IfOk result (λ v. v.items ≡ items_where_true m.now items.now) }
+{
+    if m.is_sparse() {
+        return few_kept(alloc, items, m);
+    }
+    let made = Vec::from_slice(alloc, items)?;
+    Ok(keep_true(made, m.as_slice()))
+}
+
+fn few_kept<T: Copy>(alloc: Global, items: &[T], m: &Mask) -> Result<Vec<T>, NoMemory>
     requires { length m.now ≡ length items.now }
     ensures { IfOk result (λ v. v.items ≡ items_where_true m.now items.now) }
 {
@@ -75,9 +87,13 @@ fn flipped(bits: Vec<bool>) -> Vec<bool>
     bits
 }
 
-/// Whether every bit is true.
+/// Whether every bit is true, without a way out.
 pub(crate) fn all_true(bits: &[bool]) -> bool
     ensures { result ≡ list_all (λ b. b) bits.now }
 {
-    bits.iter().all(|b| *b)
+    let mut all = true;
+    for bit in bits {
+        all &= *bit;
+    }
+    all
 }

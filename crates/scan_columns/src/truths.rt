@@ -60,7 +60,7 @@ fn logic_slots(b: bool, x: (bool, bool), y: (bool, bool)) -> (bool, bool)
 }
 
 /// What an operator makes of two slots.
-fn paired_slots(op: Binary, x: (bool, bool), y: (bool, bool)) -> (bool, bool)
+pub(crate) fn paired_slots(op: Binary, x: (bool, bool), y: (bool, bool)) -> (bool, bool)
     requires { (is_comparison op || is_logic op) ≡ true }
     ensures { cell bool_val result ≡ pair_val op (cell bool_val x) (cell bool_val y) }
 {
@@ -71,8 +71,27 @@ fn paired_slots(op: Binary, x: (bool, bool), y: (bool, bool)) -> (bool, bool)
     }
 }
 
-/// What an operator makes of each pair of truth values.
+/// What an operator makes of each pair of truth values: of two columns at once.
 pub(crate) fn truths_paired<'a>(
+    alloc: Global,
+    op: Binary,
+    x: Truths<'a>,
+    y: Truths<'a>,
+    len: usize,
+) -> Result<Bools, NoMemory>
+    requires kind { (is_comparison op || is_logic op) ≡ true }
+    requires first { length (truths_in x) ≡ len }
+    requires second { length (truths_in y) ≡ len }
+    ensures { IfOk result (λ v. v ≡ paired (pair_val op) (truths_in x.entry) (truths_in y.entry)) }
+{
+    if let (Truths::Each(first), Truths::Each(second)) = (x, y) {
+        return first.pair(alloc, op, second);
+    }
+    slots_paired(alloc, op, x, y, len)
+}
+
+/// The same, slot by slot.
+fn slots_paired<'a>(
     alloc: Global,
     op: Binary,
     x: Truths<'a>,

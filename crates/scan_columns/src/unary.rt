@@ -16,6 +16,7 @@ use crate::bools::Bools;
 use crate::cells::Cells;
 use crate::constant::Constant;
 use crate::ints::Ints;
+use crate::kept::Kept;
 use crate::rows::{Given, laid_out};
 use crate::slots::contrary;
 use scan_expr::{ApplyFault, BoundExpression, Unary};
@@ -153,7 +154,8 @@ fn value_lengths(alloc: Global, cells: &Cells) -> Result<Ints, NoMemory>
         values.push(length)?;
         valid.push(there)?;
     }
-    Ok(Ints::new(values, valid))
+    let numbers = Kept::of_wide(alloc, values)?;
+    Ok(Ints::new(numbers, valid))
 }
 
 /// The operator on `$`.

@@ -1,17 +1,14 @@
 -- The splits of elements, mapped one by one.
-use Rattle.std.proofs.Common.{◌≡◌, ℕ, ◌+◌, ◌<◌, ◌≤◌, List, [], ◌∷◌, ◌++◌, length, get_or, take, drop, filter, Bool, true, false, cond, nat_eq, Option, Some, None, inl, inr, refl, sym, ap, ◌∙◌, subst, arith}
+use Rattle.std.proofs.Common.{◌≡◌, ℕ, ◌+◌, ◌<◌, List, [], ◌∷◌, ◌++◌, length, get_or, take, drop, filter, Bool, true, false, cond, nat_eq, Option, Some, None, inl, inr, refl, sym, ap, ◌∙◌, subst, arith}
 use Rattle.std.specs.Prelude.{IfSome}
 use Rattle.std.specs.List.{Contains, filter_map, cons_option}
 use Rattle.std.proofs.lemmas.Bool.Decides.{nat_tests}
-use Rattle.std.proofs.lemmas.List.{take_more, take-append-drop, take_all}
+use Rattle.std.proofs.lemmas.List.{take_more, take-append-drop}
 use Rattle.std.proofs.lemmas.List.Elements.{filter-append, filter_map-append, Contains-append_left, Contains-append_cases, Contains-push}
 use Rattle.scan_splits.specs.RowLists.{SameNumbers, shifted, Adds, AddsSome}
 use Rattle.scan_splits.specs.ListSplits.{unless_again}
 use Rattle.scan_splits.proofs.Numbers.{none_in, first_or_rest, filter_from, filter_to, filter_map_from, filter_map_to, same_shifted, shifted_among}
-use Rattle.scan_splits.proofs.Pushing.{adds_then, adds_then_some, adds_same, adds_some_of, adds_none, shifted-append}
-
-option_list : Option ℕ → List ℕ
-option_list o = cons_option o []
+use Rattle.scan_splits.proofs.Pushing.{adds_then, adds_then_some, adds_same, adds_some_of, shifted-append}
 
 module _ (p : ℕ → Bool) (g : ℕ → Option ℕ) where
   -- the rows that the splits become, of those that pass the test
@@ -65,9 +62,6 @@ module _ (p : ℕ → Bool) (g : ℕ → Option ℕ) where
     pub adds : Adds (shifted offset (kept_rows (take i es))) old now
     pub known : KnowsLast (kept_rows (take i es)) last
 
-  pub pushed_none : (offset : ℕ) (es old : List ℕ) → Pushed offset es 0 None old old
-  pushed_none offset es old = record { adds = adds_none old; known = tt }
-
   pub pushed_more : (offset : ℕ) (es : List ℕ) (i e : ℕ) (last row : Option ℕ) (old now new : List ℕ) → i < length es → e ≡ get_or es i 0 → row ≡ g e → Pushed offset es i last old now
       → Adds (shifted offset (filter p (unless_again last row))) now new → Pushed offset es (i + 1) row old new
   pushed_more offset es i e last row old now new h is to s q =
@@ -93,9 +87,6 @@ module _ (p : ℕ → Bool) (g : ℕ → Option ℕ) where
       let joined = rw (← shifted-append offset rows (filter p (unless_again last row))) at some in
       adds_some_of (shifted offset (rows ++ filter p (unless_again last row))) (shifted offset (kept_rows es)) old new
       (shifted_among offset (rows ++ filter p (unless_again last row)) (kept_rows es) (λ n k. whole es (i + 1) n (rw next ((same_again rows last row s.known n).0 k)))) joined
-
-  pub pushed_all : (offset : ℕ) (es : List ℕ) (i : ℕ) (last : Option ℕ) (old now : List ℕ) → length es ≤ i → Pushed offset es i last old now → Adds (shifted offset (kept_rows es)) old now
-  pushed_all offset es i last old now h s = rw (take_all i es h) at s.adds
 
   -- splits of the same numbers become the same rows
   kept_among : (xs ys : List ℕ) → ((n : ℕ) → Contains xs n → Contains ys n) → (n : ℕ) → Contains (kept_rows xs) n → Contains (kept_rows ys) n

@@ -26,10 +26,6 @@ adds_same xs ys old new same p = record { added = p.added; grows = p.grows; same
 pub adds_some_of : (xs ys old new : List ℕ) → ((n : ℕ) → Contains xs n → Contains ys n) → AddsSome xs old new → AddsSome ys old new
 adds_some_of xs ys old new among p = record { added = p.added; grows = p.grows; among = λ n h. among n (p.among n h) }
 
-pub pushes_same : {E : Type 0} (r : Result (Unit {0}) E) (xs ys old new : List ℕ) → SameNumbers xs ys → Pushes r xs old new → Pushes r ys old new
-pushes_same (Ok u) xs ys old new same p = adds_same xs ys old new same p
-pushes_same (Err e) xs ys old new same p = adds_some_of xs ys old new (λ n. (same n).0) p
-
 either : (xs ys us vs : List ℕ) (n : ℕ) → (Contains xs n → Contains us n) → (Contains ys n → Contains vs n) → Contains (xs ++ ys) n → Contains (us ++ vs) n
 either xs ys us vs n f g h = elim (Contains-append_cases xs ys n h) [ inl x ↦ Contains-append_left us vs n (f x) | inr y ↦ Contains-append_right us vs n (g y) ]
 
@@ -62,9 +58,6 @@ shifted-append offset xs ys = map-append (λ row. offset + row) xs ys
 pub record Completes (offset : ℕ) (rest whole old now : List ℕ) : Type 0 where
   pub all : (new : List ℕ) → Adds (shifted offset rest) now new → Adds (shifted offset whole) old new
   pub some : (new : List ℕ) → AddsSome (shifted offset rest) now new → AddsSome (shifted offset whole) old new
-
-pub begins : (offset : ℕ) (whole old : List ℕ) → Completes offset whole whole old old
-begins offset whole old = record { all = λ new p. p; some = λ new p. p }
 
 module _ (offset : ℕ) (whole old : List ℕ) where
   pub goes_on : (rest xs ys now mid : List ℕ) → rest ≡ xs ++ ys → Completes offset rest whole old now → Adds (shifted offset xs) now mid → Completes offset ys whole old mid

@@ -49,9 +49,6 @@ rises_already xs h k d low l = not_less (get_or xs (k + 1) d) (get_or xs k d) (n
 pub moved : (xs ys : List ℕ) → IsPermutation xs ys → SameNumbers ys xs
 moved xs ys p n = (Contains-permutation ys xs n (IsPermutation-sym xs ys p), Contains-permutation xs ys n p)
 
-pub same-refl : (xs : List ℕ) → SameNumbers xs xs
-same-refl xs n = (λ h. h, λ h. h)
-
 -- and so does the drop of repeats
 pub same-dedup : (xs ys : List ℕ) → ys ≡ dedup nat_eq xs → SameNumbers ys xs
 same-dedup xs ys e n = rw e (Contains-from_dedup nat_eq xs n, Contains-dedup_nat xs n)

@@ -14,12 +14,6 @@ or_assoc : (a b c : Bool) → (a || (b || c)) ≡ ((a || b) || c)
 or_assoc true b c = refl
 or_assoc false b c = refl
 
-or_swap : (a b c : Bool) → (a || (b || c)) ≡ (b || (a || c))
-or_swap true true c = refl
-or_swap true false c = refl
-or_swap false true c = refl
-or_swap false false c = refl
-
 -- what stands among ids and one more
 pub among-push : (ids : List ℕ) (id n : ℕ) → is_among (ids ++ id ∷ []) n ≡ (is_among ids n || nat_eq id n)
 among-push [] id n = or_false (nat_eq id n)

@@ -2,7 +2,6 @@ pub mod RowSpans
 pub mod RowLists
 pub mod Arrivals
 pub mod Wanted
-pub mod Polls
 pub mod Runs
 pub mod ListSplits
 pub mod SplitFaults

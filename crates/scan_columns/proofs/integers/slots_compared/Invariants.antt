@@ -1,0 +1,12 @@
+use Rattle.std.proofs.Common.{◌≡◌, ◌++◌, drop, length}
+use Rattle.scan_values.specs.Val.{bool_val}
+use Rattle.scan_columns.specs.Typed.{typed}
+use Rattle.scan_columns.specs.Evaluated.{paired}
+use Rattle.scan_columns.specs.Operands.{numbers_in, pair_val}
+use Rattle.scan_columns.proofs.integers.slots_compared.Given as goal
+
+abbrev pub invariant-loop-i : goal.invariant-loop-i
+invariant-loop-i l = record {
+  even : length l.valid.items ≡ length l.values.items;
+  same : typed bool_val l.values.items l.valid.items ++ paired (pair_val l.op) (drop l.i (numbers_in l.x)) (drop l.i (numbers_in l.y)) ≡ paired (pair_val l.op) (numbers_in l.x) (numbers_in l.y);
+}

@@ -1,0 +1,12 @@
+use Rattle.std.proofs.Common.{◌≡◌, ◌++◌, drop, length}
+use Rattle.scan_values.specs.Val.{bool_val}
+use Rattle.scan_columns.specs.Typed.{typed}
+use Rattle.scan_columns.specs.Evaluated.{paired}
+use Rattle.scan_columns.specs.Operands.{truths_in, pair_val}
+use Rattle.scan_columns.proofs.truths.slots_paired.Given as goal
+
+abbrev pub invariant-loop-i : goal.invariant-loop-i
+invariant-loop-i l = record {
+  even : length l.valid.items ≡ length l.values.items;
+  same : typed bool_val l.values.items l.valid.items ++ paired (pair_val l.op) (drop l.i (truths_in l.x)) (drop l.i (truths_in l.y)) ≡ paired (pair_val l.op) (truths_in l.x) (truths_in l.y);
+}

@@ -1,0 +1,65 @@
+//! What printers and sums read of a column: its cells, and one list or one struct of those.
+ghost use Rattle.std.specs.Prelude.{◌≡◌, ◌<◌, IfSome, None, Some, length, slice_get};
+ghost use Rattle.scan_values.specs.Val.{null_val};
+ghost use Rattle.scan_columns.specs.Access.{IsListAt, IsStructAt, AreFieldsIn};
+ghost use Rattle.scan_columns.specs.Cells.{vals_in};
+
+use crate::cells::{Cells, Lists, Structs};
+use crate::column::Column;
+use crate::slots::all_true;
+use std::ops::Range;
+
+impl Column {
+    /// The values by kind, as they are kept.
+    pub fn cells(&self) -> &Cells
+        ensures { vals_in result.now ≡ self.now.items }
+    {
+        &self.cells
+    }
+}
+
+impl Lists {
+    /// The elements of all lists, and the places among them of those of the list at a place; `None` where it is null.
+    #[inline(always)]
+    pub fn list_at<'a>(&'a self, i: usize) -> Option<(&'a Cells, Range<usize>)>
+        requires { i < length self.now.items }
+        ensures some { IfSome result (λ p. IsListAt self.entry.now i p.0.now p.1.start p.1.end) }
+        ensures none { result ≡ None → Some null_val ≡ slice_get self.entry.now.items i }
+    {
+        let _count = self.len();
+        let valid = self.valid.as_slice();
+        if valid[i] {
+            Some((&*self.elements, self.ends.start(i)..self.ends.start(i + 1)))
+        } else {
+            None
+        }
+    }
+}
+
+impl Structs {
+    /// The cells of the fields, of which the struct at a place has one each, in field order; `None` where it is null.
+    #[inline(always)]
+    pub fn struct_at<'a>(&'a self, i: usize) -> Option<&'a [Cells]>
+        requires { i < length self.now.items }
+        ensures some { IfSome result (λ fs. IsStructAt self.entry.now i fs.now) }
+        ensures none { result ≡ None → Some null_val ≡ slice_get self.entry.now.items i }
+    {
+        let valid = self.valid.as_slice();
+        if valid[i] {
+            Some(self.fields.as_slice())
+        } else {
+            None
+        }
+    }
+
+    /// The cells of the fields, in field order, where no struct is null.
+    pub fn fields<'a>(&'a self) -> Option<&'a [Cells]>
+        ensures { IfSome result (λ fs. AreFieldsIn self.entry.now fs.now) }
+    {
+        if all_true(self.valid.as_slice()) {
+            Some(self.fields.as_slice())
+        } else {
+            None
+        }
+    }
+}
