@@ -1,24 +1,23 @@
 -- Values that are read part by part.
-use Rattle.std.proofs.Common.{◌≡◌, ℕ, ◌==◌, ◌+◌, ◌-◌, ◌<◌, Bool, true, false, ◌||◌, ◌&&◌, List, [], ◌∷◌, ◌++◌, map, length, get_or, None, Result, Ok, Err, is_none, refl, ap, subst, ◌∙◌, sym, arith, append_assoc}
+use Rattle.std.proofs.Common.{◌≡◌, ℕ, ◌==◌, ◌+◌, ◌-◌, ◌<◌, Bool, true, false, ◌||◌, ◌&&◌, List, [], ◌∷◌, ◌++◌, map, length, get_or, Result, Ok, Err, is_none, refl, ap, subst, ◌∙◌, sym, arith, append_assoc}
 use Rattle.std.specs.Prelude.{if◌then◌else◌}
 use Rattle.std.specs.List.{list_any}
-use Rattle.std.proofs.lemmas.List.{append-nil, map-append}
+use Rattle.std.proofs.lemmas.List.{append-nil}
 use Rattle.std.proofs.lemmas.List.Folds.{list_any-append}
-use Rattle.std.proofs.lemmas.Bool.{eq-eqb}
 use Rattle.scan_values.specs.Arrays.{ArrayData, of_parts}
 use Rattle.scan_values.specs.DataType.{DataType}
 use Rattle.scan_values.specs.Marked.{Marked}
 use Rattle.scan_values.specs.Val.{marked}
 use Rattle.scan_segments.specs.Source.{Store}
-use Rattle.scan_layout.specs.declared.spelling.Spelling.{Spelling}
-use Rattle.scan_layout.specs.Places.{Place, place_of, places_of, decoded}
+use Rattle.scan_spelling.specs.declared.spelling.Spelling.{Spelling}
+use Rattle.scan_spelling.specs.Places.{Place, place_of, places_of, decoded}
 use Rattle.scan_layout.specs.RowValue.{leaf_value, segment_value}
 use Rattle.scan_splits.specs.Runs.{start_of}
 use Rattle.scan_plans.specs.PlanTree.{leaf}
 use Rattle.scan_plans.specs.Came.{Came, arrived}
 use Rattle.scan_plans.specs.Meaning.{true_rows}
 use Rattle.scan_plans.specs.Wants.{leaf_wanted, part_of}
-use Rattle.scan_plans.specs.Reads.{fails, AllDecode, ReadsSegment, AddsSegment, AreValues, Reads}
+use Rattle.scan_plans.specs.Reads.{fails, AddsSegment, AreValues, Reads}
 use Rattle.scan_plans.specs.declared.fault.ReadFault.{ReadFault}
 use Rattle.scan_plans.specs.declared.fault.ReadFault.TheVariants.{Corrupt, Overflow, NoMemory}
 use Rattle.scan_plans.proofs.RowLemmas.{rows_part}
@@ -29,31 +28,11 @@ use Rattle.scan_plans.proofs.LeafWalk.{Segment, to_want, to_give, want_part, giv
 pub fails_append : (ps qs : List Place) (store : Store) (id : ℕ) → fails (ps ++ qs) store id ≡ (fails ps store id || fails qs store id)
 fails_append ps qs store id = list_any-append (λ (p : Place). (p.id == id) && is_none (decoded store p)) ps qs
 
--- one place that fails
-pub fails_one : (p : Place) (store : Store) (id : ℕ) → id ≡ p.id → decoded store p ≡ None → fails (p ∷ []) store id ≡ true
-fails_one p store id e d = rw (e, eq-eqb p.id p.id refl, d) refl
-
--- one place that decodes
-pub found_one : (p : Place) (store : Store) (b : Bool) → is_none (decoded store p) ≡ false → AllDecode (if b then p ∷ [] else []) store
-found_one p store b n = λ id. by b id
-  where
-    off : (c : Bool) → ((c && false) || false) ≡ false
-    off true = refl
-    off false = refl
-
-    by : (b : Bool) (id : ℕ) → fails (if b then p ∷ [] else []) store id ≡ false
-    by true id = ap (λ c. ((p.id == id) && c) || false) n ∙ off (p.id == id)
-    by false id = refl
-
 -- no row is true
 pub no_rows : (k : ℕ) (bits : List Bool) → list_any (λ b. b) bits ≡ false → true_rows k bits ≡ []
 no_rows k [] h = refl
 no_rows k (true ∷ bits) h = absurd cc
 no_rows k (false ∷ bits) h = no_rows (k + 1) bits h
-
-pub some_rows : (bits : List Bool) → list_any (λ b. b) bits ≡ true → 0 < length bits
-some_rows [] h = absurd cc
-some_rows (b ∷ bits) h = omega arith
 
 -- ---- with a segment
 pub adds_none : (store : Store) (p : Place) (skip : ℕ) (bits : List Bool) (a : ArrayData) → a.dtype ≡ p.dtype → list_any (λ b. b) bits ≡ false → AddsSegment store p skip bits a (Ok a)
@@ -61,18 +40,6 @@ adds_none store p skip bits a d none = (
   d,
   sym (append-nil (map marked a.items)) ∙ ap (λ is. map marked a.items ++ map (segment_value store p) is) (sym (no_rows skip bits none)),
   λ id. ap (λ b. fails (if b then p ∷ [] else []) store id) none,
-)
-
-pub adds_fault : (store : Store) (p : Place) (skip : ℕ) (bits : List Bool) (a : ArrayData) (f : ReadFault) → list_any (λ b. b) bits ≡ true → ReadsSegment store p skip bits (Err f) → AddsSegment store p skip bits a (Err f)
-adds_fault store p skip bits a (Corrupt id) some h = rw some (fails_one p store id h.0 h.1)
-adds_fault store p skip bits a Overflow some h = h
-adds_fault store p skip bits a NoMemory some h = tt
-
-pub adds_some : (store : Store) (p : Place) (skip : ℕ) (bits : List Bool) (a b c : ArrayData) → a.dtype ≡ p.dtype → ReadsSegment store p skip bits (Ok b) → c ≡ of_parts a.dtype (a.items ++ b.items) → AddsSegment store p skip bits a (Ok c)
-adds_some store p skip bits a b c d h e = (
-  ap (λ (x : ArrayData). x.dtype) e ∙ d,
-  ap (λ (x : ArrayData). map marked x.items) e ∙ map-append marked a.items b.items ∙ ap (λ xs. map marked a.items ++ xs) h.1,
-  found_one p store (list_any (λ b. b) bits) h.2,
 )
 
 -- ---- a leaf, so far

@@ -1,12 +1,9 @@
 -- What has arrived, looked at part by part.
-use Rattle.std.proofs.Common.{◌≡◌, ℕ, ◌==◌, ◌+◌, Bool, true, false, ◌||◌, ◌&&◌, List, [], ◌∷◌, ◌++◌, length, Option, Some, None, Result, Ok, Err, is_none, refl, ap, subst, ◌∙◌, sym}
+use Rattle.std.proofs.Common.{◌≡◌, ℕ, ◌+◌, Bool, true, false, ◌||◌, List, [], ◌∷◌, ◌++◌, length, Option, Some, None, Result, Ok, Err, refl, ap, subst, ◌∙◌, sym}
 use Rattle.std.specs.Prelude.{if◌then◌else◌}
 use Rattle.std.specs.List.{list_any}
-use Rattle.std.proofs.lemmas.Bool.{eq-eqb, eqb-true}
 use Rattle.scan_values.specs.DataType.{DataType}
-use Rattle.scan_values.specs.Val.{Val}
-use Rattle.scan_layout.specs.Places.{Place}
-use Rattle.scan_layout.specs.Spelling.{decode}
+use Rattle.scan_spelling.specs.Places.{Place}
 use Rattle.scan_plans.specs.PlanTree.{PlanTree, lists, lengths, valid, PlanTrees, no_plans, plan}
 use Rattle.scan_plans.specs.Came.{Came, arrived}
 use Rattle.scan_plans.specs.Checking.{ChecksPlaces, ChecksPlan, ChecksAll, KnownOf}
@@ -14,7 +11,7 @@ use Rattle.scan_plans.specs.Lists.{rows_on, element_rows, IsSpan}
 use Rattle.scan_plans.specs.Meaning.{true_rows}
 use Rattle.scan_plans.specs.OffsetReads.{WantsRows, NextOf}
 use Rattle.scan_plans.specs.OffsetsData.{OffsetsData, offset_places}
-use Rattle.scan_plans.specs.Wants.{leaf_wanted, offsets_wanted, knows_elements, wanted, all_wanted, NoneBad, is_bad, spoils, offsets_spoiled, spoiled, any_spoiled}
+use Rattle.scan_plans.specs.Wants.{leaf_wanted, offsets_wanted, knows_elements, wanted, all_wanted, NoneBad, spoils, offsets_spoiled, spoiled, any_spoiled}
 use Rattle.scan_plans.specs.declared.fault.ReadFault.{ReadFault}
 use Rattle.scan_plans.specs.declared.fault.ReadFault.TheVariants.{Corrupt, Overflow, NoMemory}
 use Rattle.scan_plans.specs.declared.lists.Span.{Span}
@@ -26,24 +23,6 @@ or_true true = refl
 or_true false = refl
 
 -- ---- one segment
-one_place : (p : Place) (here : Came) → is_bad p (here p.id) ≡ false → NoneBad (p ∷ []) here
-one_place p here g = λ id. by id (p.id == id) refl
-  where
-    by : (id : ℕ) (b : Bool) → (p.id == id) ≡ b → ((b && is_bad p (here id)) || false) ≡ false
-    by id false e = refl
-    by id true e = ap (λ b. b || false) (subst (λ (j : ℕ). is_bad p (here j) ≡ false) (eqb-true p.id id e) g)
-
-pub bytes_good : (p : Place) (here : Came) (bytes : List ℕ) (vs : List Val) → here p.id ≡ Some (Some bytes) → decode p.spelling p.dtype p.rows bytes ≡ Some vs → NoneBad (p ∷ []) here
-bytes_good p here bytes vs e d = one_place p here (ap (is_bad p) e ∙ ap is_none d)
-
-pub bytes_bad : (p : Place) (here : Came) (bytes : List ℕ) → here p.id ≡ Some (Some bytes) → decode p.spelling p.dtype p.rows bytes ≡ None → spoils (p ∷ []) here p.id ≡ true
-bytes_bad p here bytes e d = rw (eq-eqb p.id p.id refl, e, d) refl
-
-pub not_come : (p : Place) (here : Came) → here p.id ≡ None → NoneBad (p ∷ []) here
-not_come p here e = one_place p here (ap (is_bad p) e)
-
-pub missing_bad : (p : Place) (here : Came) → here p.id ≡ Some None → spoils (p ∷ []) here p.id ≡ true
-missing_bad p here e = rw (eq-eqb p.id p.id refl, e) refl
 
 -- the place of a segment that is looked at
 pub moved_checks : {A : Type 0} (p q : Place) (bits : List Bool) (here : Came) (r : Result A ReadFault) → p ≡ q → ChecksPlaces (if list_any (λ b. b) bits then p ∷ [] else []) here r → ChecksPlaces (if list_any (λ b. b) bits then q ∷ [] else []) here r

@@ -4,7 +4,7 @@ use Rattle.std.specs.Prelude.{nat_le}
 use Rattle.std.proofs.lemmas.Bool.Decides.{nat_tests}
 use Rattle.std.proofs.lemmas.List.Folds.{list_any-append}
 use Rattle.scan_values.specs.Selections.{is_among}
-use Rattle.scan_layout.specs.Places.{Place}
+use Rattle.scan_spelling.specs.Places.{Place}
 use Rattle.scan_plans.specs.Came.{Came}
 use Rattle.scan_plans.specs.Wants.{names_id, lacks, spoils, is_bad}
 use Rattle.scan_plans.specs.Reads.{Collects}

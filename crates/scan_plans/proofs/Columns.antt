@@ -46,9 +46,6 @@ pub record Filled (k : ℕ) (ps : List PlanTree) (here : Came) (is : List ℕ) (
   pub failing : (id : ℕ) → any_spoiled (plans (drop k ps)) here is id ≡ true → any_spoiled (plans ps) here is id ≡ true
   pub spilling : any_overflow_on (plans (drop k ps)) (arrived here) is ≡ true → any_overflow_on (plans ps) (arrived here) is ≡ true
 
-pub filled_start : (ps : List PlanTree) (here : Came) (is : List ℕ) → Filled 0 ps here is []
-filled_start ps here is = record { columns = tt; complete = λ c. c; failing = λ id h. h; spilling = λ h. h }
-
 pub filled_next : (k : ℕ) (ps : List PlanTree) (here : Came) (is : List ℕ) (cs : List ArrayData) (p : PlanTree) (c : ArrayData) → k < length ps → p ≡ get_or ps k p → Filled k ps here is cs → AreValues p here is c → Filled (k + 1) ps here is (cs ++ c ∷ [])
 filled_next k ps here is cs p c h e f v = record {
   columns = subst (λ (xs : List PlanTree). AreColumns (plans xs) here is (cs ++ c ∷ [])) (sym (taken_next k ps p h e)) (one_more (take k ps) p here is cs c f.columns v);

@@ -10,7 +10,7 @@ use Rattle.scan_values.specs.Masks.{by_rank, true_count}
 use Rattle.scan_values.specs.Selections.{is_among}
 use Rattle.scan_values.specs.Val.{Val, marked, is_clean, is_clean-marked}
 use Rattle.scan_segments.specs.Source.{Store}
-use Rattle.scan_layout.specs.Places.{Place}
+use Rattle.scan_spelling.specs.Places.{Place}
 use Rattle.scan_splits.specs.Wanted.{is_any}
 use Rattle.scan_plans.specs.PlanTree.{PlanTree}
 use Rattle.scan_plans.specs.Came.{Came, arrived, Holds}
@@ -54,8 +54,6 @@ pub kept_same : (f : Filter) (here : Came) (store : Store) (bits : List Bool) �
 kept_same f here store bits h c = kept_by f.0 store f.1 bits ∙ ap (λ (vs : List Marked). by_rank bits (map is_true vs)) (items_same f.0 here store (true_rows f.1 bits) h c) ∙ sym (kept_by f.0 (arrived here) f.1 bits)
 
 -- ---- steps
-pub reach_start : (here : Came) (bits : List Bool) (fs : List Filter) → Reaches here bits fs 0 bits
-reach_start here bits fs = refl
 
 pub reach_next : (here : Came) (bits : List Bool) (fs : List Filter) (n : ℕ) (mid new : List Bool) (f : Filter) → n < length fs → f ≡ get_or fs n f → Reaches here bits fs n mid → RunsWell here mid f → new ≡ kept f.0 (arrived here) f.1 mid → Reaches here bits fs (suc n) new
 reach_next here bits [] zero mid new f h e r w k = let z : ⊥ = omega (arith, h) in absurd z

@@ -2,14 +2,13 @@
 use Rattle.std.proofs.Common.{◌≡◌, ℕ, ◌==◌, Bool, true, false, ◌||◌, ◌&&◌, List, [], ◌∷◌, Option, Some, None, Err, is_none, refl, ap, subst, ◌∙◌, sym}
 use Rattle.std.specs.Prelude.{option_and_then}
 use Rattle.std.proofs.lemmas.Bool.{eqb-true}
-use Rattle.scan_values.specs.Selections.{is_among}
-use Rattle.scan_layout.specs.Spelling.{decode}
-use Rattle.scan_layout.specs.Places.{Place, decoded}
+use Rattle.scan_spelling.specs.Spelling.{decode}
+use Rattle.scan_spelling.specs.Places.{Place, decoded}
 use Rattle.scan_plans.specs.PlanTree.{PlanTree}
 use Rattle.scan_plans.specs.Came.{Came, arrived}
 use Rattle.scan_plans.specs.Wants.{wanted, names_id, lacks, Complete, NoneBad, spoils, is_bad}
-use Rattle.scan_plans.specs.Reads.{CollectsPlan, Reads, fails, AllDecode}
-use Rattle.scan_plans.specs.Given.{Lacks, Gives}
+use Rattle.scan_plans.specs.Reads.{Reads, fails, AllDecode}
+use Rattle.scan_plans.specs.Given.{Gives}
 use Rattle.scan_plans.specs.declared.fault.ReadFault.{ReadFault}
 use Rattle.scan_plans.specs.declared.fault.ReadFault.TheVariants.{Corrupt, Overflow, NoMemory}
 
@@ -80,18 +79,6 @@ decodes_good places here h = λ id. each places id (h id)
         rw own (each ps id (or_right ((p.id == id) && is_none (decoded (arrived here) p)) (fails ps (arrived here) id) n))
 
 -- ---- what lacks
-pub lacks_none : (places : List Place) (here : Came) (ids : List ℕ) → ((id : ℕ) → is_among ids id ≡ (is_among [] id || lacks places here id)) → ids ≡ [] → Complete places here
-lacks_none places here ids h e id = sym (h id) ∙ ap (λ (js : List ℕ). is_among js id) e
-
-pub lacks_fault : (A : Type 0) (old new : List ℕ) (p : PlanTree) (here : Came) (is : List ℕ) (f : ReadFault) → CollectsPlan {A = A} old new p here is (Err f) → Lacks p here is (Err f)
-lacks_fault A old new p here is (Corrupt id) h = h
-lacks_fault A old new p here is Overflow h = h
-lacks_fault A old new p here is NoMemory h = tt
-
-pub gives_lack : (p : PlanTree) (here : Came) (is : List ℕ) (f : ReadFault) → Lacks p here is (Err f) → Gives p here is (Err f)
-gives_lack p here is (Corrupt id) h = h
-gives_lack p here is Overflow h = absurd h
-gives_lack p here is NoMemory h = tt
 
 pub gives_fault : (p : PlanTree) (here : Came) (is : List ℕ) (f : ReadFault) → Complete (wanted p here is) here → Reads p here is (Err f) → Gives p here is (Err f)
 gives_fault p here is (Corrupt id) c h = h c

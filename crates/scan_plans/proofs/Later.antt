@@ -3,7 +3,7 @@ use Rattle.std.proofs.Common.{◌≡◌, ℕ, zero, suc, ◌+◌, ◌-◌, ◌<�
 use Rattle.std.specs.Prelude.{if◌then◌else◌, option_and_then}
 use Rattle.scan_values.specs.Marked.{Marked}
 use Rattle.scan_segments.specs.Source.{Store}
-use Rattle.scan_layout.specs.Places.{Place}
+use Rattle.scan_spelling.specs.Places.{Place}
 use Rattle.scan_layout.specs.RowValue.{offset_of}
 use Rattle.scan_layout.specs.Touched.{least_offset, greatest_offset, lesser, greater}
 use Rattle.scan_plans.specs.Came.{Came, arrived, Extends, Holds}

@@ -6,9 +6,9 @@ use Rattle.std.proofs.lemmas.List.Sums.{sum_by-cons}
 use Rattle.scan_values.specs.DataType.{DataType}
 use Rattle.scan_values.specs.Marked.{Marked}
 use Rattle.scan_segments.specs.Source.{Store}
-use Rattle.scan_layout.specs.declared.spelling.Spelling.{Spelling}
+use Rattle.scan_spelling.specs.declared.spelling.Spelling.{Spelling}
 use Rattle.scan_layout.specs.Check.{total_rows}
-use Rattle.scan_layout.specs.Places.{Place, place_of, places_of}
+use Rattle.scan_spelling.specs.Places.{Place, place_of, places_of}
 use Rattle.scan_layout.specs.RowValue.{leaf_value, segment_value}
 use Rattle.scan_plans.specs.Meaning.{true_rows}
 use Rattle.scan_splits.specs.Runs.{start_of}

@@ -33,3 +33,4 @@ pub mod Wanting
 pub mod Pruned
 pub mod BoundsSent
 pub mod PlansSent
+pub mod Rising

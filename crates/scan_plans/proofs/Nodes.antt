@@ -31,10 +31,6 @@ use Rattle.scan_plans.proofs.Constants.{value_alike}
 use Rattle.scan_plans.proofs.Parts.{any_or, joined_items, joined_overflows, over_within, over_overflow, columns_found}
 use Rattle.scan_plans.proofs.Segments.{slice_items}
 
-or_true : (b : Bool) → (b || true) ≡ true
-or_true true = refl
-or_true false = refl
-
 map_map : {A B C : Type 0} (f : B → C) (g : A → B) (xs : List A) → map (λ x. f (g x)) xs ≡ map f (map g xs)
 map_map f g [] = refl
 map_map f g (x ∷ xs) = ap (λ ys. f (g x) ∷ ys) (map_map f g xs)
@@ -122,10 +118,6 @@ constant_ok d e here is n v t b same dtype value within l = record {
   within = none_alike (overflows d e null 0) is within;
   found = λ id. refl;
 }
-
-pub constant_none : (d : DataType) (e : Expr) (here : Came) (is : List ℕ) (t : DataType) (b : ArrayData) → b ≡ of_parts t [] → t ≡ infer d e → 0 ≡ length is → AreValues (constant d e) here is b
-constant_none d e here [] t b same dtype l = record { dtype = ap (λ (x : ArrayData). x.dtype) same ∙ dtype; items = ap (λ (x : ArrayData). map marked x.items) same; within = refl; found = λ id. refl }
-constant_none d e here (i ∷ is) t b same dtype l = let z : ⊥ = omega (arith, l) in absurd z
 
 pub constant_fault : (A : Type 0) (d : DataType) (e : Expr) (here : Came) (is : List ℕ) (n : ℕ) (r : Result A ApplyFault) (f : ApplyFault) → r ≡ Err f → (r ≡ Err apply.Overflow → overflows d e null 0 ≡ true) → 0 < n → n ≡ length is → Reads (constant d e) here is (Err (read_fault f))
 constant_fault A d e here [] n r apply.Overflow w o some l = let z : ⊥ = omega (arith, l, some) in absurd z

@@ -5,9 +5,9 @@ use Rattle.std.specs.List.{list_any}
 use Rattle.std.proofs.lemmas.Bool.{eq-eqb}
 use Rattle.std.proofs.lemmas.Bool.Decides.{nat_tests}
 use Rattle.scan_values.specs.DataType.{DataType}
-use Rattle.scan_layout.specs.declared.spelling.Spelling.{Spelling}
+use Rattle.scan_spelling.specs.declared.spelling.Spelling.{Spelling}
 use Rattle.scan_layout.specs.Check.{total_rows}
-use Rattle.scan_layout.specs.Places.{place_of, places_of}
+use Rattle.scan_spelling.specs.Places.{place_of, places_of}
 use Rattle.scan_splits.specs.Runs.{start_of}
 use Rattle.scan_plans.specs.Wants.{leaf_wanted, names_id, part_of}
 use Rattle.scan_plans.proofs.LeafWalk.{Segment, to_want, want_start, want_next, start_end, starts_in_time}

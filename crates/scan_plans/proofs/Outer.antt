@@ -9,7 +9,7 @@ use Rattle.scan_values.specs.Marked.{Marked, null}
 use Rattle.scan_values.specs.Masks.{null_where_false}
 use Rattle.scan_values.specs.Val.{Val, marked}
 use Rattle.scan_segments.specs.Source.{Store}
-use Rattle.scan_layout.specs.Places.{Place}
+use Rattle.scan_spelling.specs.Places.{Place}
 use Rattle.scan_plans.specs.Came.{Came, Holds}
 use Rattle.scan_plans.specs.Given.{AreLacking}
 use Rattle.scan_plans.specs.Knowing.{Knows}
@@ -138,10 +138,6 @@ walk_fault k here now old after m new Overflow w h e a = λ store held. walk_spi
 walk_fault k here now old after m new NoMemory w h e a = tt
 
 -- ---- one mask, and then others
-pub first_fault : (here : Came) (m new : MaskData) (ms after : List MaskData) (x : ReadFault) → Knows here m new (Err x) → KnowsAll here (m ∷ ms) after (Err x)
-first_fault here m new ms after (Corrupt id) k = λ rest. spoils_then m ms here id rest k
-first_fault here m new ms after Overflow k = λ store held. ap (λ b. b || masks_overflow ms store) (k store held)
-first_fault here m new ms after NoMemory k = tt
 
 pub first_waits : (here : Came) (m new : MaskData) (ms after : List MaskData) (ids : List ℕ) → Knows here m new (Ok (Some ids)) → KnowsAll here (m ∷ ms) after (Ok (Some ids))
 first_waits here m new ms after ids k = λ rest. waits_then (mask_wanted m here) (masks_wanted ms here rest) here ids k
@@ -231,9 +227,6 @@ padded_more n i bits made more b h e m w =
     let left : n - i ≡ suc (n - (i + 1)) = omega (arith, h) in
     let next : padded (n - i) (drop i bits) ≡ b ∷ padded (n - (i + 1)) (drop (i + 1) bits) = ap (λ k. padded k (drop i bits)) left ∙ padded_next (n - (i + 1)) (drop i bits) ∙ (λ j. (first_of_rest i bits ∙ sym e) j ∷ padded (n - (i + 1)) (drop_twice i 1 bits j)) in
     ap (λ xs. xs ++ padded (n - (i + 1)) (drop (i + 1) bits)) m ∙ append_assoc made (b ∷ []) (padded (n - (i + 1)) (drop (i + 1) bits)) ∙ ap (λ xs. made ++ xs) (sym next) ∙ w
-
-pub padded_done : (n i : ℕ) (bits made : List Bool) → n ≤ i → made ++ padded (n - i) (drop i bits) ≡ padded n bits → made ≡ padded n bits
-padded_done n i bits made h w = let none : n - i ≡ 0 = omega (arith, h) in sym (append-nil made) ∙ ap (λ k. made ++ padded k (drop i bits)) (sym none) ∙ w
 
 -- ---- an array under one mask more
 module _ (ms : List MaskData) (k : ℕ) (m : MaskData) (l : k < length ms) (e : m ≡ get_or ms k m) (a b : ArrayData) (bits : List Bool) (g : bits ≡ padded (length a.items) m.known) (w : b ≡ of_parts (with_nullability Nullable a.dtype) (null_where_false bits a.items)) where

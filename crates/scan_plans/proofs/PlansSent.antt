@@ -89,12 +89,6 @@ MaskFuture-send = let a = mask_send in let b = cross.Vec-send Filter.the_row fil
 pub MaskFuture-sync : IsSync MaskFuture.the_row
 MaskFuture-sync = let a = mask_sync in let b = cross.Vec-sync Filter.the_row filter_sync in search sendable depth 40
 
-source_send : IsSend Source.the_row
-source_send = let a = MaskFuture-send in let b = Array-send in let c = cross.Arc-send Plan.the_row Plan-send Plan-sync in search sendable depth 40
-
-source_sync : IsSync Source.the_row
-source_sync = let a = MaskFuture-sync in let b = Array-sync in let c = cross.Arc-sync Plan.the_row Plan-send Plan-sync in search sendable depth 40
-
 source_field_send : IsSend (Source.the_field).row
 source_field_send = let a = MaskFuture-send in let b = Array-send in let c = cross.Arc-send Plan.the_row Plan-send Plan-sync in search sendable depth 40
 

@@ -1,5 +1,5 @@
 -- A walk over filters.
-use Rattle.std.proofs.Common.{◌≡◌, ℕ, zero, suc, ◌+◌, ◌<◌, ◌≤◌, Bool, true, false, List, [], ◌∷◌, ◌++◌, map, length, take, ◌-◌, drop, get_or, Option, Some, None, Ok, Err, refl, ap, subst, ◌∙◌, sym, arith}
+use Rattle.std.proofs.Common.{◌≡◌, ℕ, zero, suc, ◌+◌, ◌<◌, ◌≤◌, Bool, true, List, [], ◌∷◌, ◌++◌, map, length, take, ◌-◌, drop, get_or, Option, Some, None, Ok, Err, refl, ap, subst, ◌∙◌, sym, arith}
 use Rattle.scan_values.specs.Fits.{is_bool_type}
 use Rattle.scan_plans.specs.Came.{Came, arrived}
 use Rattle.scan_plans.specs.Given.{AreLacking}
@@ -118,9 +118,6 @@ goes_same here bits mid fs ran n r = record {
 pub stays_same : (here : Came) (m : MaskData) → SameMask here m m
 stays_same here m = record { mask = λ store h. refl; overflow = λ store h. refl; damage = λ store h. refl; may = λ id h. h; lacking = λ more x id. refl; spoiling = λ more x id h. h }
 
-none_lacks : (here : Came) (id : ℕ) → lacks [] here id ≡ false
-none_lacks here id = refl
-
 pub goes_answer : (here : Came) (bits mid : List Bool) (fs : List Filter) (ran n : ℕ) (o : Option (List ℕ)) → Reaches here bits (filters_of (drop ran fs)) n mid → Lacking here mid (drop n (filters_of (drop ran fs))) o
     → Knows here (mask_data bits (filters_of (drop ran fs))) (mask_data mid (filters_of (drop (ran + n) fs))) (Ok o)
 goes_answer here bits mid fs ran n None r l = (
@@ -133,11 +130,6 @@ goes_answer here bits mid fs ran n (Some ids) r l = record {
   exact = λ id. l.exact id ∙ sym (reach_lacks here bits (filters_of (drop ran fs)) n mid id r);
   good = λ id. reach_bad here bits (filters_of (drop ran fs)) n mid id r ∙ l.good id;
 }
-
-pub stops_answer : (here : Came) (bits : List Bool) (fs : List Seen) (m : MaskData) (x : ReadFault) → RunsAll here bits fs (Err x) → Knows here (mask_data bits fs) m (Err x)
-stops_answer here bits fs m (Corrupt id) h = h
-stops_answer here bits fs m Overflow h = h
-stops_answer here bits fs m NoMemory h = tt
 
 pub take_rest : {A : Type 0} (n : ℕ) (xs : List A) → take (length xs - n) (drop n xs) ≡ drop n xs
 take_rest zero xs = let z : length xs - 0 ≡ length xs = omega arith in ap (λ k. take k xs) z ∙ take_whole xs

@@ -1,8 +1,6 @@
 -- The array of a future: its masks first, then its values.
-use Rattle.std.proofs.Common.{◌≡◌, ◌≤◌, ◌+◌, ◌^◌, ◌==◌, not, ℕ, Bool, true, false, ◌||◌, List, [], ◌∷◌, map, drop, length, replicate, get_or, Some, None, Result, Ok, Err, refl, ap, ◌∙◌, sym, arith}
-use Rattle.std.proofs.lemmas.Bool.Decides.{nat_tests}
-use Rattle.std.proofs.lemmas.List.{length-map, length-replicate}
-use Rattle.std.specs.List.{list_all}
+use Rattle.std.proofs.Common.{◌≡◌, ◌+◌, ℕ, Bool, true, false, ◌||◌, List, [], ◌∷◌, map, drop, length, replicate, get_or, Some, None, Result, Ok, Err, refl, ap, ◌∙◌, sym}
+use Rattle.std.proofs.lemmas.List.{length-map}
 use Rattle.scan_values.specs.Arrays.{ArrayData}
 use Rattle.scan_values.specs.DataType.{DataType}
 use Rattle.scan_values.specs.Marked.{Marked}
@@ -13,7 +11,7 @@ use Rattle.scan_plans.specs.Futures.{FutureData, masks_in, rows_of, SameFuture}
 use Rattle.scan_plans.specs.Given.{Gives}
 use Rattle.scan_plans.specs.MaskLists.{under, nulled, dtype_under, masks_overflow}
 use Rattle.scan_plans.specs.Masks.{MaskData, mask_of}
-use Rattle.scan_plans.specs.Meaning.{value_at, overflow_on, plan_dtype, true_rows, Within}
+use Rattle.scan_plans.specs.Meaning.{value_at, overflow_on, plan_dtype, true_rows}
 use Rattle.scan_plans.specs.PlanTree.{rows}
 use Rattle.scan_plans.specs.Projecting.{KnowsAll, IsUnder, under_known, Projects, KnowsItems}
 use Rattle.scan_plans.specs.Wants.{wanted, lacks, Complete, spoils, spoiled}
@@ -42,17 +40,6 @@ all_rows d vs store = all_from vs vs 0 refl
 none_over : (d : DataType) (vs : List Val) (store : Store) (is : List ℕ) → overflow_on (rows d vs) store is ≡ false
 none_over d vs store [] = refl
 none_over d vs store (i ∷ is) = none_over d vs store is
-
-pub array_within : (d : DataType) (vs : List Val) → Within (rows d vs) (0 + length (replicate (length vs) true))
-array_within d vs = let e = length-replicate (length vs) true in omega (arith, e)
-
-pub array_numbers : (n : ℕ) (vs : List Val) → n ≡ length vs → n ≤ 2 ^ 64 → 0 + length (replicate (length vs) true) ≤ 2 ^ 64
-array_numbers n vs e l = let r = length-replicate (length vs) true in omega (arith, e, r, l)
-
--- it has no row where it has no item
-pub array_empty : (vs : List Val) → (length vs == 0) ≡ list_all not (replicate (length vs) true)
-array_empty [] = refl
-array_empty (v ∷ vs) = grind (arith, nat_tests)
 
 pub array_gives : (here : Came) (a b : ArrayData) → b ≡ a → Gives (rows a.dtype a.items) here (true_rows 0 (replicate (length a.items) true)) (Ok (given.Ready b))
 array_gives here a b e = (
@@ -121,8 +108,3 @@ module _ (here : Came) (new old : FutureData) (s : SameFuture here new old) (k :
 -- ---- where they are not
 pub masks_wait : (here : Came) (old : FutureData) (after : FutureData) (ids : List ℕ) → KnowsAll here (masks_in old) (masks_in after) (Ok (Some ids)) → Projects here old (Ok (Pending ids))
 masks_wait here old after ids k = k (wanted old.tree here (rows_of old (arrived here)))
-
-pub masks_stop : (here : Came) (old after : FutureData) (x : ReadFault) → KnowsAll here (masks_in old) (masks_in after) (Err x) → Projects here old (Err x)
-masks_stop here old after (Corrupt id) k = k (spoiled old.tree here (rows_of old (arrived here)) id)
-masks_stop here old after Overflow k = λ store h. ap (λ b. b || overflow_on old.tree store (rows_of old store)) (k store h)
-masks_stop here old after NoMemory k = tt

@@ -5,9 +5,9 @@ use Rattle.std.specs.List.{list_any, list_all}
 use Rattle.scan_values.specs.Marked.{is_true}
 use Rattle.scan_values.specs.Masks.{both_true}
 use Rattle.scan_segments.specs.Source.{Store}
-use Rattle.scan_layout.specs.Places.{Place}
+use Rattle.scan_spelling.specs.Places.{Place}
 use Rattle.scan_plans.specs.Came.{Came}
-use Rattle.scan_plans.specs.Masks.{MaskData, mask_data, kept, filtered, filters_wanted, mask_of, mask_wanted}
+use Rattle.scan_plans.specs.Masks.{MaskData, kept, filtered, filters_wanted, mask_of, mask_wanted}
 use Rattle.scan_plans.specs.Meaning.{value_at, true_rows}
 use Rattle.scan_plans.specs.PlanTree.{PlanTree, evaluate, numbers}
 use Rattle.scan_plans.specs.Pruning.{are_numbers, is_numbered, pruned, IsWithin, DropsNone, FiltersAlike}
@@ -72,10 +72,6 @@ module _ (p : PlanTree) (first : ℕ) (mask : List Bool) where
       by : (b : Bool) → FiltersAlike p store first mask (filtered store mask (if b then (p, first) ∷ [] else []))
       by true = kept_again p store first mask
       by false = filters_alike p store first mask
-
-  pub pruned_by : {E : Type 0} (b : Bool) (r : Result MaskData E) → is_numbered p ≡ b → IfOk r (λ m. m ≡ mask_data mask (if b then (p, first) ∷ [] else [])) → IfOk r (λ m. m ≡ pruned p first mask)
-  pruned_by b (Ok m) n h = h ∙ ap (λ (t : Bool). mask_data mask (if t then (p, first) ∷ [] else [])) (sym n)
-  pruned_by b (Err e) n h = tt
 
 pub of_pruned : {E : Type 0} (P : MaskData → Type 0) (m : MaskData) (r : Result MaskData E) → P m → IfOk r (λ x. x ≡ m) → IfOk r P
 of_pruned P m (Ok x) p h = subst P (sym h) p

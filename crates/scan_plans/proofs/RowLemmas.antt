@@ -1,6 +1,9 @@
 -- The true rows of a mask, part by part.
-use Rattle.std.proofs.Common.{◌≡◌, ℕ, zero, suc, ◌+◌, ◌-◌, ◌<◌, ◌≤◌, Bool, true, false, List, [], ◌∷◌, ◌++◌, map, take, drop, length, refl, ap, ◌∙◌, sym, arith}
-use Rattle.std.specs.List.{list_any}
+use Rattle.std.proofs.Common.{◌≡◌, ℕ, zero, suc, ◌+◌, ◌-◌, ◌<◌, ◌≤◌, Bool, true, false, List, [], ◌∷◌, ◌++◌, map, take, drop, get_or, length, refl, ap, ◌∙◌, sym, arith, append_assoc, add-one, drop-cons}
+use Rattle.std.proofs.Math.ListN.{set}
+use Rattle.std.specs.List.{list_any, items_where_true}
+use mir.Val.{bool_byte}
+use Rattle.scan_spelling.proofs.Keeping.{front}
 use Rattle.scan_plans.specs.Meaning.{true_rows}
 use Rattle.scan_plans.specs.Wants.{part_of}
 
@@ -90,3 +93,22 @@ rows_past first start mask h = rw (drop_all (start - first) mask h) refl
 abbrev pub rows_in : List (ℕ × ℕ) → ℕ
 rows_in [] = 0
 rows_in (g ∷ gs) = g.1 + rows_in gs
+
+-- ---- numbers of rows, written over others
+one_row : (b : Bool) (bs : List Bool) (row : ℕ) → true_rows row (b ∷ bs) ≡ items_where_true (b ∷ []) (row ∷ []) ++ true_rows (row + 1) bs
+one_row true bs row = refl
+one_row false bs row = refl
+
+pub rows_step : (bs : List Bool) (xs : List ℕ) (first i k : ℕ) (whole : List ℕ) → k ≤ i → i < length bs → length xs ≡ length bs
+    → take k xs ++ true_rows (first + i) (drop i bs) ≡ whole
+    → take (k + bool_byte (get_or bs i false)) (set xs k (first + i)) ++ true_rows (first + (i + 1)) (drop (i + 1) bs) ≡ whole
+rows_step bs xs first i k whole behind low even inv =
+    let b = get_or bs i false in
+    let room : k < length xs = omega (arith, behind, low, even) in
+    let bits : drop i bs ≡ b ∷ drop (i + 1) bs = rw add-one (drop-cons bs i false low) in
+    let up : first + (i + 1) ≡ first + i + 1 = omega arith in
+    (λ j. front b xs k (first + i) room j ++ true_rows (up j) (drop (i + 1) bs))
+    ∙ append_assoc (take k xs) (items_where_true (b ∷ []) ((first + i) ∷ [])) (true_rows (first + i + 1) (drop (i + 1) bs))
+    ∙ (λ j. take k xs ++ sym (one_row b (drop (i + 1) bs) (first + i)) j)
+    ∙ (λ j. take k xs ++ true_rows (first + i) (sym bits j))
+    ∙ inv

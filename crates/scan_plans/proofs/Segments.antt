@@ -1,12 +1,12 @@
 -- The values of a segment at the true rows of a mask.
 use Rattle.std.proofs.Common.{◌≡◌, ℕ, zero, suc, ◌+◌, ◌-◌, ◌≤◌, Bool, true, false, List, [], ◌∷◌, map, take, drop, length, get_or, Some, refl, ap, ◌∙◌, sym, arith}
 use Rattle.std.specs.Prelude.{slice_range, option_and_then}
-use Rattle.scan_layout.specs.Spelling.{decode}
-use Rattle.scan_layout.proofs.Lengths.{decode_length}
+use Rattle.scan_spelling.specs.Spelling.{decode}
+use Rattle.scan_spelling.proofs.Lengths.{decode_length}
 use Rattle.std.specs.List.{items_where_true}
 use Rattle.scan_values.specs.Val.{Val, null_val, marked}
 use Rattle.scan_segments.specs.Source.{Store}
-use Rattle.scan_layout.specs.Places.{Place, decoded}
+use Rattle.scan_spelling.specs.Places.{Place, decoded}
 use Rattle.scan_layout.specs.RowValue.{segment_value, item_of}
 use Rattle.scan_plans.specs.Meaning.{true_rows}
 

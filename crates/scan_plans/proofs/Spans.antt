@@ -15,10 +15,6 @@ use Rattle.scan_plans.specs.Lists.{rows_on, least_row, greatest_row, offset_coun
 abbrev pub among : ℕ → List ℕ → Bool
 among i is = list_any (λ j. j == i) is
 
-or_true : (b : Bool) → (b || true) ≡ true
-or_true true = refl
-or_true false = refl
-
 pub on_rows : (a n j : ℕ) → a ≤ j → j < a + n → among j (rows_on a n) ≡ true
 on_rows a zero j low high = absurd (omega (arith, low, high))
 on_rows a (suc n) j low high = first (a == j) refl (λ h. on_rows (a + 1) n j h (omega (arith, high)))

@@ -10,8 +10,8 @@ use Rattle.scan_values.specs.Marked.{struct}
 use Rattle.scan_values.specs.Val.{is_clean}
 use Rattle.scan_segments.specs.Source.{Store}
 use Rattle.scan_expr.specs.Eval.{eval}
-use Rattle.scan_layout.specs.Spelling.{decode}
-use Rattle.scan_layout.specs.Places.{Place, places_of}
+use Rattle.scan_spelling.specs.Spelling.{decode}
+use Rattle.scan_spelling.specs.Places.{Place, places_of}
 use Rattle.scan_layout.specs.RowValue.{leaf_value, segment_value, item_of, offset_of}
 use Rattle.scan_plans.specs.PlanTree.{PlanTree, leaf, rows, evaluate, over, constant, lists, lengths, valid, numbers, by_lengths, PlanTrees, no_plans, plan}
 use Rattle.scan_plans.specs.OffsetsData.{OffsetsData, offset_at, offset_places}
@@ -47,14 +47,6 @@ knows_here o here is c = ap (λ b. is_whole o is || b) (complete_here (offsets_w
     either_way : (b : Bool) → (b || true) ≡ true
     either_way true = refl
     either_way false = refl
-
-or_left : (a b : Bool) → (a || b) ≡ false → a ≡ false
-or_left true b h = h
-or_left false b h = refl
-
-or_right : (a b : Bool) → (a || b) ≡ false → b ≡ false
-or_right true b h = absurd cc
-or_right false b h = h
 
 and_or_left : (a b c : Bool) → ((a || b) && c) ≡ false → (a && c) ≡ false
 and_or_left true b c h = h

@@ -5,8 +5,8 @@ use Rattle.std.proofs.lemmas.Bool.Decides.{nat_tests}
 use Rattle.std.proofs.lemmas.List.Folds.{list_any-append}
 use Rattle.scan_values.specs.DataType.{DataType}
 use Rattle.scan_values.specs.Selections.{is_among}
-use Rattle.scan_layout.specs.declared.spelling.Spelling.{Spelling}
-use Rattle.scan_layout.specs.Places.{Place, place_of, places_of}
+use Rattle.scan_spelling.specs.declared.spelling.Spelling.{Spelling}
+use Rattle.scan_spelling.specs.Places.{Place, place_of, places_of}
 use Rattle.scan_layout.specs.Touched.{leaf_touched}
 use Rattle.scan_plans.specs.PlanTree.{PlanTree, leaf, rows, evaluate, over, constant, lists, lengths, valid, numbers, by_lengths, PlanTrees, no_plans, plan}
 use Rattle.scan_plans.specs.Lists.{offset_rows, element_rows}

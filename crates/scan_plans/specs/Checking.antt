@@ -1,6 +1,6 @@
 -- What a contract sees of the look at what has arrived of what rows want.
 use Rattle.std.specs.Prelude.{◌≡◌, ℕ, Bool, true, false, List, Option, Some, None, Result, Ok, Err}
-use Rattle.scan_layout.specs.Places.{Place}
+use Rattle.scan_spelling.specs.Places.{Place}
 use Rattle.scan_plans.specs.Came.{Came}
 use Rattle.scan_plans.specs.OffsetReads.{WantsRows}
 use Rattle.scan_plans.specs.OffsetsData.{OffsetsData}

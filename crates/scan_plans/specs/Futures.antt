@@ -6,7 +6,7 @@ use Rattle.scan_values.specs.DataType.{DataType}
 use Rattle.scan_values.specs.Marked.{Marked}
 use Rattle.scan_values.specs.Val.{marked}
 use Rattle.scan_segments.specs.Source.{Store}
-use Rattle.scan_layout.specs.Places.{Place}
+use Rattle.scan_spelling.specs.Places.{Place}
 use Rattle.scan_plans.specs.Came.{Came, arrived, Holds}
 use Rattle.scan_plans.specs.Masks.{MaskData, mask_data, mask_code, mask_of}
 use Rattle.scan_plans.specs.MaskLists.{under, dtype_under, masks_damage, masks_overflow, masks_wanted, masks_spoiled, masks_may, SameMasks}

@@ -1,7 +1,7 @@
 -- What rows of a plan give or lack.
 use Rattle.std.specs.Prelude.{◌≡◌, ℕ, true, List, Option, Some, None, Result, Ok, Err}
 use Rattle.scan_values.specs.Selections.{is_among}
-use Rattle.scan_layout.specs.Places.{Place}
+use Rattle.scan_spelling.specs.Places.{Place}
 use Rattle.scan_splits.specs.Wanted.{is_any}
 use Rattle.scan_plans.specs.PlanTree.{PlanTree}
 use Rattle.scan_plans.specs.Came.{Came, arrived}

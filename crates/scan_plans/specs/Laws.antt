@@ -2,7 +2,7 @@
 use Rattle.std.specs.Prelude.{◌≡◌, ◌+◌, ℕ, Bool, true, not, List, [], length}
 use Rattle.std.specs.List.{list_all}
 use Rattle.scan_values.specs.Selections.{is_among}
-use Rattle.scan_layout.specs.Places.{Place}
+use Rattle.scan_spelling.specs.Places.{Place}
 use Rattle.scan_layout.specs.Touched.{leaf_touched}
 use Rattle.scan_plans.specs.PlanTree.{PlanTree}
 use Rattle.scan_plans.specs.Came.{Came}

@@ -4,7 +4,7 @@ use Rattle.scan_values.specs.DataType.{DataType, with_nullability}
 use Rattle.scan_values.specs.declared.ptype.Nullability.TheVariants.{Nullable}
 use Rattle.scan_values.specs.Marked.{Marked, null}
 use Rattle.scan_segments.specs.Source.{Store}
-use Rattle.scan_layout.specs.Places.{Place}
+use Rattle.scan_spelling.specs.Places.{Place}
 use Rattle.scan_plans.specs.Came.{Came}
 use Rattle.scan_plans.specs.Masks.{MaskData, mask_of, mask_damage, mask_overflow, mask_wanted, mask_spoiled, mask_may, SameMask}
 use Rattle.scan_plans.specs.Wants.{are_here}

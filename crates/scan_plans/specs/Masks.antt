@@ -5,7 +5,7 @@ use Rattle.scan_values.specs.Fits.{is_bool_type}
 use Rattle.scan_values.specs.Marked.{is_true}
 use Rattle.scan_values.specs.Selections.{is_among}
 use Rattle.scan_segments.specs.Source.{Store}
-use Rattle.scan_layout.specs.Places.{Place}
+use Rattle.scan_spelling.specs.Places.{Place}
 use Rattle.scan_plans.specs.PlanTree.{PlanTree}
 use Rattle.scan_plans.specs.PlanCode.{plan_code}
 use Rattle.scan_plans.specs.Came.{Came, arrived, Extends, Holds}

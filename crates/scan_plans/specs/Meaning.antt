@@ -11,7 +11,7 @@ use Rattle.scan_expr.specs.Infer.{infer}
 use Rattle.scan_expr.specs.Eval.{eval}
 use Rattle.scan_expr.specs.Overflow.{overflows}
 use Rattle.scan_layout.specs.Check.{total_rows}
-use Rattle.scan_layout.specs.Places.{places_of}
+use Rattle.scan_spelling.specs.Places.{places_of}
 use Rattle.scan_layout.specs.RowValue.{leaf_value, elements_between, under}
 use Rattle.scan_plans.specs.PlanTree.{PlanTree, leaf, rows, evaluate, over, constant, lists, lengths, valid, numbers, by_lengths, PlanTrees, no_plans, plan}
 use Rattle.scan_plans.specs.OffsetsData.{offset_at, length_between}

@@ -5,8 +5,8 @@ use Rattle.scan_values.specs.declared.ptype.Nullability.TheVariants.{NonNullable
 use Rattle.scan_values.specs.declared.ptype.PType.{PType}
 use Rattle.scan_values.specs.Marked.{Marked, gone, integer}
 use Rattle.scan_segments.specs.Source.{Store}
-use Rattle.scan_layout.specs.declared.spelling.Spelling.{Spelling}
-use Rattle.scan_layout.specs.Places.{Place, places_of}
+use Rattle.scan_spelling.specs.declared.spelling.Spelling.{Spelling}
+use Rattle.scan_spelling.specs.Places.{Place, places_of}
 use Rattle.scan_layout.specs.RowValue.{leaf_value, offset_of}
 
 -- the dtype, the spelling and the segments of their leaf, and how many elements there are

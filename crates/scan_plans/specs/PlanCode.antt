@@ -7,8 +7,8 @@ use Rattle.scan_values.specs.DataType.{DataType}
 use Rattle.scan_values.specs.DataType as dtypes
 use Rattle.scan_values.specs.Val.{Val}
 use Rattle.scan_expr.specs.ExprCode as exprs
-use Rattle.scan_layout.specs.declared.spelling.Spelling.{Spelling}
-use Rattle.scan_layout.specs.declared.spelling.Spelling.TheVariants.{One, Two}
+use Rattle.scan_spelling.specs.declared.spelling.Spelling.{Spelling}
+use Rattle.scan_spelling.specs.declared.spelling.Spelling.TheVariants.{One, Two}
 use Rattle.scan_layout.specs.LayoutCode.{pairs_tree, tree_pairs, tree_pairs-pairs_tree}
 use Rattle.scan_plans.specs.PlanTree.{PlanTree, leaf, rows, evaluate, over, constant, lists, lengths, valid, numbers, by_lengths, PlanTrees, no_plans, plan}
 use Rattle.scan_plans.specs.OffsetsData.{OffsetsData, offsets_data}

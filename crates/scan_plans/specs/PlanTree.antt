@@ -3,7 +3,7 @@ use Rattle.std.specs.Prelude.{ℕ, ◌+◌, List, [], ◌∷◌}
 use Rattle.scan_values.specs.DataType.{DataType}
 use Rattle.scan_values.specs.Val.{Val}
 use Rattle.scan_expr.specs.Expr.{Expr}
-use Rattle.scan_layout.specs.declared.spelling.Spelling.{Spelling}
+use Rattle.scan_spelling.specs.declared.spelling.Spelling.{Spelling}
 use Rattle.scan_plans.specs.OffsetsData.{OffsetsData}
 
 mutual

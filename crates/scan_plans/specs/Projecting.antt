@@ -4,7 +4,7 @@ use Rattle.scan_values.specs.Arrays.{ArrayData}
 use Rattle.scan_values.specs.Marked.{Marked}
 use Rattle.scan_values.specs.Val.{marked}
 use Rattle.scan_segments.specs.Source.{Store}
-use Rattle.scan_layout.specs.Places.{Place}
+use Rattle.scan_spelling.specs.Places.{Place}
 use Rattle.scan_plans.specs.Came.{Came, Holds}
 use Rattle.scan_plans.specs.Futures.{FutureData, AreRows, GivesItems, future_wanted, future_spoiled, future_overflow}
 use Rattle.scan_plans.specs.Given.{AreLacking}

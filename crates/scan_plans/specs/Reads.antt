@@ -5,7 +5,7 @@ use Rattle.scan_values.specs.Arrays.{ArrayData}
 use Rattle.scan_values.specs.Selections.{is_among}
 use Rattle.scan_values.specs.Val.{marked}
 use Rattle.scan_segments.specs.Source.{Store}
-use Rattle.scan_layout.specs.Places.{Place, decoded}
+use Rattle.scan_spelling.specs.Places.{Place, decoded}
 use Rattle.scan_layout.specs.RowValue.{segment_value}
 use Rattle.scan_plans.specs.PlanTree.{PlanTree, PlanTrees, no_plans, plan}
 use Rattle.scan_plans.specs.Came.{Came, arrived}

@@ -2,8 +2,8 @@
 use Rattle.std.specs.Prelude.{◌≡◌, ℕ, ◌+◌, ◌-◌, ◌==◌, take, drop, nat_le, nat_lt, Bool, true, false, ◌&&◌, ◌||◌, ◌++◌, List, [], ◌∷◌, map, if◌then◌else◌, Option, Some, None, is_none, is_some}
 use Rattle.std.specs.List.{list_any, list_all}
 use Rattle.scan_segments.specs.Source.{Store}
-use Rattle.scan_layout.specs.Spelling.{decode}
-use Rattle.scan_layout.specs.Places.{Place, places_of}
+use Rattle.scan_spelling.specs.Spelling.{decode}
+use Rattle.scan_spelling.specs.Places.{Place, places_of}
 use Rattle.scan_plans.specs.Came.{Came, arrived}
 use Rattle.scan_plans.specs.PlanTree.{PlanTree, leaf, rows, evaluate, over, constant, lists, lengths, valid, numbers, by_lengths, PlanTrees, no_plans, plan}
 use Rattle.scan_plans.specs.OffsetsData.{OffsetsData, offset_places, offset_at}

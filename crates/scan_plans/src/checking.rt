@@ -3,7 +3,7 @@ ghost use Rattle.std.specs.Prelude.{◌≡◌, ◌<◌, ◌+◌, ◌∷◌, [], 
 ghost use Rattle.std.specs.List.{list_any};
 ghost use Rattle.scan_values.specs.Kinds.{is_scalar_type};
 ghost use Rattle.scan_layout.specs.Check.{total_rows};
-ghost use Rattle.scan_layout.specs.Places.{places_of, place_of};
+ghost use Rattle.scan_spelling.specs.Places.{places_of, place_of};
 ghost use Rattle.scan_plans.specs.Came.{Came, came};
 ghost use Rattle.scan_plans.specs.Checking.{ChecksPlaces, ChecksPlan, ChecksAll, KnownOf};
 ghost use Rattle.scan_plans.specs.Meaning.{Within, AllWithin, true_rows};

@@ -22,6 +22,7 @@ use crate::fault::ReadFault;
 use crate::given::{Given, give};
 use crate::mask::MaskFuture;
 use crate::plan::Plan;
+use scan_columns::Column;
 use scan_splits::{Inbox, Poll, WantedIds};
 use scan_values::{Array, Mask, NoMemory};
 use std::alloc::Global;
@@ -44,10 +45,10 @@ impl Drop for Source {
     }
 }
 
-/// An array, or the ids of the segments that lack.
+/// A column, or the ids of the segments that lack.
 #[derive(Drop)]
 pub enum Items {
-    Ready(Array),
+    Ready(Column),
     Pending(WantedIds),
 }
 
@@ -120,9 +121,9 @@ impl Source {
         match self {
             Source::Plan(plan, first, mask) => {
                 let given = give(alloc, plan.node(), *first, mask.known(), inbox)?;
-                as_items(alloc, given)
+                Ok(as_items(given))
             }
-            Source::Array(array) => Ok(Items::Ready(array.try_clone(alloc)?)),
+            Source::Array(array) => Ok(Items::Ready(column_of(alloc, array)?)),
         }
     }
 
@@ -151,27 +152,46 @@ impl Source {
     }
 }
 
+/// The numbers of the true rows of a mask that begins at a row, written over others without a branch.
+fn written_rows(rows: Vec<u64>, first: u64, bits: &[bool]) -> Vec<u64>
+    requires within { first + length bits.now ≤ 2 ^ 64 }
+    requires length { length rows.items ≡ length bits.now }
+    ensures { result.items ≡ true_rows first bits.now }
+{
+    let mut rows = rows;
+    let mut count = 0;
+    for i in 0..bits.len() {
+        rows[count] = first + i as u64;
+        count += bits[i] as usize;
+    }
+    rows.truncate(count);
+    rows
+}
+
 /// The numbers of the true rows of a mask that begins at a row.
 fn true_numbers(alloc: Global, first: u64, bits: &[bool]) -> Result<Vec<u64>, NoMemory>
     requires { first + length bits.now ≤ 2 ^ 64 }
     ensures { IfOk result (λ v. v.items ≡ true_rows first bits.now) }
 {
-    let mut rows = Vec::new(alloc);
-    for i in 0..bits.len() {
-        if bits[i] {
-            rows.push(first + i as u64)?;
-        }
-    }
-    Ok(rows)
+    let rows = vec![in alloc; 0; bits.len()]?;
+    Ok(written_rows(rows, first, bits))
 }
 
-/// The array of a column. It is made here, and nowhere before.
-fn as_items(alloc: Global, given: Given) -> Result<Items, ReadFault>
-    ensures { (p : PlanTree) (here : Came) (is : List ℕ) → Gives p here is (Ok given) → Gives p here is (as_given result) }
+/// A column of an array's values.
+fn column_of(alloc: Global, array: &Array) -> Result<Column, NoMemory>
+    ensures { IfOk result (λ c. c ≡ array.now) }
+{
+    let copy = array.try_clone(alloc)?;
+    Column::from_array(alloc, copy)
+}
+
+/// What a plan gives, as what a future gives.
+fn as_items(given: Given) -> Items
+    ensures { (p : PlanTree) (here : Came) (is : List ℕ) → Gives p here is (Ok given) → Gives p here is (as_given (Ok result)) }
 {
     match given {
-        Given::Ready(column) => Ok(Items::Ready(column.to_array(alloc)?)),
-        Given::Pending(ids) => Ok(Items::Pending(ids)),
+        Given::Ready(column) => Items::Ready(column),
+        Given::Pending(ids) => Items::Pending(ids),
     }
 }
 
@@ -211,11 +231,11 @@ fn fitted(alloc: Global, mask: &Mask, len: usize) -> Result<Mask, NoMemory>
     Ok(Mask::from_bools(made))
 }
 
-/// An array, null outside what is known of masks.
-fn under(alloc: Global, array: Array, masks: &[MaskFuture]) -> Result<Array, NoMemory>
-    ensures { IfOk result (λ a. IsUnder masks.now array a) }
+/// A column, null outside what is known of masks.
+fn under(alloc: Global, column: Column, masks: &[MaskFuture]) -> Result<Column, NoMemory>
+    ensures { IfOk result (λ a. IsUnder masks.now column a) }
 {
-    let mut masked = array;
+    let mut masked = column;
     for mask in masks {
         let bits = fitted(alloc, mask.known(), masked.len())?;
         masked = masked.mask(alloc, &bits)?;
@@ -270,7 +290,7 @@ impl ArrayFuture {
             Projects (came inbox.now) old result }
     {
         match self.source.give(alloc, inbox)? {
-            Items::Ready(array) => Ok(Items::Ready(under(alloc, array, &self.outer)?)),
+            Items::Ready(column) => Ok(Items::Ready(under(alloc, column, &self.outer)?)),
             Items::Pending(ids) => Ok(Items::Pending(ids)),
         }
     }
@@ -287,8 +307,8 @@ impl ArrayFuture {
         self.values(alloc, inbox)
     }
 
-    /// The array of the values, or what is wanted next.
-    pub fn poll(&mut self, alloc: Global, inbox: &Inbox) -> Poll<Array>
+    /// The values as a column, or what is wanted next.
+    pub fn poll_column(&mut self, alloc: Global, inbox: &Inbox) -> Poll<Column>
         ensures answer { Polls (came inbox.now) self.old result }
         ensures same { SameFuture (came inbox.now) self.new self.old }
         ensures rows { KnowsRows (came inbox.now) self.old self.new result }
@@ -296,6 +316,24 @@ impl ArrayFuture {
         match self.read(alloc, inbox) {
             Ok(items) => answered(items),
             Err(fault) => refused(fault),
+        }
+    }
+
+    /// The array of the values, or what is wanted next.
+    pub fn poll(&mut self, alloc: Global, inbox: &Inbox) -> Poll<Array>
+        ensures answer { Polls (came inbox.now) self.old result }
+        ensures same { SameFuture (came inbox.now) self.new self.old }
+        ensures rows { KnowsRows (came inbox.now) self.old self.new result }
+    {
+        match self.poll_column(alloc, inbox) {
+            Poll::Ready(column) => match column.to_array(alloc) {
+                Ok(array) => Poll::Ready(array),
+                Err(_) => Poll::NoMemory,
+            },
+            Poll::Pending(ids) => Poll::Pending(ids),
+            Poll::Corrupt(id) => Poll::Corrupt(id),
+            Poll::Overflow => Poll::Overflow,
+            Poll::NoMemory => Poll::NoMemory,
         }
     }
 
@@ -316,19 +354,19 @@ impl ArrayFuture {
 }
 
 /// The answer of a poll of which this is read.
-fn answered(items: Items) -> Poll<Array>
+fn answered(items: Items) -> Poll<Column>
     ensures answer { (here : Came) (f : FutureData) → Projects here f (Ok items) → Polls here f result }
     ensures rows { (here : Came) (old new : FutureData) → KnowsItems here old new (Ok items) →
         KnowsRows here old new result }
 {
     match items {
-        Items::Ready(array) => Poll::Ready(array),
+        Items::Ready(column) => Poll::Ready(column),
         Items::Pending(ids) => Poll::Pending(ids),
     }
 }
 
 /// The answer of a poll that refuses.
-fn refused(fault: ReadFault) -> Poll<Array>
+fn refused(fault: ReadFault) -> Poll<Column>
     ensures answer { (here : Came) (f : FutureData) → Projects here f (Err fault) → Polls here f result }
     ensures rows { (here : Came) (old new : FutureData) → KnowsRows here old new result }
 {

@@ -4,9 +4,9 @@ ghost use Rattle.std.specs.List.{list_any};
 ghost use Rattle.scan_values.specs.Arrays.{of_parts};
 ghost use Rattle.scan_values.specs.DataType.{DataType};
 ghost use Rattle.scan_values.specs.Kinds.{is_scalar_type};
-ghost use Rattle.scan_layout.specs.declared.spelling.Spelling.{Spelling};
+ghost use Rattle.scan_spelling.specs.declared.spelling.Spelling.{Spelling};
 ghost use Rattle.scan_layout.specs.Check.{total_rows};
-ghost use Rattle.scan_layout.specs.Places.{Place, places_of, place_of};
+ghost use Rattle.scan_spelling.specs.Places.{Place, places_of, place_of};
 ghost use Rattle.scan_plans.specs.PlanTree.{leaf};
 ghost use Rattle.scan_plans.specs.Came.{came, arrived};
 ghost use Rattle.scan_plans.specs.Meaning.{true_rows};
@@ -18,20 +18,19 @@ use scan_columns::Column;
 use scan_layout::{DecodeFault, LeafColumn, Spelling};
 use scan_segments::{ByteBuffer, SegmentId};
 use scan_splits::{Arrival, Inbox, SegmentRuns, Wants};
-use scan_values::{Array, DType, NoMemory};
+use scan_values::{DType, NoMemory};
 use std::alloc::Global;
 use std::sync::Arc;
 
-/// Whether a row is true.
+/// Whether a row is true, without a way out.
 pub(crate) fn any_true(bits: &[bool]) -> bool
     ensures { result ≡ list_any (λ b. b) bits.now }
 {
+    let mut any = false;
     for bit in bits {
-        if *bit {
-            return true;
-        }
+        any |= *bit;
     }
-    false
+    any
 }
 
 /// Of the bits of the rows from `first` on, those of the rows from `start` up to `end`.
@@ -172,8 +171,16 @@ fn with_segment(
 pub(crate) fn no_values(alloc: Global, dtype: &DType) -> Result<Column, NoMemory>
     ensures { IfOk result (λ c. c ≡ of_parts dtype.now []) }
 {
-    let dtype = dtype.try_clone(alloc)?;
-    Column::from_array(alloc, Array::of_fitting(dtype, Vec::new(alloc)))
+    let dtype = Arc::new(alloc, dtype.try_clone(alloc)?)?;
+    Ok(Column::empty(alloc, dtype))
+}
+
+/// No values, of a dtype that is shared.
+fn nothing_yet(alloc: Global, dtype: &Arc<DType>) -> Result<Column, NoMemory>
+    ensures { IfOk result (λ c. c ≡ of_parts dtype.now.value []) }
+{
+    let dtype = dtype.clone()?;
+    Ok(Column::empty(alloc, dtype))
 }
 
 /// The values of a leaf at the true rows, of the rows from `first` on, by what has arrived.
@@ -190,7 +197,7 @@ pub(crate) fn read_leaf(
     requires within { first + length bits.now ≤ total_rows runs.now }
     ensures { Reads (leaf dtype.now.value spelling runs.now) (came inbox.now) (true_rows first bits.now) result }
 {
-    let mut column = no_values(alloc, dtype)?;
+    let mut column = nothing_yet(alloc, dtype)?;
     for k in runs.first_at(first)..runs.len() {
         let start = runs.start(k);
         if ends_before(first, bits, start) {

@@ -2,6 +2,7 @@
 #![tactic(auto)]
 
 mod checking;
+mod climbing;
 mod copying;
 mod fault;
 mod future;

@@ -11,8 +11,8 @@ ghost use Rattle.scan_values.specs.Values.{val_of};
 ghost use Rattle.scan_columns.specs.Nested.{sizes, sums, Rises, total, cuts, list_of};
 ghost use Rattle.scan_columns.specs.Typed.{typed};
 ghost use Rattle.scan_layout.specs.Check.{total_rows};
-ghost use Rattle.scan_layout.specs.Places.{places_of};
-ghost use Rattle.scan_layout.specs.declared.spelling.Spelling.{Spelling};
+ghost use Rattle.scan_spelling.specs.Places.{places_of};
+ghost use Rattle.scan_spelling.specs.declared.spelling.Spelling.{Spelling};
 ghost use Rattle.scan_plans.specs.Came.{came};
 ghost use Rattle.scan_plans.specs.ListItems.{number_of, length_val, sizes_in, first_in, last_in};
 ghost use Rattle.scan_plans.specs.Lists.{good_offset, is_whole};
@@ -23,6 +23,7 @@ ghost use Rattle.scan_plans.specs.PlanTree.{lengths};
 ghost use Rattle.scan_plans.specs.Reads.{CollectsPlan, Reads};
 ghost use Rattle.scan_plans.specs.Wants.{leaf_wanted, names_id, offsets_wanted, Complete};
 
+use crate::climbing::climbing_column;
 use crate::fault::ReadFault;
 use crate::leaf::{collect_leaf, no_values, read_leaf};
 use crate::offsets::Offsets;
@@ -140,7 +141,7 @@ impl Offsets {
         Ok(made)
     }
 
-    /// So many offsets, from the one of a row on.
+    /// So many offsets, from the one of a row on: read at once, or, where one is no good, one after another.
     fn read(
         &self,
         alloc: Global,
@@ -161,6 +162,9 @@ impl Offsets {
             mask.as_slice(),
             inbox,
         )?;
+        if let Some(offsets) = climbing_column(alloc, self.elements, &column)? {
+            return Ok(offsets);
+        }
         let array = column.to_array(alloc)?;
         let numbers = numbers(alloc, &array)?;
         self.checked(alloc, first, &numbers)

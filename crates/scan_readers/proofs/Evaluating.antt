@@ -6,7 +6,7 @@ use Rattle.std.proofs.lemmas.List.Folds.{list_any-append}
 use Rattle.scan_values.specs.Marked.{is_true}
 use Rattle.scan_values.specs.Masks.{both_true}
 use Rattle.scan_segments.specs.Source.{Store}
-use Rattle.scan_layout.specs.Places.{Place}
+use Rattle.scan_spelling.specs.Places.{Place}
 use Rattle.scan_expr.specs.Bound.{Bound}
 use Rattle.scan_plans.specs.PlanTree.{PlanTree, evaluate, numbers}
 use Rattle.scan_plans.specs.PlanData.{PlanData}

@@ -17,13 +17,13 @@ use Rattle.scan_values.specs.Same.{same_type, same_type-Decides}
 use Rattle.scan_values.specs.Val.{Val}
 use Rattle.scan_segments.specs.Source.{Store}
 use Rattle.scan_layout.specs.declared.node.LayoutKind.TheVariants.{List as List'}
-use Rattle.scan_layout.specs.declared.spelling.Spelling.{Spelling}
-use Rattle.scan_layout.specs.declared.spelling.Spelling.TheVariants.{One, Two}
+use Rattle.scan_spelling.specs.declared.spelling.Spelling.{Spelling}
+use Rattle.scan_spelling.specs.declared.spelling.Spelling.TheVariants.{One, Two}
 use Rattle.scan_layout.specs.Check.{total_rows}
 use Rattle.scan_layout.specs.Layout.{Layout, Nodes, node, child, rows_of}
-use Rattle.scan_layout.specs.Places.{Place, places_of, decoded}
+use Rattle.scan_spelling.specs.Places.{Place, places_of, decoded}
 use Rattle.scan_layout.specs.RowValue.{leaf_value, item_of, segment_value, offset_of}
-use Rattle.scan_layout.specs.Spelling.{decode}
+use Rattle.scan_spelling.specs.Spelling.{decode}
 use Rattle.scan_layout.specs.Touched.{touched, below_step, leaf_touched, greater}
 use Rattle.scan_plans.specs.Came.{Came, arrived, Holds}
 use Rattle.scan_plans.specs.Lists.{rows_on, before_next}

@@ -1,7 +1,6 @@
 -- Plans that are kept.
 use Rattle.std.proofs.Common.{◌≡◌, ℕ, zero, suc, ◌+◌, ◌<◌, ◌≤◌, Bool, true, false, List, [], ◌∷◌, ◌++◌, length, get_or, drop, Option, Some, None, Result, Ok, Err, refl, ap, sym, subst, ◌∙◌, arith, add-one, drop-cons}
 use Rattle.std.specs.Prelude.{if◌then◌else◌, IfOk, OnOk, OnErr}
-use Rattle.std.proofs.lemmas.List.{map-append}
 use Rattle.std.specs.declared.alloc.Global.{Global}
 use Rattle.std.specs.declared.sync.Arc.{Arc}
 use Rattle.scan_expr.specs.Bound.{Bound}
@@ -24,9 +23,6 @@ found_past [] zero e h = refl
 found_past [] (suc i) e h = refl
 found_past (r ∷ rs) zero e h = absurd (omega arith)
 found_past (r ∷ rs) (suc i) e h = found_past rs i e (omega arith)
-
-pub plans_pushed : (rs : List (Arc PlanData Global)) (r : Arc PlanData Global) → plans_of (rs ++ r ∷ []) ≡ plans_of rs ++ r.value ∷ []
-plans_pushed rs r = map-append (λ (x : Arc PlanData Global). x.value) rs (r ∷ [])
 
 -- ---- a plan more
 stays_by : (b : Bool) (r p : PlanData) (x y : Option PlanData) → (x ≡ Some p → y ≡ Some p) → (if b then Some r else x) ≡ Some p → (if b then Some r else y) ≡ Some p

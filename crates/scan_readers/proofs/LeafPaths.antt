@@ -11,12 +11,12 @@ use Rattle.scan_values.specs.Paths.{Path, Step, to_field, to_validity, to_offset
 use Rattle.scan_segments.specs.Source.{Store}
 use Rattle.scan_expr.specs.Needs.{is_leaf, is_field_leaf, is_validity, under_field}
 use Rattle.scan_layout.specs.declared.node.LayoutKind.TheVariants.{Leaf, Struct, List as List'}
-use Rattle.scan_layout.specs.declared.spelling.Spelling.{Spelling}
+use Rattle.scan_spelling.specs.declared.spelling.Spelling.{Spelling}
 use Rattle.scan_layout.specs.Check.{serves, validity_types}
 use Rattle.scan_layout.specs.Form.{HasForm, HaveForms}
 use Rattle.scan_layout.specs.Laws.{Each}
 use Rattle.scan_layout.specs.Layout.{Layout, Nodes, node, no_nodes, child, rows_of}
-use Rattle.scan_layout.specs.Places.{Place, place_of, places_of}
+use Rattle.scan_spelling.specs.Places.{Place, place_of, places_of}
 use Rattle.scan_layout.specs.RowValue.{row_value}
 use Rattle.scan_layout.specs.Touched.{touched, below_step, nth_touched, all_touched, leaf_touched, under_step, field_steps, element_from, element_to}
 use Rattle.scan_layout.proofs.Local.{agree_both}

@@ -9,7 +9,7 @@ use Rattle.scan_values.specs.NameFaults.{dtype_fault}
 use Rattle.scan_expr.specs.Bound.{Bound, bound_of}
 use Rattle.scan_expr.specs.Expr.{root}
 use Rattle.scan_layout.specs.declared.node.LayoutKind.TheVariants.{Leaf, Struct, List as List'}
-use Rattle.scan_layout.specs.declared.spelling.Spelling.{Spelling}
+use Rattle.scan_spelling.specs.declared.spelling.Spelling.{Spelling}
 use Rattle.scan_layout.specs.Check.{serves, validity_types}
 use Rattle.scan_layout.specs.Form.{HasForm, HaveForms}
 use Rattle.scan_layout.specs.Layout.{Layout, Nodes, node, no_nodes, child, count, dtype_of, kids_of, kind_of, rows_of}

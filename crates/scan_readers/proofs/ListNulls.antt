@@ -15,11 +15,11 @@ use Rattle.scan_expr.specs.Eval.{eval, null_test}
 use Rattle.scan_expr.specs.Expr.{Expr, root, row_index, literal, unary, binary, pack, Parts, no_parts, part}
 use Rattle.scan_expr.specs.Overflow.{overflows}
 use Rattle.scan_layout.specs.declared.node.LayoutKind.TheVariants.{Leaf}
-use Rattle.scan_layout.specs.declared.spelling.Spelling.{Spelling}
+use Rattle.scan_spelling.specs.declared.spelling.Spelling.{Spelling}
 use Rattle.scan_layout.specs.Check.{total_rows}
 use Rattle.scan_layout.specs.Form.{HasForm}
 use Rattle.scan_layout.specs.Layout.{Layout, Nodes, node, no_nodes, child, rows_of}
-use Rattle.scan_layout.specs.Places.{Place}
+use Rattle.scan_spelling.specs.Places.{Place}
 use Rattle.scan_layout.specs.RowValue.{row_value, elements_between, values_from, under}
 use Rattle.scan_layout.proofs.RowFits.{row_fits}
 use Rattle.scan_partition.specs.declared.item.Item.TheVariants.{Validity as NullItem}

@@ -15,12 +15,12 @@ use Rattle.scan_expr.specs.Bound.{Bound, bound_of}
 use Rattle.scan_expr.specs.Expr.{root}
 use Rattle.scan_expr.specs.Needs.{needed}
 use Rattle.scan_layout.specs.declared.node.LayoutKind.TheVariants.{Leaf, Struct, List as List'}
-use Rattle.scan_layout.specs.declared.spelling.Spelling.{Spelling}
+use Rattle.scan_spelling.specs.declared.spelling.Spelling.{Spelling}
 use Rattle.scan_layout.specs.Check.{serves, total_rows, validity_types}
 use Rattle.scan_layout.specs.Form.{HasForm, HaveForms, AllHaveRows}
 use Rattle.scan_layout.specs.Laws.{Each}
 use Rattle.scan_layout.specs.Layout.{Layout, Nodes, node, no_nodes, child, rows_of}
-use Rattle.scan_layout.specs.Places.{Place, places_of}
+use Rattle.scan_spelling.specs.Places.{Place, places_of}
 use Rattle.scan_layout.specs.Touched.{touched, below_step, nth_touched, leaf_touched, least_offset, greatest_offset, element_from, element_to}
 use Rattle.scan_layout.proofs.Local.{inner_places, element_places, list_places, least_most}
 use Rattle.scan_partition.specs.Lists.{necessary}

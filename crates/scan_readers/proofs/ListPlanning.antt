@@ -1,26 +1,22 @@
 -- The values of plans over a list's children are those of the list's rows.
 use Rattle.std.proofs.Common.{◌≡◌, ℕ, zero, suc, ◌+◌, ◌-◌, ◌<◌, Bool, true, false, ◌&&◌, List, length, Option, Some, None, ℤ, pos, negsuc, refl, ap, sym, subst, ◌∙◌, arith}
 use Rattle.std.specs.Prelude.{if◌then◌else◌, nat_le}
-use Rattle.scan_values.specs.DataType.{DataType, bool_type, list_type, nullability_of}
+use Rattle.scan_values.specs.DataType.{DataType, bool_type, list_type}
 use Rattle.scan_values.specs.declared.ptype.Nullability.{Nullability}
 use Rattle.scan_values.specs.declared.ptype.Nullability.TheVariants.{NonNullable, Nullable}
 use Rattle.scan_values.specs.declared.ptype.PType.{PType}
 use Rattle.scan_values.specs.Marked.{Marked, lost, null, gone, boolean, integer, text, list, struct, Markeds, listed}
 use Rattle.scan_segments.specs.Source.{Store}
 use Rattle.scan_expr.specs.Bound.{Bound}
-use Rattle.scan_expr.specs.Expr.{root, unary, uses_row_index}
 use Rattle.scan_expr.specs.Eval.{eval}
-use Rattle.scan_expr.specs.Infer.{infer}
 use Rattle.scan_expr.specs.Overflow.{overflows}
-use Rattle.scan_expr.specs.declared.op.Unary.TheVariants.{ListLength}
 use Rattle.scan_layout.specs.declared.node.LayoutKind.TheVariants.{Leaf, Struct, List as List'}
-use Rattle.scan_layout.specs.declared.spelling.Spelling.{Spelling}
+use Rattle.scan_spelling.specs.declared.spelling.Spelling.{Spelling}
 use Rattle.scan_layout.specs.Check.{serves, validity_types}
 use Rattle.scan_layout.specs.Form.{HaveForms}
 use Rattle.scan_layout.specs.Layout.{Layout, Nodes, node, no_nodes, child, rows_of}
 use Rattle.scan_layout.specs.RowValue.{row_value, nth_value, values_from, elements_between, under, where_valid}
 use Rattle.scan_partition.specs.Stepped.{IsOverLengths}
-use Rattle.scan_plans.specs.Formed.{IsByLengths}
 use Rattle.scan_plans.specs.Meaning.{value_at, list_at, overflow_at}
 use Rattle.scan_plans.specs.OffsetsData.{offset_at}
 use Rattle.scan_plans.specs.PlanTree.{PlanTree, lists, lengths}
@@ -28,8 +24,6 @@ use Rattle.scan_plans.proofs.Spans.{elements_alike}
 use Rattle.scan_readers.specs.ListPlans.{list_layout, list_offsets, list_validity, valid_under, over_lists}
 
 -- ---- the validity
-no_struct_bool : {A : Type 0} → serves Struct (bool_type NonNullable) ≡ true → A
-no_struct_bool h = absurd cc
 
 -- a value under the validity of a row
 pub under_row : (n : Nullability) (others : Nodes) (p : PlanTree) (store : Store) (i : ℕ) (w x : Marked) → HaveForms others (validity_types n) → w ≡ nth_value others 0 store i → value_at p store i ≡ x → value_at (valid_under p (list_validity n others)) store i ≡ where_valid n w x
@@ -80,9 +74,6 @@ values_long f i (suc n) = ap suc (values_long f (i + 1) n)
 
 -- ---- expressions that read only lengths
 module _ (e f : Bound) (t : DataType) (n : Nullability) (scope : e.scope ≡ list_type t n) (h : IsOverLengths e f) where
-  kind : nullability_of e.scope ≡ n
-  kind = ap nullability_of scope
-
   -- lists of as many elements
   alike : (ms ns : Markeds) → length (listed ms) ≡ length (listed ns) → (eval e.scope e.expr (list ms) 0 ≡ eval e.scope e.expr (list ns) 0) × (overflows e.scope e.expr (list ms) 0 ≡ overflows e.scope e.expr (list ns) 0)
   alike ms ns same = (
@@ -126,16 +117,3 @@ module _ (e f : Bound) (t : DataType) (n : Nullability) (scope : e.scope ≡ lis
       let same = under_list n others (lengths o) store i w x forms refl refl in
       let s = valid_alike n w x y (between_alike (rows_of el) (offset_at o store i) (offset_at o store (i + 1)) (λ j. lost) (λ j. row_value el store j)) in
       (ap (λ v. eval e.scope e.expr v 0) same ∙ s.0, ap (λ v. overflows e.scope e.expr v 0) same ∙ s.1)
-
-  pub is_by_lengths : f.scope ≡ infer e.scope (unary ListLength root) → uses_row_index f.expr ≡ false → IsByLengths e.scope e.expr f.scope f.expr
-  is_by_lengths over none = record {
-    dtype = h.dtype;
-    unnumbered = none;
-    value = λ ms. h.values (list ms) 0 (tt {0});
-    overflow = λ ms. h.overflow (list ms) 0 (tt {0});
-    null_value = λ z. h.values null 0 (nullable z);
-    null_overflow = λ z. h.overflow null 0 (nullable z);
-  }
-    where
-      nullable : nullability_of f.scope ≡ Nullable → nullability_of e.scope ≡ Nullable
-      nullable z = sym (ap nullability_of over) ∙ z

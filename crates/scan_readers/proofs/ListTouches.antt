@@ -18,7 +18,7 @@ use Rattle.scan_layout.specs.Form.{HasForm}
 use Rattle.scan_layout.specs.Laws.{Each}
 use Rattle.scan_layout.specs.Layout.{Layout, node, rows_of}
 use Rattle.scan_layout.specs.declared.node.LayoutKind.TheVariants.{Leaf, Struct, List as List'}
-use Rattle.scan_layout.specs.Places.{Place, places_of}
+use Rattle.scan_spelling.specs.Places.{Place, places_of}
 use Rattle.scan_layout.specs.RowValue.{offset_of}
 use Rattle.scan_layout.specs.Touched.{touched, below_step, leaf_touched, under_step, least_offset, greatest_offset, lesser, greater, element_from, element_to}
 use Rattle.scan_layout.proofs.Local.{least_fewer, greatest_fewer, from_by, to_by, to_most}

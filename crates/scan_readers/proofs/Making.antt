@@ -1,6 +1,6 @@
 -- What of a reader's children is made.
 use Rattle.std.proofs.Common.{◌≡◌, ℕ, zero, suc, ◌==◌, ◌+◌, ◌<◌, ◌≤◌, Bool, true, false, ◌||◌, List, [], ◌∷◌, ◌++◌, length, drop, get_or, replicate, Option, Some, None, Result, Ok, Err, refl, ap, sym, subst, ◌∙◌, arith, add-one, drop-cons}
-use Rattle.std.specs.Prelude.{slice_get, slice_set, option_map, IfOk, OnOk, OnErr, unwrap_or, position, bytes_eq}
+use Rattle.std.specs.Prelude.{slice_get, slice_set, option_map, IfOk, OnOk, unwrap_or, position, bytes_eq}
 use Rattle.std.proofs.lemmas.Bool.{eqb-true, eq-eqb}
 use Rattle.std.specs.Borrow.{Bor}
 use Rattle.std.proofs.lemmas.Option.{slice_get-get_or, slice_get_past}
@@ -83,13 +83,6 @@ nth_past (Some c ∷ os) zero e = absurd (let z : Some (Some c) ≡ None = e in 
 nth_past (None ∷ os) (suc k) e = nth_past os k e
 nth_past (Some c ∷ os) (suc k) e = nth_past os k e
 
-pub kid_at : (ls : Nodes) (os : List (Option ReaderKind)) (k : ℕ) (c : ReaderKind) → AreOf ls os → slice_get os k ≡ Some (Some c) → nth_kid ls k ≡ Some (layout_of c)
-kid_at no_nodes [] k c h e = absurd (let z : None ≡ Some (Some c) = e in cc)
-kid_at no_nodes (x ∷ os) k c h e = absurd h
-kid_at (child l ls) [] k c h e = absurd h
-kid_at (child l ls) (x ∷ os) zero c h e = let same : x ≡ Some c = cc in let is : IsOf l (Some c) = subst (IsOf l) same h.0 in ap Some (sym is)
-kid_at (child l ls) (x ∷ os) (suc k) c h e = kid_at ls os k c h.1 e
-
 pub set_again : (m : Made) (k : ℕ) (a b : Option Made) → set_made (set_made m k a) k b ≡ set_made m k b
 set_again no_child k a b = refl
 set_again (unmade m) zero None b = refl
@@ -124,10 +117,6 @@ set_there (unmade m) (suc k) zero o h = refl
 set_there (made x m) (suc k) zero o h = refl
 set_there (unmade m) (suc k) (suc j) o h = set_there m k j o (λ e. h (ap (λ n. suc n) e))
 set_there (made x m) (suc k) (suc j) o h = set_there m k j o (λ e. h (ap (λ n. suc n) e))
-
-or_true : (b : Bool) → (b || true) ≡ true
-or_true true = refl
-or_true false = refl
 
 or_false : (b : Bool) → (b || false) ≡ b
 or_false true = refl
@@ -217,12 +206,6 @@ is_of_at (child m ls) [] k l o h e g = absurd h
 is_of_at (child m ls) (x ∷ os) zero l o h e g = let same : m ≡ l = cc in let is : x ≡ o = cc in subst (λ (z : Layout). IsOf z o) same (subst (IsOf m) is h.0)
 is_of_at (child m ls) (x ∷ os) (suc k) l o h e g = is_of_at ls os k l o h.1 e g
 
-none_again : (os : List (Option ReaderKind)) (k : ℕ) → slice_get os k ≡ Some None → set_made (all_made os) k None ≡ all_made os
-none_again [] k e = refl
-none_again (x ∷ os) zero e = let is : x ≡ None = cc in rw is refl
-none_again (None ∷ os) (suc k) e = ap unmade (none_again os k e)
-none_again (Some c ∷ os) (suc k) e = ap (made (made_of c)) (none_again os k e)
-
 pub kid_of : (rs : List (Rc Layout Global)) (k : ℕ) (r : Rc Layout Global) → k < length rs → r ≡ get_or rs k r → nth_kid (nodes (layouts_of rs)) k ≡ Some r.value
 kid_of [] k r h e = absurd (omega arith)
 kid_of (x ∷ rs) zero r h e = ap (λ (z : Rc Layout Global). Some z.value) (sym e)
@@ -247,21 +230,11 @@ module _ (l : Layout) (os : List (Option ReaderKind)) (k : ℕ) (o : Option Read
   pub taken_reader : IsNestedReader l (slice_set os k None)
   taken_reader = record { readable = own.readable; nested = own.nested; kids = none_set (kids_of l) os k own.kids }
 
-  pub taken_child : {E : Type 0} (r : Result ReaderKind E) (c : Layout) → nth_kid (kids_of l) k ≡ Some c → IfOk r (λ x. layout_of x ≡ c) → IfOk r (λ x. nth_kid (kids_of l) k ≡ Some (layout_of x))
-  taken_child (Ok x) c kid is = kid ∙ ap Some (sym is)
-  taken_child (Err f) c kid is = tt
-
   pub taken_own : {E : Type 0} (r : Result ReaderKind E) (c : Layout) → nth_kid (kids_of l) k ≡ Some c → IfOk r (λ x. layout_of x ≡ c) → IfOk r (λ x. made_of x ≡ made_or_none (made_in o) c) → IfOk r (λ x. made_of x ≡ made_or_none (nth_made (all_made os) k) (layout_of x))
   taken_own (Ok x) c kid is so =
       let at : nth_made (all_made os) k ≡ made_in o = nth_all os k o (child_at os k o (kid_within (kids_of l) os k c own.kids kid) here) in
       so ∙ (λ i. made_or_none (sym at i) (sym is i))
   taken_own (Err f) c kid is so = tt
-
-  pub taken_kept : {E : Type 0} (r : Result ReaderKind E) (c : Layout) → nth_kid (kids_of l) k ≡ Some c → OnErr r (o ≡ None) → OnErr r (all_made (slice_set os k None) ≡ all_made os)
-  taken_kept (Ok x) c kid none = tt
-  taken_kept (Err f) c kid none =
-      let at : slice_get os k ≡ Some None = child_at os k o (kid_within (kids_of l) os k c own.kids kid) here ∙ ap Some none in
-      set_all os k None ∙ none_again os k at
 
 -- a child that is put back
 pub put_reader : (l : Layout) (os : List (Option ReaderKind)) (k : ℕ) (c : ReaderKind) → IsNestedReader l os → nth_kid (kids_of l) k ≡ Some (layout_of c) → IsNestedReader l (slice_set os k (Some c))

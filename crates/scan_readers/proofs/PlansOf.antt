@@ -5,14 +5,13 @@ use Rattle.std.specs.List.{list_any}
 use Rattle.scan_values.specs.Arrays.{ArrayData}
 use Rattle.scan_values.specs.DataType.{DataType, Name, bool_type, int_type, utf8_type, list_type, struct_type}
 use Rattle.scan_values.specs.Kinds.{is_scalar_type}
-use Rattle.scan_values.specs.Fits.{is_struct_type}
 use Rattle.scan_layout.specs.declared.node.LayoutKind.{LayoutKind}
 use Rattle.scan_layout.specs.declared.node.LayoutKind.TheVariants.{Leaf}
-use Rattle.scan_layout.specs.declared.spelling.Spelling.{Spelling}
+use Rattle.scan_spelling.specs.declared.spelling.Spelling.{Spelling}
 use Rattle.scan_layout.specs.Check.{total_rows, child_types}
 use Rattle.scan_layout.specs.Form.{HasForm, HaveForms}
 use Rattle.scan_layout.specs.Layout.{Layout, Nodes, node, no_nodes, child, dtype_of}
-use Rattle.scan_layout.specs.Places.{Place, place_of, places_of}
+use Rattle.scan_spelling.specs.Places.{Place, place_of, places_of}
 use Rattle.scan_layout.specs.Touched.{leaf_touched}
 use Rattle.scan_expr.specs.Bound.{Bound}
 use Rattle.scan_expr.specs.Expr.{Expr}
@@ -55,12 +54,6 @@ rows_plan name a e = record {
     nothing false = refl
 
 -- ---- leaves
-pub no_struct : (d : DataType) → is_scalar_type d ≡ true → is_struct_type d ≡ false
-no_struct (bool_type n) h = refl
-no_struct (int_type p n) h = refl
-no_struct (utf8_type n) h = refl
-no_struct (list_type t n) h = absurd cc
-no_struct (struct_type fs n) h = absurd cc
 
 pub no_children : (d : DataType) (segments : List (ℕ × ℕ)) (spelling : Spelling) → child_types d (Leaf segments spelling) ≡ []
 no_children (bool_type n) segments spelling = refl

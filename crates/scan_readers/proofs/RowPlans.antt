@@ -1,11 +1,11 @@
 -- Plans over row numbers and rows are plans of a reader that numbers them.
-use Rattle.std.proofs.Common.{◌≡◌, ℕ, ◌==◌, ◌+◌, ◌<◌, ◌≤◌, ◌^◌, Bool, true, false, not, ◌||◌, ◌&&◌, List, [], ◌∷◌, map, length, Some, refl, ap, sym, subst, ◌∙◌, arith}
+use Rattle.std.proofs.Common.{◌≡◌, ℕ, ◌==◌, ◌+◌, ◌<◌, ◌≤◌, Bool, true, false, not, ◌||◌, ◌&&◌, List, [], ◌∷◌, map, length, Some, refl, ap, sym, subst, ◌∙◌}
 use Rattle.std.specs.Prelude.{if◌then◌else◌, is_some}
 use Rattle.std.proofs.lemmas.List.Folds.{list_any-append}
 use Rattle.scan_values.specs.DataType.{DataType}
 use Rattle.scan_values.specs.Marked.{Markeds, struct}
 use Rattle.scan_segments.specs.Source.{Store}
-use Rattle.scan_layout.specs.Places.{Place}
+use Rattle.scan_spelling.specs.Places.{Place}
 use Rattle.scan_expr.specs.Bound.{Bound}
 use Rattle.scan_expr.specs.Expr.{Expr, uses_row_index}
 use Rattle.scan_expr.specs.Eval.{eval}
@@ -15,18 +15,18 @@ use Rattle.scan_expr.proofs.Clean.{any_row}
 use Rattle.scan_expr.proofs.Overflowing.{any_row_overflows}
 use Rattle.scan_partition.specs.declared.row_idx.Partition.{Partition}
 use Rattle.scan_partition.specs.declared.row_idx.Partition.TheVariants.{RowIdx as TheRowIdx, Child as TheChild}
-use Rattle.scan_partition.specs.declared.row_idx.Partitioning.TheVariants.{RowIdx, Child, Both}
+use Rattle.scan_partition.specs.declared.row_idx.Partitioning.TheVariants.{Both}
 use Rattle.scan_partition.specs.Divided.{stepped, type_of_part, group_part}
 use Rattle.scan_partition.specs.Lift.{lift}
 use Rattle.scan_partition.specs.Needing.{LiesUnder, OfChild, EachOfChild}
 use Rattle.scan_partition.specs.Partition.{Group, cuts, groups_of, joined_fields}
-use Rattle.scan_partition.specs.RowDivided.{RowDivided, uses_root, number_type, numbered_scope, partition_of, row_divided}
+use Rattle.scan_partition.specs.RowDivided.{RowDivided, uses_root, numbered_scope, partition_of, row_divided}
 use Rattle.scan_partition.specs.RowSplit.{row_split, row_split_by, row_values, row_parts_overflow, joined_row_overflows, KeepsRows}
 use Rattle.scan_plans.specs.Came.{Came, Holds}
 use Rattle.scan_plans.specs.Formed.{IsNode}
 use Rattle.scan_plans.specs.Meaning.{values_at, overflow_in, true_rows, AllWithin, AreFields}
 use Rattle.scan_plans.specs.PlanData.{PlanData, plan_data}
-use Rattle.scan_plans.specs.PlanTree.{PlanTree, evaluate, over, numbers, plans}
+use Rattle.scan_plans.specs.PlanTree.{PlanTree, over, plans}
 use Rattle.scan_plans.specs.Wants.{wanted, all_wanted, names_id, spoiled, any_spoiled}
 use Rattle.scan_readers.specs.Kept.{Kept, Stay, find_plan}
 use Rattle.scan_readers.specs.PlanOf.{IsPlanOf, may_want, may_spoil}
@@ -40,10 +40,6 @@ none_of : (a b c : Bool) → b ≡ false → (a && (b && c)) ≡ false
 none_of true b c h = rw h refl
 none_of false b c h = refl
 
-pub lacks_none : (a b : Bool) → b ≡ false → (a && b) ≡ false
-lacks_none true b h = h
-lacks_none false b h = refl
-
 or_swap : (a b : Bool) → (a || b) ≡ (b || a)
 or_swap true true = refl
 or_swap true false = refl
@@ -52,17 +48,6 @@ or_swap false false = refl
 
 -- ---- a part over the rows' numbers, and one over the rows
 module _ (s : ReaderState) (number : ℕ) (p : Bound) where
-  pub number_part : number + s.rows < 2 ^ 64 → p.scope ≡ number_type → IsPartPlan s number TheRowIdx p (evaluate p.scope p.expr (numbers number))
-  number_part below scope = record {
-    dtype = refl;
-    rows = omega (arith, below);
-    numbered = refl;
-    value = λ store k h. refl;
-    overflow = λ store k h. refl;
-    wants = λ here is. refl;
-    spoils = λ here is id. refl;
-  }
-
   pub child_part : (q : PlanData) → IsPlanOf s p q → uses_row_index p.expr ≡ false → IsPartPlan s number TheChild p q.tree
   child_part q is free = record {
     dtype = is.dtype;
@@ -89,17 +74,6 @@ unnumbered_plan s number e p free is = record {
 }
 
 -- ---- what an expression is parted into, of which it is known that row numbers stand in it
-by_numbers : (a b : Bool) (s : DataType) (e : Expr) (p : Bound) → RowIdx p ≡ row_split_by a b s e → (a ≡ true) × (b ≡ false)
-by_numbers true true s e p h = absurd cc
-by_numbers true false s e p h = (refl, refl)
-by_numbers false true s e p h = absurd cc
-by_numbers false false s e p h = absurd cc
-
-pub no_child : (a b : Bool) (s : DataType) (e : Expr) (p : Bound) → a ≡ true → Child p ≡ row_split_by a b s e → ⊥
-no_child true true s e p u h = cc
-no_child true false s e p u h = cc
-no_child false true s e p u h = cc
-no_child false false s e p u h = cc
 
 by_both : (a b : Bool) (s : DataType) (e : Expr) (d : RowDivided) → a ≡ true → Both d ≡ row_split_by a b s e → (b ≡ true) × (d ≡ row_divided s e)
 by_both true true s e d u h = (refl, cc)
@@ -108,22 +82,6 @@ by_both false true s e d u h = absurd cc
 by_both false false s e d u h = absurd cc
 
 module _ (s : ReaderState) (number : ℕ) (e : Bound) where
-  -- over row numbers alone
-  pub numbers_plan : (p : Bound) (n : PlanTree) → RowIdx p ≡ row_split e.scope e.expr → KeepsRows e (RowIdx p) → IsPartPlan s number TheRowIdx p n → IsPlanOf (numbered_state number s) e (plan_data e n)
-  numbers_plan p n exact keeps is =
-      let u = by_numbers (uses_row_index e.expr) (uses_root e.expr) e.scope e.expr p exact in
-      record {
-        expr = refl;
-        numbered = is.numbered ∙ sym (rw (u.0, u.1) refl);
-        dtype = is.dtype ∙ keeps.dtype;
-        rows = is.rows;
-        value = λ store i h. is.value store i h ∙ keeps.values (s.value store i) (number + i) 0;
-        overflow = λ store i h. is.overflow store i h ∙ keeps.overflow (s.value store i) (number + i) 0;
-        wants = λ store here first mask id holds h w. absurd (let none = is.wants here (true_rows first mask) in let z : false ≡ true = ap (names_id id) (sym none) ∙ w in cc);
-        spoils = λ store here first mask id holds h w. absurd (let none = is.spoils here (true_rows first mask) id in let z : false ≡ true = sym none ∙ w in cc);
-        exact = tt;
-      }
-
   -- ---- over both
   values_are : (items : List Partition) (ps : List Bound) (ns : List PlanTree) → ArePartPlans s number items ps ns → (store : Store) (i : ℕ) → i < s.rows → values_at (plans ns) store i ≡ row_values (s.value store i) (number + i) 0 items ps
   values_are [] [] [] a store i h = refl
@@ -227,9 +185,6 @@ both_node s number e d ns uses exact free a =
 -- ---- what is kept
 pub kept_here : (child : Kept) (plans : List PlanData) (e : Bound) → uses_row_index e.expr ≡ true → kept_by_numbers child plans e ≡ find_plan plans e
 kept_here child plans e h = rw h refl
-
-pub kept_there : (child : Kept) (plans : List PlanData) (e : Bound) → uses_row_index e.expr ≡ false → kept_by_numbers child plans e ≡ child e
-kept_there child plans e h = rw h refl
 
 pub both_stay : (old new : Kept) (before after : List PlanData) → Stay old new → Stay (find_plan before) (find_plan after) → Stay (kept_by_numbers old before) (kept_by_numbers new after)
 both_stay old new before after a b = record { stay = λ e p. by e p (uses_row_index e.expr) }

@@ -1,6 +1,6 @@
 -- The plans of parts, made one after another, and what a reader that numbers rows keeps of them.
-use Rattle.std.proofs.Common.{◌≡◌, ℕ, zero, suc, ◌+◌, ◌<◌, ◌≤◌, ◌^◌, true, false, List, [], ◌∷◌, ◌++◌, drop, length, get_or, Some, Result, Ok, Err, refl, ap, sym, subst, ◌∙◌, arith, add-one, append_assoc, drop-cons}
-use Rattle.std.specs.Prelude.{IfOk, OnOk, OnErr}
+use Rattle.std.proofs.Common.{◌≡◌, ℕ, zero, suc, ◌+◌, ◌<◌, ◌≤◌, true, false, List, [], ◌∷◌, ◌++◌, drop, length, get_or, Some, Result, Ok, Err, refl, ap, sym, subst, ◌∙◌, arith, add-one, append_assoc, drop-cons}
+use Rattle.std.specs.Prelude.{IfOk}
 use Rattle.std.specs.List.{slice_get}
 use Rattle.std.proofs.lemmas.List.{append-nil}
 use Rattle.std.specs.declared.alloc.Global.{Global}
@@ -9,27 +9,19 @@ use Rattle.scan_values.specs.DataType.{DataType}
 use Rattle.scan_expr.specs.Bound.{Bound}
 use Rattle.scan_expr.specs.Expr.{uses_row_index}
 use Rattle.scan_partition.specs.declared.row_idx.Partition.{Partition}
-use Rattle.scan_partition.specs.declared.row_idx.Partition.TheVariants.{RowIdx as TheRowIdx, Child as TheChild}
+use Rattle.scan_partition.specs.declared.row_idx.Partition.TheVariants.{Child as TheChild}
 use Rattle.scan_partition.specs.Partable.{IsPartable, ArePartable}
-use Rattle.scan_partition.specs.RowDivided.{number_type}
 use Rattle.scan_partition.specs.RowSplit.{IsPartOver, PartsOver, read_type}
 use Rattle.scan_plans.specs.PlanData.{PlanData}
-use Rattle.scan_plans.specs.PlanTree.{PlanTree, evaluate, numbers}
+use Rattle.scan_plans.specs.PlanTree.{PlanTree}
 use Rattle.scan_readers.specs.Kept.{Kept, Stay, find_plan}
 use Rattle.scan_readers.specs.PlanOf.{IsPlanOf}
 use Rattle.scan_readers.specs.Readers.{ReaderState}
-use Rattle.scan_readers.specs.RowIdxData.{numbered_state, kept_by_numbers, IsRowIdx}
+use Rattle.scan_readers.specs.RowIdxData.{numbered_state, kept_by_numbers}
 use Rattle.scan_readers.specs.RowParts.{IsPartPlan, ArePartPlans}
-use Rattle.scan_readers.proofs.Keeping.{kept_each, own_plan}
-use Rattle.scan_readers.proofs.RowPlans.{number_part, child_part, unnumbered_plan, kept_here}
+use Rattle.scan_readers.proofs.RowPlans.{child_part, unnumbered_plan, kept_here}
 
 -- ---- what is made of one part
-pub number_made : {E : Type 0} (s : ReaderState) (number : ℕ) (p q : Bound) (n : PlanTree) (r : Result PlanTree E) → number + s.rows < 2 ^ 64 → p.scope ≡ number_type → q ≡ p → n ≡ numbers number
-    → IfOk r (λ x. x ≡ evaluate q.scope q.expr n) → IfOk r (λ x. IsPartPlan s number TheRowIdx p x)
-number_made s number p q n (Ok x) below scope copy is made =
-    let e : x ≡ evaluate p.scope p.expr (numbers number) = made ∙ (λ i. evaluate (copy i).scope (copy i).expr (is i)) in
-    subst (λ (y : PlanTree). IsPartPlan s number TheRowIdx p y) (sym e) (number_part s number p below scope)
-number_made s number p q n (Err f) below scope copy is made = tt
 
 pub child_made : {E : Type 0} (s : ReaderState) (number : ℕ) (p : Bound) (q : PlanData) (r : Result PlanTree E) → IsPlanOf s p q → uses_row_index p.expr ≡ false → IfOk r (λ x. x ≡ q.tree) → IfOk r (λ x. IsPartPlan s number TheChild p x)
 child_made s number p q (Ok x) is free made = subst (λ (y : PlanTree). IsPartPlan s number TheChild p y) (sym made) (child_part s number p q is free)
@@ -69,9 +61,6 @@ pub record Walked (s t : ReaderState) (old new : Kept) (number : ℕ) (is : List
   pub stay : Stay old new
   pub plans : (rest : List PlanTree) → ArePartPlans s number (drop k is) (drop k ps) rest → ArePartPlans s number is ps (ns ++ rest)
 
-pub walked_start : (s : ReaderState) (old : Kept) (number : ℕ) (is : List Partition) (ps : List Bound) → Walked s s old old number is ps 0 []
-walked_start s old number is ps = record { same = refl; stay = record { stay = λ e p h. h }; plans = λ rest a. a }
-
 pub stays_after : (a b c : Kept) → Stay a b → Stay b c → Stay a c
 stays_after a b c x y = record { stay = λ e p h. y.stay e p (x.stay e p h) }
 
@@ -103,16 +92,6 @@ walked_end s t old new number is ps k ns w h even =
     none = subst (λ (xs : List Partition). ArePartPlans s number xs (drop k ps) []) (sym (past k is h)) (subst (λ (qs : List Bound). ArePartPlans s number [] qs []) (sym (past k ps (omega (arith, h, even)))) tt)
 
 -- ---- what is kept of a plan that is made
-pub row_idx_kept : {A E : Type 0} (offset : ℕ) (s t : ReaderState) (old new : List PlanData) (e : Bound) (q : PlanData) (r : Result A E) → IsRowIdx offset s old → t ≡ s → IsPlanOf (numbered_state offset s) e q → OnOk r (new ≡ old ++ q ∷ []) → OnErr r (new ≡ old) → IsRowIdx offset t new
-row_idx_kept offset s t old new e q r is same h ok err =
-    let all : IsRowIdx offset s new = record {
-      numbers = is.numbers;
-      kept = kept_each (λ (p : PlanData). IsPlanOf (numbered_state offset s) p.expr p) old new q r is.kept (own_plan (numbered_state offset s) e q h) ok err;
-    } in
-    subst (λ (x : ReaderState). IsRowIdx offset x new) (sym same) all
-
-pub row_idx_same : (offset : ℕ) (s t : ReaderState) (plans : List PlanData) → IsRowIdx offset s plans → t ≡ s → IsRowIdx offset t plans
-row_idx_same offset s t plans is same = subst (λ (x : ReaderState). IsRowIdx offset x plans) (sym same) is
 
 -- ---- the answers of plan
 pub unnumbered_result : {E : Type 0} (s : ReaderState) (number : ℕ) (e : Bound) (r : Result (Arc PlanData Global) E) → uses_row_index e.expr ≡ false → IfOk r (λ p. IsPlanOf s e p.value) → IfOk r (λ p. IsPlanOf (numbered_state number s) e p.value)

@@ -23,14 +23,6 @@ reads_under d u (unary w e) h = refl
 reads_under d u (binary b x y) h = refl
 reads_under d u (pack ps n) h = refl
 
-pub root_is : (e : Expr) → is_root e ≡ true → root ≡ e
-root_is root h = refl
-root_is row_index h = absurd cc
-root_is (literal t v) h = absurd cc
-root_is (unary u e) h = absurd cc
-root_is (binary b x y) h = absurd cc
-root_is (pack ps n) h = absurd cc
-
 pub pack_reads : (d : DataType) (ns : List Name) (es : List Expr) (n : Nullability) → reads d (pack (parts_of ns es) n) ≡ list_any (reads d) es
 pack_reads d ns [] n = refl
 pack_reads d [] (e ∷ es) n = ap (λ b. reads d e || b) (pack_reads d [] es n)
@@ -120,10 +112,6 @@ pub needed_here : (d : DataType) (e : Expr) → is_scalar_type d ≡ true → re
 needed_here d e s h = rw (some_use d e whole h) (all_needs d e whole s (λ z. whole_needs d s) h)
 
 -- ---- the parts of a pack, one by one
-exprs_drop : (bs : List Bound) (k : ℕ) → exprs_of (drop k bs) ≡ drop k (exprs_of bs)
-exprs_drop bs zero = refl
-exprs_drop [] (suc k) = refl
-exprs_drop (b ∷ bs) (suc k) = exprs_drop bs k
 
 pub part_reads : (d : DataType) (bs : List Bound) (k : ℕ) (b : Bound) → k < length bs → b ≡ get_or bs k b → list_any (reads d) (exprs_of (drop k bs)) ≡ (reads d b.expr || list_any (reads d) (exprs_of (drop (k + 1) bs)))
 part_reads d bs k b h is = rw (drop-cons bs k b h, ← is, add-one) refl

@@ -10,12 +10,12 @@ use Rattle.scan_values.specs.Marked.{Marked}
 use Rattle.scan_values.specs.Paths.{Path, Step, to_validity, to_offsets, to_elements}
 use Rattle.scan_segments.specs.Source.{Store}
 use Rattle.scan_layout.specs.declared.node.LayoutKind.TheVariants.{Leaf, Struct, List as List'}
-use Rattle.scan_layout.specs.declared.spelling.Spelling.{Spelling}
+use Rattle.scan_spelling.specs.declared.spelling.Spelling.{Spelling}
 use Rattle.scan_layout.specs.Check.{child_types}
 use Rattle.scan_layout.specs.Form.{HasForm, HaveForms, AllHaveRows}
 use Rattle.scan_layout.specs.Laws.{Each}
 use Rattle.scan_layout.specs.Layout.{Layout, Nodes, node, no_nodes, child, rows_of}
-use Rattle.scan_layout.specs.Places.{Place, place_of, places_of}
+use Rattle.scan_spelling.specs.Places.{Place, place_of, places_of}
 use Rattle.scan_layout.specs.RowValue.{nth_value, nth_rows}
 use Rattle.scan_layout.specs.Touched.{touched, below_step, nth_touched, all_touched, leaf_touched, under_step, struct_steps, element_from, element_to}
 use Rattle.scan_layout.proofs.Local.{Within, within_less, within_rows, validity_within, offsets_within, from_fewer, to_fewer, to_most, element_places, inner_places, list_places}

@@ -21,7 +21,7 @@ use Rattle.scan_layout.specs.declared.node.LayoutKind.TheVariants.{Leaf, Struct,
 use Rattle.scan_layout.specs.Check.{with_validity}
 use Rattle.scan_layout.specs.Form.{HasForm, HaveForms, AllHaveRows}
 use Rattle.scan_layout.specs.Layout.{Layout, Nodes, node, no_nodes, child, rows_of}
-use Rattle.scan_layout.specs.Places.{Place, places_of}
+use Rattle.scan_spelling.specs.Places.{Place, places_of}
 use Rattle.scan_layout.specs.RowValue.{row_value, row_values, struct_value}
 use Rattle.scan_layout.specs.Slots.{nth_kid}
 use Rattle.scan_layout.specs.Touched.{touched, below_step, all_touched, leaf_touched, struct_steps}

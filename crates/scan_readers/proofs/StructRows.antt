@@ -16,7 +16,7 @@ use Rattle.scan_expr.specs.Eval.{pick, null_test}
 use Rattle.scan_layout.specs.Check.{with_validity}
 use Rattle.scan_layout.specs.Form.{HasForm, HaveForms}
 use Rattle.scan_layout.specs.Layout.{Layout, Nodes, no_nodes, child}
-use Rattle.scan_layout.specs.Places.{Place}
+use Rattle.scan_spelling.specs.Places.{Place}
 use Rattle.scan_layout.specs.RowValue.{row_value, row_values, struct_value, under}
 use Rattle.scan_layout.specs.Slots.{nth_kid}
 use Rattle.scan_layout.specs.Touched.{touched, all_touched, under_step, field_steps, struct_steps}

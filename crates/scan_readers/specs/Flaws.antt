@@ -5,11 +5,11 @@ use Rattle.scan_values.specs.Paths.{Path, Step, to_field, to_validity, to_offset
 use Rattle.scan_values.specs.Same.{same_type}
 use Rattle.scan_segments.specs.Source.{Store}
 use Rattle.scan_layout.specs.declared.node.LayoutKind.TheVariants.{Leaf, Struct, List as List'}
-use Rattle.scan_layout.specs.declared.spelling.Spelling.{Spelling}
-use Rattle.scan_layout.specs.declared.spelling.Spelling.TheVariants.{One, Two}
+use Rattle.scan_spelling.specs.declared.spelling.Spelling.{Spelling}
+use Rattle.scan_spelling.specs.declared.spelling.Spelling.TheVariants.{One, Two}
 use Rattle.scan_layout.specs.Layout.{Layout, Nodes, node, no_nodes, child, rows_of}
 use Rattle.scan_layout.specs.RowValue.{row_value, offset_of}
-use Rattle.scan_layout.specs.Places.{Place, decoded}
+use Rattle.scan_spelling.specs.Places.{Place, decoded}
 use Rattle.scan_layout.specs.Touched.{touched, struct_steps, greater}
 use Rattle.scan_plans.specs.Lists.{rows_on}
 

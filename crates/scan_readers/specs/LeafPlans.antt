@@ -2,12 +2,12 @@
 use Rattle.std.specs.Prelude.{ℕ, List, map, Option, Some, None, Bool, true, false, if◌then◌else◌}
 use Rattle.scan_values.specs.DataType.{DataType, Name}
 use Rattle.scan_layout.specs.declared.node.LayoutKind.TheVariants.{Leaf, Struct, List as List'}
-use Rattle.scan_layout.specs.declared.spelling.Spelling.{Spelling}
+use Rattle.scan_spelling.specs.declared.spelling.Spelling.{Spelling}
 use Rattle.scan_layout.specs.Check.{total_rows}
 use Rattle.scan_layout.specs.Edges.{edges}
 use Rattle.scan_layout.specs.Laws.{path_of}
 use Rattle.scan_layout.specs.Layout.{Layout, node, no_nodes, dtype_of, rows_of}
-use Rattle.scan_layout.specs.Places.{Place, places_of}
+use Rattle.scan_spelling.specs.Places.{Place, places_of}
 use Rattle.scan_layout.specs.RowValue.{row_value}
 use Rattle.scan_layout.specs.Touched.{touched}
 use Rattle.scan_expr.specs.Bound.{Bound}

@@ -5,7 +5,7 @@ use Rattle.scan_values.specs.declared.ptype.Nullability.{Nullability}
 use Rattle.scan_values.specs.declared.ptype.Nullability.TheVariants.{NonNullable, Nullable}
 use Rattle.scan_values.specs.declared.ptype.PType.{PType}
 use Rattle.scan_layout.specs.declared.node.LayoutKind.TheVariants.{Leaf, Struct, List as List'}
-use Rattle.scan_layout.specs.declared.spelling.Spelling.{Spelling}
+use Rattle.scan_spelling.specs.declared.spelling.Spelling.{Spelling}
 use Rattle.scan_layout.specs.Layout.{Layout, Nodes, node, no_nodes, child, rows_of}
 use Rattle.scan_expr.specs.Bound.{Bound, bound_of}
 use Rattle.scan_expr.specs.Expr.{root}

@@ -4,7 +4,7 @@ use Rattle.scan_values.specs.DataType.{DataType, Name}
 use Rattle.scan_values.specs.Marked.{Marked}
 use Rattle.scan_values.specs.declared.field_path.FieldMask.{FieldMask}
 use Rattle.scan_segments.specs.Source.{Store}
-use Rattle.scan_layout.specs.Places.{Place}
+use Rattle.scan_spelling.specs.Places.{Place}
 use Rattle.scan_expr.specs.Expr.{Expr, uses_row_index}
 use Rattle.scan_expr.specs.Bound.{Bound}
 use Rattle.scan_expr.specs.Eval.{eval}

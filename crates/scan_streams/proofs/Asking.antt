@@ -3,11 +3,10 @@ use Rattle.std.proofs.Common.{◌≡◌, ℕ, suc, zero, get_or, ◌<◌, ◌≤
 use Rattle.std.proofs.lemmas.Bool.Decides.{nat_tests}
 use Rattle.scan_values.specs.Selections.{is_among}
 use Rattle.std.specs.Prelude.{◌⊎◌}
-use Rattle.scan_segments.specs.Source.{SourceState, Stays, Ends}
+use Rattle.scan_segments.specs.Source.{SourceState, Ends}
 use Rattle.scan_splits.specs.Wanted.{no_repeats}
 use Rattle.scan_streams.specs.Sources.{SourceMoves, WasAsked}
 use Rattle.scan_streams.specs.Desks.{Waiters, waiters_at, waits, is_in, added, Moves, Asks}
-use Rattle.scan_streams.specs.Looks.{Asked}
 use Rattle.scan_streams.proofs.Desking.{moved, among_snoc}
 
 pub moves_none : (May : ℕ → Type 0) (s t : SourceState) → t.holds ≡ s.holds → t.asked ≡ s.asked → s.faults ≤ t.faults → t.turns ≤ s.turns → t.can_fail ≡ s.can_fail → ((id : ℕ) → t.live id ≡ true → s.live id ≡ true) → SourceMoves May s t
@@ -61,9 +60,6 @@ moves_then May r s t p q = record {
 pub moves_weaker : (May Can : ℕ → Type 0) (s t : SourceState) → ((id : ℕ) → May id → Can id) → SourceMoves May s t → SourceMoves Can s t
 moves_weaker May Can s t w p = record { holds = p.holds; ids = p.ids; asked = p.asked; may = λ id n. w id (p.may id n); live = p.live; faults = p.faults; turns = p.turns; can_fail = p.can_fail }
 
-pub moves_stay : (May : ℕ → Type 0) (s t : SourceState) → Stays s t → SourceMoves May s t
-moves_stay May s t h = moves_none May s t h.holds h.asked h.faults h.turns h.can_fail (λ id n. ap (λ (f : ℕ → Bool). f id) (sym h.live) ∙ n)
-
 pub moves_end : (May : ℕ → Type 0) (id : ℕ) (s t : SourceState) → Ends id s t → SourceMoves May s t
 moves_end May id s t h = moves_none May s t h.holds h.asked h.faults h.turns h.can_fail (λ k n. go (nat_eq k id) (s.live k) (ap (λ (f : ℕ → Bool). f k) (sym h.live) ∙ n))
   where
@@ -91,10 +87,6 @@ moves_asks May None id s t m h = record {
     begun : (k : ℕ) (b : Bool) → nat_eq k id ≡ b → cond b true (s.live k) ≡ true → (s.live k ≡ true) ⊎ (is_among (id ∷ []) k ≡ true)
     begun k true e n = let on : eqb id k ≡ true = grind (arith, nat_tests) in inr (rw on refl)
     begun k false e n = inl n
-
--- an id that was asked up to then, and one that was asked before
-pub was_asked : (May : ℕ → Type 0) (id : ℕ) (s t : SourceState) → SourceMoves May s t → s.live id ≡ true → WasAsked s t id
-was_asked May id s t m l = record { ids = m.ids; asked = m.asked; is = inl l }
 
 pub was_later : (May : ℕ → Type 0) (id : ℕ) (s t u : SourceState) → SourceMoves May t u → WasAsked s t id → WasAsked s u id
 was_later May id s t u m w = record { ids = w.ids ++ m.ids; asked = m.asked ∙ ap (λ xs. xs ++ m.ids) w.asked ∙ append_assoc s.asked w.ids m.ids; is = go w.is }
@@ -145,9 +137,6 @@ pub record Asking (rest ids : List ℕ) (place : ℕ) (old now : Waiters) : Type
   pub new : (id : ℕ) → is_among rest id ≡ true → waits now id place ≡ false
   pub once : no_repeats rest ≡ true
 
-pub asking_all : (ids : List ℕ) (place : ℕ) (d : Waiters) → ((id : ℕ) → waits d id place ≡ false) → no_repeats ids ≡ true → Asking ids ids place d d
-asking_all ids place d n o = record { asked = λ id p. refl; new = λ id m. n id; once = o }
-
 turn : (w a b e : Bool) → ((w || (a && e)) || (b && e)) ≡ (w || ((a || b) && e))
 turn true a b e = refl
 turn false true b true = refl
@@ -180,16 +169,6 @@ asking_next id rest ids place old now next h m =
     apart : (q : ℕ) → is_among rest q ≡ true → is_among rest id ≡ false → (b : Bool) → eqb id q ≡ b → (waits now q place || (eqb id q && eqb place place)) ≡ false
     apart q n off true e = let same : id ≡ q = grind (arith, nat_tests) in let bad = sym (ap (is_among rest) same ∙ n) ∙ off in absurd cc
     apart q n off false e = rw (e, h.new q (or_right (eqb id q) (is_among rest q) n)) refl
-
-pub asking_done : (rest ids : List ℕ) (place : ℕ) (old now : Waiters) → rest ≡ [] → Asking rest ids place old now → Asked ids place old now
-asking_done rest ids place old now e h id p = or_false (waits now id p) ∙ sym (ap (λ xs. waits now id p || (is_among xs id && eqb place p)) e) ∙ h.asked id p
-  where
-    or_false : (a : Bool) → a ≡ (a || false)
-    or_false true = refl
-    or_false false = refl
-
-pub asking_head : (id : ℕ) (rest ids : List ℕ) (place : ℕ) (old now : Waiters) → Asking (id ∷ rest) ids place old now → waits now id place ≡ false
-asking_head id rest ids place old now h = h.new id (let on : eqb id id ≡ true = grind (arith, nat_tests) in rw on refl)
 
 pub among_at : (ids : List ℕ) (i d : ℕ) → i < length ids → is_among ids (get_or ids i d) ≡ true
 among_at [] i d lt = absurd (omega arith)

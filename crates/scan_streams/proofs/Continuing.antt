@@ -15,8 +15,8 @@ use Rattle.scan_streams.specs.Splits.{SplitData, Goes, AllOf}
 use Rattle.scan_streams.specs.declared.fault.Halt.{Halt}
 use Rattle.scan_streams.specs.declared.reading.Reading.{Reading}
 use Rattle.scan_streams.specs.declared.reading.Step.{Step}
-use Rattle.scan_streams.proofs.Asking.{moves_self, moves_then, moves_weaker}
-use Rattle.scan_streams.proofs.Going.{goes_refl, goes_then}
+use Rattle.scan_streams.proofs.Asking.{moves_then, moves_weaker}
+use Rattle.scan_streams.proofs.Going.{goes_then}
 use Rattle.scan_streams.proofs.Parting.{ask_back, halts_back}
 
 -- what is true after some steps that gave nothing
@@ -26,9 +26,6 @@ pub record Continues (old now : Reading) (s t : SourceState) : Type 0 where
   pub ordered : now.ordered ≡ old.ordered
   pub goes : Goes old.ordered s.holds [] (splits_of old) (splits_of now)
   pub moves : SourceMoves (MayAsk s.holds (splits_of old)) s t
-
-pub continues_none : (old : Reading) (s : SourceState) → Standing old → Agree s.live old.desk → Continues old old s s
-continues_none old s h a = record { stands = h; agree = a; ordered = refl; goes = goes_refl s.holds old.ordered (splits_of old); moves = moves_self (MayAsk s.holds (splits_of old)) s }
 
 module _ (old now : Reading) (s t : SourceState) (h : Continues old now s t) where
   pub goes_on : (given : List Marked) (next : List SplitData) → Goes now.ordered t.holds given (splits_of now) next → Goes old.ordered s.holds given (splits_of old) next

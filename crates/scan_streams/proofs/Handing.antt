@@ -66,10 +66,6 @@ among_right : (xs ys : List ℕ) (id : ℕ) → is_among ys id ≡ true → is_a
 among_right [] ys id h = h
 among_right (x ∷ xs) ys id h = among_later x id (xs ++ ys) (among_right xs ys id h)
 
-ready_off : (b : Bool) → (if b then 2 else 1) ≤ 2
-ready_off true = omega arith
-ready_off false = omega arith
-
 -- an arrival that a run waits for leaves less open
 pub arrival_opens : (r : RunData) (id : ℕ) (a : Arrival) → run_waits r id ≡ true → open_ids (with_arrival id a r) + 1 ≤ open_ids r
 arrival_opens r id a w =
@@ -132,9 +128,6 @@ pub record Hands (id : ℕ) (a : Arrival) (rest places : List ℕ) (slots now : 
   pub has : HasNews slots news → HasNews now later
   pub steps : slots_steps now + length later + length places ≤ slots_steps slots + length news + length rest
 
-pub hands_none : (id : ℕ) (a : Arrival) (places : List ℕ) (slots : List Slot) (news : List ℕ) → AllWait id places slots → no_repeats places ≡ true → Hands id a places places slots slots news news
-hands_none id a places slots news w d = record { slots_are = refl; wait = w; once = d; has = λ h. h; steps = omega arith }
-
 among_apart : (p q : ℕ) (rest : List ℕ) → is_among rest p ≡ false → is_among rest q ≡ true → q ≢ p
 among_apart p q rest n h e = let bad = sym h ∙ ap (is_among rest) e ∙ n in absurd cc
 
@@ -172,12 +165,6 @@ hands_next id a p rest places slots now news later s h is =
       has = λ old. at_set (λ q x. is_fresh x ≡ true → is_among (also_if (is_fresh s) p later) q ≡ true) now p s lt (λ f. later_here (is_fresh s) p later f) (λ q other f. later_has (is_fresh s) p q later (h.has old q f));
       steps = omega arith;
     }
-
-pub hands_all : (id : ℕ) (a : Arrival) (rest places : List ℕ) (slots now : List Slot) (news later : List ℕ) → Hands id a rest places slots now news later → rest ≡ [] → (now ≡ handed_all id a places slots) × (slots_steps now + length later + length places ≤ slots_steps slots + length news)
-hands_all id a rest places slots now news later h e =
-    let n = ap length e in
-    let s = h.steps in
-    (ap (λ ps. handed_all id a ps now) (sym e) ∙ h.slots_are, omega arith)
 
 pub head_within : (id : ℕ) (a : Arrival) (p : ℕ) (rest places : List ℕ) (slots now : List Slot) (news later : List ℕ) → Hands id a (p ∷ rest) places slots now news later → p < length now
 head_within id a p rest places slots now news later h = waits_within now p id (h.wait p (among_head p rest))

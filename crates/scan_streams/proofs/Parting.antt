@@ -16,7 +16,7 @@ use Rattle.scan_streams.specs.declared.fault.Halt.{Halt}
 use Rattle.scan_streams.specs.declared.fault.Halt.TheVariants as halt
 use Rattle.scan_streams.specs.declared.slot.Slot.{Slot}
 use Rattle.scan_streams.specs.declared.slot.Slot.TheVariants as slot
-use Rattle.scan_streams.proofs.Asking.{moves_weaker, was_before, was_later}
+use Rattle.scan_streams.proofs.Asking.{moves_weaker, was_before}
 use Rattle.scan_streams.proofs.Going.{goes_refl, hold_split, overflow_append, may_append, some_left, some_right}
 use Rattle.scan_streams.proofs.Handing.{le_or_lt}
 
@@ -118,9 +118,3 @@ halts_back ordered May given a b s t u halt.NoMemory g m x = tt
 -- the same once nothing but the source has moved
 pub halts_moved : (May : ℕ → Type 0) (splits : List SplitData) (s t u : SourceState) (x : Halt) → SourceMoves May s t → Halts t u splits x → Halts s u splits x
 halts_moved May splits s t u x m h = halts_back true May [] splits splits s t u x (goes_refl s.holds true splits) m h
-
-pub halts_later : (May : ℕ → Type 0) (splits : List SplitData) (s t u : SourceState) (x : Halt) → SourceMoves May t u → Halts s t splits x → Halts s u splits x
-halts_later May splits s t u (halt.Source id) m x = let f = m.faults in let r = x.0 in (omega arith, x.1, was_later May id s t u m x.2)
-halts_later May splits s t u (halt.Corrupt id) m x = x
-halts_later May splits s t u halt.Overflow m x = x
-halts_later May splits s t u halt.NoMemory m x = x

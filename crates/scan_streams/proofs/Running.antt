@@ -9,7 +9,7 @@ use Rattle.scan_values.specs.Selections.{is_among}
 use Rattle.scan_splits.specs.declared.inbox.Arrival.{Arrival}
 use Rattle.scan_splits.specs.Arrivals.{Arrivals, content}
 use Rattle.scan_splits.specs.Wanted.{no_repeats}
-use Rattle.scan_layout.specs.Places.{Place}
+use Rattle.scan_spelling.specs.Places.{Place}
 use Rattle.scan_plans.specs.Came.{came}
 use Rattle.scan_plans.specs.Given.{AreLacking}
 use Rattle.scan_plans.specs.Wants.{names_id}

@@ -9,7 +9,7 @@ use Rattle.scan_segments.specs.Source.{Store, SourceState}
 use Rattle.scan_values.specs.Arrays.{ArrayData}
 use Rattle.scan_values.specs.Selections.{is_among}
 use Rattle.scan_values.specs.Val.{marked}
-use Rattle.scan_layout.specs.Places.{Place}
+use Rattle.scan_spelling.specs.Places.{Place}
 use Rattle.scan_splits.specs.Arrivals.{Arrivals}
 use Rattle.scan_splits.specs.Wanted.{is_any}
 use Rattle.scan_plans.specs.Came.{Came, came, arrived, Holds}

@@ -1,5 +1,5 @@
 -- What arrivals do to the slots that wait for them.
-use Rattle.std.proofs.Common.{◌≡◌, ◌≢◌, ℕ, suc, zero, ◌+◌, ◌<◌, ◌≤◌, List, [], ◌∷◌, length, set, get_or, Bool, true, false, not, ◌||◌, ◌&&◌, cond, eqb, Option, Some, None, is_none, inl, inr, refl, sym, ap, ◌∙◌, subst, arith, length-set}
+use Rattle.std.proofs.Common.{◌≡◌, ◌≢◌, ℕ, ◌+◌, ◌<◌, ◌≤◌, List, [], ◌∷◌, length, set, get_or, Bool, true, false, not, ◌||◌, ◌&&◌, cond, eqb, Option, Some, None, is_none, inl, inr, refl, sym, ap, ◌∙◌, subst, arith, length-set}
 use Rattle.std.specs.Prelude.{◌⊎◌, option_map, IfSome, is_some}
 use Rattle.std.specs.Cmp.{nat_cmp_total}
 use Rattle.std.specs.FinMap as finite
@@ -9,7 +9,7 @@ use Rattle.scan_segments.proofs.LiveSets.{at-id}
 use Rattle.scan_segments.specs.Source.{Store, SourceState}
 use Rattle.scan_values.specs.Selections.{is_among}
 use Rattle.scan_splits.specs.Arrivals.{Arrivals, content}
-use Rattle.scan_splits.specs.Wanted.{no_repeats, is_any}
+use Rattle.scan_splits.specs.Wanted.{no_repeats}
 use Rattle.scan_splits.specs.declared.inbox.Arrival.{Arrival}
 use Rattle.scan_splits.specs.declared.inbox.Arrival.TheVariants as arrival
 use Rattle.scan_plans.specs.Came.{Came, came, Holds}
@@ -17,7 +17,6 @@ use Rattle.scan_plans.specs.Futures.{FutureData}
 use Rattle.scan_streams.specs.Runs.{lacks}
 use Rattle.std.specs.Ordering.{nat_cmp}
 use Rattle.std.specs.BTreeMap.{is_at}
-use Rattle.std.proofs.lemmas.List.{get_or_default}
 use Rattle.scan_streams.specs.Measures.{slots_steps}
 use Rattle.scan_streams.specs.Desks.{Waiters, waiters_at, is_in, Moves, Tells, live_ids}
 use Rattle.scan_streams.specs.Slots.{slot_at, slot_split, slot_waits, handed, handed_all, AllWait, HasNews}
@@ -29,7 +28,7 @@ use Rattle.scan_streams.specs.declared.slot.Slot.TheVariants as slot
 use Rattle.scan_streams.proofs.Desking.{moved}
 use Rattle.scan_streams.proofs.Running.{lacks_after}
 use Rattle.scan_streams.proofs.Counting.{among_later, among_head}
-use Rattle.scan_streams.proofs.Handing.{waits_within, at_set_same, at_set_other, le_or_lt}
+use Rattle.scan_streams.proofs.Handing.{waits_within, at_set_same, at_set_other}
 use Rattle.scan_streams.proofs.Looking.{extends_then}
 use Rattle.scan_streams.proofs.Going.{goes_refl, goes_then}
 
@@ -186,9 +185,6 @@ links_after id a places d e slots l is m once q p =
         l q p ∙ sym (waits_handed (slot_at slots p) id a q ∙ ap (λ b. cond b false (slot_waits (slot_at slots p) q)) off)
     go false g false n = l q p
 
-pub each_refl : (o : Option Store) (slots : List Slot) → EachGoes o slots slots
-each_refl o slots = record { len = refl; at = λ p. slot_goes_refl o (slot_at slots p) }
-
 pub each_then : (o : Option Store) (a b c : List Slot) → EachGoes o a b → EachGoes o b c → EachGoes o a c
 each_then o a b c g h = record {
   len = h.len ∙ g.len;
@@ -199,10 +195,6 @@ each_then o a b c g h = record {
   };
 }
 
-pub any_length : (xs : List ℕ) → is_any xs ≡ true → 1 ≤ length xs
-any_length [] h = absurd cc
-any_length (x ∷ xs) h = omega arith
-
 -- what polls of some of the ids did
 pub record Sweeps (ids : List ℕ) (i : ℕ) (came : Bool) (old now : List Slot) (news later : List ℕ) (d e : Waiters) (s t : SourceState) : Type 0 where
   pub goes : EachGoes s.holds old now
@@ -212,38 +204,6 @@ pub record Sweeps (ids : List ℕ) (i : ℕ) (came : Bool) (old now : List Slot)
   pub news_stay : came ≡ false → later ≡ news
   pub desk_stays : came ≡ false → e ≡ d
   pub put_off : came ≡ false → 0 < i → is_some (waiters_at d (get_or ids 0 0)) ≡ true → t.turns < s.turns
-
-pub sweeps_none : (ids : List ℕ) (slots : List Slot) (news : List ℕ) (d : Waiters) (s : SourceState) → Sweeps ids 0 false slots slots news news d d s s
-sweeps_none ids slots news d s = record {
-  goes = each_refl s.holds slots;
-  has = λ h. h;
-  nearer = λ e. absurd cc;
-  slots_stay = λ e. refl;
-  news_stay = λ e. refl;
-  desk_stays = λ e. refl;
-  put_off = λ e lt. absurd (omega (arith, lt));
-}
-
--- an id that is not live is passed; the first one is
-pub sweeps_pass : (ids : List ℕ) (i id : ℕ) (came : Bool) (old now : List Slot) (news later : List ℕ) (d e : Waiters) (s t : SourceState) → id ≡ get_or ids i id → i < length ids → is_some (waiters_at e id) ≡ false → Sweeps ids i came old now news later d e s t
-    → Sweeps ids (i + 1) came old now news later d e s t
-sweeps_pass ids i id came old now news later d e s t at lt dead h = record {
-  goes = h.goes;
-  has = h.has;
-  nearer = h.nearer;
-  slots_stay = h.slots_stay;
-  news_stay = h.news_stay;
-  desk_stays = h.desk_stays;
-  put_off = λ c p live. go c live i at (le_or_lt i 0) h.put_off;
-}
-  where
-    go : came ≡ false → is_some (waiters_at d (get_or ids 0 0)) ≡ true → (k : ℕ) → id ≡ get_or ids k id → (k ≤ 0) ⊎ (0 < k) → (came ≡ false → 0 < k → is_some (waiters_at d (get_or ids 0 0)) ≡ true → t.turns < s.turns) → t.turns < s.turns
-    go c live (suc k) a w p = p c (omega arith) live
-    go c live zero a w p =
-        let lt0 : 0 < length ids = omega (arith, lt) in
-        let first : get_or ids 0 0 ≡ id = get_or_default ids 0 0 id lt0 ∙ sym a in
-        let no = sym live ∙ ap (λ k. is_some (waiters_at d k)) first ∙ sym (ap (λ x. is_some (waiters_at x id)) (h.desk_stays c)) ∙ dead in
-        absurd cc
 
 pub sweeps_next : (ids : List ℕ) (i id : ℕ) (came one : Bool) (old now next : List Slot) (news later more : List ℕ) (d e f : Waiters) (s t u : SourceState) → t.holds ≡ s.holds → t.turns ≤ s.turns → u.turns ≤ t.turns → EachGoes t.holds now next
     → (HasNews now later → HasNews next more) → PolledOne one id now next later more e f t u → Sweeps ids i came old now news later d e s t → Sweeps ids (i + 1) (came || one) old next news more d f s u

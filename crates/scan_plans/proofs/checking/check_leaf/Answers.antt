@@ -1,6 +1,6 @@
 use Rattle.std.proofs.Common.{◌<◌, ◌≤◌, length, arith, sym, ◌∙◌, Ok, Err}
 use Rattle.std.proofs.lemmas.Result.{err_from_is_err_and}
-use Rattle.scan_layout.specs.Places.{place_of}
+use Rattle.scan_spelling.specs.Places.{place_of}
 use Rattle.scan_splits.specs.Runs.{start_of}
 use Rattle.scan_plans.specs.Came.{came}
 use Rattle.scan_plans.proofs.LeafWalk.{want_start, want_part, want_past, want_end, starts_in_time, next_in_order, place_at}

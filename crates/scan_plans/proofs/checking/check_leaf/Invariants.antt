@@ -1,4 +1,4 @@
-use Rattle.scan_layout.specs.Places.{places_of}
+use Rattle.scan_spelling.specs.Places.{places_of}
 use Rattle.scan_plans.specs.Came.{came}
 use Rattle.scan_plans.specs.Meaning.{true_rows}
 use Rattle.scan_plans.specs.Wants.{leaf_wanted}

@@ -22,4 +22,4 @@ loop-mask-preserved c =
 pub returns : goal.returns
 returns c =
     let l : length c.args.masks.now ≤ c.loop-mask.mask-index = omega (arith, c.loop-mask-test.false) in
-    under_done c.args.masks.now c.loop-mask.mask-index c.args.array c.loop-mask.masked l c.loop-mask.invariant.dtype c.loop-mask.invariant.items
+    under_done c.args.masks.now c.loop-mask.mask-index c.args.column c.loop-mask.masked l c.loop-mask.invariant.dtype c.loop-mask.invariant.items

@@ -6,6 +6,6 @@ use Rattle.scan_plans.proofs.future.under.Given as goal
 
 abbrev pub invariant-loop-mask : goal.invariant-loop-mask
 invariant-loop-mask l = record {
-  dtype : dtype_under (drop l.mask-index l.masks) l.masked.dtype ≡ dtype_under l.masks l.fn.array.dtype;
-  items : under_known (drop l.mask-index l.masks) (map marked l.masked.items) ≡ under_known l.masks (map marked l.fn.array.items);
+  dtype : dtype_under (drop l.mask-index l.masks) l.masked.dtype ≡ dtype_under l.masks l.fn.column.dtype;
+  items : under_known (drop l.mask-index l.masks) (map marked l.masked.items) ≡ under_known l.masks (map marked l.fn.column.items);
 }

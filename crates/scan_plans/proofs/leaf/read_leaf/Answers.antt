@@ -2,7 +2,7 @@ use borrow.Author.Rules.{rules}
 use Rattle.std.proofs.Common.{◌≡◌, ◌-◌, ◌≤◌, ◌<◌, length, arith, sym, ◌∙◌, [], Ok, Err}
 use Rattle.std.proofs.lemmas.Result.{err_from_is_err_and}
 use Rattle.scan_values.specs.Arrays.{of_parts}
-use Rattle.scan_layout.specs.Places.{place_of}
+use Rattle.scan_spelling.specs.Places.{place_of}
 use Rattle.scan_splits.specs.Runs.{start_of}
 use Rattle.scan_plans.specs.Came.{came, arrived}
 use Rattle.scan_plans.specs.Meaning.{true_rows}
@@ -16,7 +16,7 @@ loop-k-init c =
     let d = c.args.dtype.now.value in
     let gs = c.args.runs.now in
     let in_time = starts_in_time gs c.args.first c.first_at-k.result c.first_at-k.ensures.before in
-    let none : c.in_ok-column.column ≡ of_parts d [] = search (rules, c.in_ok-column.ensures, c.deref.ensures) in
+    let none : c.in_ok-column.column ≡ of_parts d [] = search (rules, c.in_ok-column.ensures) in
     built_start d c.in_ok-column.column _ _ _ _ (arrived (came c.args.inbox.now)) none
     (give_start d c.args.spelling (arrived (came c.args.inbox.now)) gs c.args.first c.args.bits.now c.first_at-k.result in_time)
     (want_start d c.args.spelling gs c.args.first c.args.bits.now c.first_at-k.result in_time)

@@ -1,5 +1,5 @@
 use Rattle.std.proofs.Common.{map}
-use Rattle.scan_layout.specs.Places.{places_of}
+use Rattle.scan_spelling.specs.Places.{places_of}
 use Rattle.scan_layout.specs.RowValue.{leaf_value}
 use Rattle.scan_plans.specs.Came.{came, arrived}
 use Rattle.scan_plans.specs.Meaning.{true_rows}

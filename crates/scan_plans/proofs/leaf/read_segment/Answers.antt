@@ -2,8 +2,8 @@ use borrow.Author.Rules.{rules}
 use Rattle.std.proofs.Common.{◌≡◌, ◌+◌, length, Some, is_none, ◌∙◌, ap, map}
 use Rattle.scan_values.specs.Arrays.{ArrayData}
 use Rattle.scan_values.specs.Val.{marked}
-use Rattle.scan_layout.specs.Places.{place_of}
-use Rattle.scan_layout.specs.Spelling.{decode}
+use Rattle.scan_spelling.specs.Places.{place_of}
+use Rattle.scan_spelling.specs.Spelling.{decode}
 use Rattle.scan_plans.specs.Came.{came, arrived}
 use Rattle.scan_plans.proofs.Segments.{segment_items, read_there, long_enough}
 use Rattle.scan_plans.proofs.leaf.read_segment.Goals as goal

@@ -1,7 +1,7 @@
 use borrow.Author.Rules.{rules}
 use Rattle.std.proofs.Common.{◌≡◌, false}
 use Rattle.std.specs.List.{list_any}
-use Rattle.scan_layout.specs.Places.{place_of}
+use Rattle.scan_spelling.specs.Places.{place_of}
 use Rattle.scan_plans.specs.Came.{came, arrived}
 use Rattle.scan_plans.proofs.Building.{adds_none}
 use Rattle.scan_plans.proofs.leaf.with_segment.Goals as goal

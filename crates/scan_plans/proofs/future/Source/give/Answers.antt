@@ -14,7 +14,7 @@ use Rattle.scan_plans.proofs.future.Source.give.Goals as goal
 pub returns-in_ok-given-in-Plan : goal.returns-in_ok-given-in-Plan
 returns-in_ok-given-in-Plan c =
     let here = came c.args.inbox.now in
-    let r = as_given c.as_items.result in
+    let r = as_given (Ok c.as_items.result) in
     let first = c.in-Plan.first in
     let tree : c.node.result.now ≡ (c.in-Plan.plan.value).tree = c.node.ensures ∙ ap (λ (a : PlanData). a.tree) c.deref.ensures in
     let g : Gives c.node.result.now here (true_rows first c.known.result.now) r = c.as_items.ensures c.node.result.now here (true_rows first c.known.result.now) c.in_ok-given-in-Plan.ensures in
@@ -22,8 +22,8 @@ returns-in_ok-given-in-Plan c =
     let i : Gives ((c.in-Plan.plan.value).tree) here (true_rows first (c.in-Plan.mask).known) r = subst (λ (m : List Bool). Gives ((c.in-Plan.plan.value).tree) here (true_rows first m) r) c.known.ensures h in
     subst (λ (s : Source). Gives (source_tree s) here (true_rows (source_first s) (source_mask s).known) r) (sym c.in-Plan.is) i
 
-pub returns-in_ok-try_clone-in-Array : goal.returns-in_ok-try_clone-in-Array
-returns-in_ok-try_clone-in-Array c =
+pub returns-in_ok-column_of-in-Array : goal.returns-in_ok-column_of-in-Array
+returns-in_ok-column_of-in-Array c =
     let here = came c.args.inbox.now in
-    let b = c.in_ok-try_clone-in-Array.field-0 in
-    subst (λ (s : Source). Gives (source_tree s) here (true_rows (source_first s) (source_mask s).known) (Ok (given.Ready b))) (sym c.in-Array.is) (array_gives here c.in-Array.array b c.in_ok-try_clone-in-Array.ensures)
+    let b = c.in_ok-column_of-in-Array.field-0 in
+    subst (λ (s : Source). Gives (source_tree s) here (true_rows (source_first s) (source_mask s).known) (Ok (given.Ready b))) (sym c.in-Array.is) (array_gives here c.in-Array.array b c.in_ok-column_of-in-Array.ensures)

@@ -1,7 +1,7 @@
 use borrow.Author.Rules.{rules}
 use Rattle.std.proofs.Common.{◌≡◌, ◌+◌, ℕ, ◌++◌, ◌∷◌, [], List, get_or, pos, Some, None, true, ap, subst, ◌∙◌, arith}
 use Rattle.scan_layout.specs.Check.{total_rows}
-use Rattle.scan_layout.specs.Places.{places_of}
+use Rattle.scan_spelling.specs.Places.{places_of}
 use Rattle.scan_plans.specs.Lists.{good_offset}
 use Rattle.scan_plans.specs.OffsetsData.{OffsetsData, offset_places}
 use Rattle.scan_plans.specs.Wants.{leaf_wanted, names_id}

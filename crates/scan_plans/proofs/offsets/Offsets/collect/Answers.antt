@@ -1,7 +1,7 @@
 use borrow.Author.Rules.{rules}
 use Rattle.std.proofs.Common.{◌≡◌, ◌+◌, ℕ, [], Bool, List, Option, true, length, replicate, arith, ap, subst, ◌∙◌}
 use Rattle.scan_layout.specs.Check.{total_rows}
-use Rattle.scan_layout.specs.Places.{places_of}
+use Rattle.scan_spelling.specs.Places.{places_of}
 use Rattle.scan_plans.specs.Came.{came}
 use Rattle.scan_plans.specs.Meaning.{true_rows}
 use Rattle.scan_plans.specs.OffsetReads.{Spans}

@@ -1,11 +1,13 @@
 use borrow.Author.Rules.{rules}
-use Rattle.std.proofs.Common.{Vec, Global, ◌≡◌, ◌+◌, ◌≤◌, ℕ, Err, true, length, map, replicate, arith, ap, sym, subst, ◌∙◌}
+use Rattle.std.proofs.Common.{Vec, Global, ◌≡◌, ◌+◌, ◌≤◌, ℕ, Err, IfSome, Ok, Option, true, length, map, pos, refl, replicate, arith, ap, sym, subst, ◌∙◌}
 use Rattle.std.proofs.lemmas.Result.{err_from_is_err_and}
 use Rattle.scan_values.specs.Arrays.{ArrayData}
 use Rattle.scan_values.specs.Val.{int_val}
 use Rattle.scan_layout.specs.Check.{total_rows}
 use Rattle.scan_plans.specs.Came.{came}
 use Rattle.scan_plans.specs.Lists.{rows_on}
+use Rattle.scan_plans.specs.OffsetReads.{Climbs}
+use Rattle.scan_plans.specs.OffsetsData.{OffsetsData}
 use Rattle.scan_plans.specs.PlanTree.{leaf}
 use Rattle.scan_plans.specs.Reads.{AreValues, Reads}
 use Rattle.scan_plans.proofs.OffsetChecks.{scalar_numbers, reads_offsets, offsets_fault, numbers_long}
@@ -44,3 +46,13 @@ returns c =
     let seen = subst (λ (x : ArrayData). AreValues (leaf (c.args.self.now).dtype (c.args.self.now).spelling (c.args.self.now).segments) here (rows_on c.args.first c.args.count) x) (sym array) own in
     let are : map int_val c.in_ok-numbers.numbers.items ≡ c.in_ok-array.array.items = search (rules, c.in_ok-numbers.ensures) in
     reads_offsets (λ v. v.items) c.args.self.now here c.args.first c.args.count c.in_ok-array.array c.in_ok-numbers.numbers.items c.checked.result seen are (search (rules, c.checked.ensures))
+
+pub returns-in-Some : goal.returns-in-Some
+returns-in-Some c =
+    let here = came c.args.inbox.now in
+    let ns = c.in-Some.offsets.items in
+    let all : c.as_slice.result.now ≡ replicate c.args.count true = search (rules, c.as_slice.ensures, c.in_ok-mask.ensures) in
+    let own : AreValues (leaf (c.args.self.now).dtype (c.args.self.now).spelling (c.args.self.now).segments) here (rows_on c.args.first c.args.count) c.in_ok-column.column = search (rules, c.in_ok-column.ensures, all, c.deref.ensures, c.self.view_is) in
+    let each = subst (λ (o : Option (Vec ℕ Global)). IfSome o (λ v. (map int_val (map pos v.items) ≡ c.in_ok-column.column.items) × Climbs c.self.inside.elements 0 v.items)) c.in-Some.is c.in_ok-offsets.ensures in
+    let climbs = subst (λ (o : OffsetsData). Climbs o.elements 0 ns) c.self.view_is each.1 in
+    reads_offsets (λ (v : Vec ℕ Global). v.items) c.args.self.now here c.args.first c.args.count c.in_ok-column.column (map pos ns) (Ok c.in-Some.offsets) own each.0 (refl, climbs)

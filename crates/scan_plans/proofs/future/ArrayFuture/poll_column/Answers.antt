@@ -1,5 +1,5 @@
 use Rattle.scan_plans.specs.Came.{came}
-use Rattle.scan_plans.proofs.future.ArrayFuture.poll.Goals as goal
+use Rattle.scan_plans.proofs.future.ArrayFuture.poll_column.Goals as goal
 
 pub returns-in-Ok-clause-answer : goal.returns-in-Ok-clause-answer
 returns-in-Ok-clause-answer c = c.answered.ensures.answer (came c.args.inbox.now) c.args.self.now c.in-Ok.ensures.answer
