@@ -1,13 +1,12 @@
 -- What a projection and a filter ask for.
-use Rattle.std.proofs.Common.{◌≡◌, ◌≤◌, ◌&&◌, ◌||◌, ◌==◌, nat_lt, ℕ, Bool, true, false, List, [], ◌∷◌, IfSome, Option, Some, None, ◌∙◌, sym, refl, arith}
+use Rattle.std.proofs.Common.{◌≡◌, ◌≤◌, ◌&&◌, ◌==◌, ℕ, Bool, true, false, List, [], ◌∷◌, IfSome, Option, Some, None, ◌∙◌, sym, arith}
 use Rattle.std.proofs.lemmas.Bool.Decides.{nat_tests}
 use Rattle.std.specs.Borrow.{Bor}
 use Rattle.scan_values.specs.DataType.{DataType}
 use Rattle.scan_expr.specs.Bound.{Bound}
-use Rattle.std.specs.declared.ops.Range.{Range}
 use Rattle.scan_core.specs.Boundaries.{has_ends}
-use Rattle.scan_core.specs.BuilderData.{AreBoundaries, IsFilter, lent_filter, range_or_all}
-use Rattle.scan_core.specs.RowRanges.{is_past, UpTo}
+use Rattle.scan_core.specs.BuilderData.{AreBoundaries, IsFilter, lent_filter}
+use Rattle.scan_core.specs.RowRanges.{UpTo}
 use Rattle.scan_core.specs.SplitRanges.{last_from}
 
 pub same_scopes : (d : DataType) (p : Bound) (f : Option (Bor Bound)) → p.scope ≡ d → IfSome (lent_filter f) (IsFilter d) → IfSome f (λ e. (e.now).scope ≡ p.scope)
@@ -25,16 +24,3 @@ up_to n lo hi (x ∷ xs) h l = let e : last_from x xs ≡ hi = grind (arith, nat
 
 pub bounds_up : (n lo hi : ℕ) (bs : List ℕ) → AreBoundaries lo hi bs → hi ≤ n → UpTo n bs
 bounds_up n lo hi bs h l = up_to n lo hi bs h.ends l
-
--- a range that lies within the rows, or all of them
-not_both : (a b : Bool) → (a || b) ≡ false → (a ≡ false) × (b ≡ false)
-not_both true b h = cc
-not_both false b h = (refl, h)
-
-pub range_order : (n : ℕ) (r : Option (Range ℕ)) → is_past r n ≡ false → (range_or_all r n).start ≤ (range_or_all r n).end
-range_order n None h = omega arith
-range_order n (Some r) h = let p = (not_both (nat_lt r.end r.start) (nat_lt n r.end) h).0 in grind (arith, nat_tests, p)
-
-pub range_ends : (n : ℕ) (r : Option (Range ℕ)) → is_past r n ≡ false → (range_or_all r n).end ≤ n
-range_ends n None h = omega arith
-range_ends n (Some r) h = let p = (not_both (nat_lt r.end r.start) (nat_lt n r.end) h).1 in grind (arith, nat_tests, p)

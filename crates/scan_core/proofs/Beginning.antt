@@ -1,11 +1,9 @@
 -- Streams that builders begin.
-use Rattle.std.proofs.Common.{◌≡◌, ◌⊎◌, ℕ, Bool, true, false, List, [], Option, Some, None, Result, Ok, Err, IfOk, refl, sym, ap, subst, ◌∙◌}
+use Rattle.std.proofs.Common.{◌≡◌, ℕ, Bool, true, false, [], Option, None, Result, Ok, Err, IfOk, refl, sym, ap, subst, ◌∙◌}
 use mathlib.Core.Logic.{inl, inr}
 use Rattle.scan_values.specs.Arrays.{ArrayData}
 use Rattle.scan_readers.specs.Readers.{ReaderState}
-use Rattle.std.specs.declared.ops.Range.{Range}
-use Rattle.scan_values.specs.Selections.{is_among}
-use Rattle.scan_segments.specs.Source.{SourceState, Store, none_live}
+use Rattle.scan_segments.specs.Source.{SourceState, Store}
 use Rattle.scan_streams.specs.Feeds.{FeedData}
 use Rattle.scan_streams.specs.Sources.{SourceMoves}
 use Rattle.scan_streams.specs.Streams.{StreamData, Answers, LiveAs, SameStream}
@@ -103,7 +101,3 @@ refused_poll state answers s (waits b) new (Err g) f e h =
     inl (record { why = f; fault = refl; refuses = subst (RefusesSetup (state b.reader) b) same h.1; over = h.0; source = refl })
 refused_poll state answers s (begun t) new r f e h = let no = sym h.1 ∙ e in cc
 refused_poll state answers s (over d) new r f e h = let no = sym h.1 ∙ e in cc
-
--- no live request is one of the new stream's
-pub idle_live : {M : Type 0} (s : ScanData M) (r : Option (Range ℕ)) (t : StreamData M) (live : ℕ → Bool) → IsStreamOf s r t → live ≡ none_live → LiveAs live (t.feed).live
-idle_live s r t live h e id = ap (λ (f : ℕ → Bool). f id) e ∙ sym (ap (λ (f : FeedData). is_among f.live id) (h.stream).feed)

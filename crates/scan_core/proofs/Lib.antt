@@ -9,6 +9,7 @@ pub mod Giving
 pub mod Iterating
 pub mod Leading
 pub mod Masking
+pub mod Naming
 pub mod Owning
 pub mod Picking
 pub mod Preparing

@@ -129,9 +129,6 @@ last_pick n xs ys f (suc e) h i q l =
     let back : e ≡ suc e - 1 = omega arith in
     subst (λ zs. get_or zs (suc e - 1) 0 < n) (sym i) (subst (λ j. get_or xs j 0 < n) back (below_at n xs e h (omega (arith, q))))
 
-pub picks_stand : (n : ℕ) (xs ys : List ℕ) (e : ℕ) → ys ≡ xs → e ≡ rank n xs → e ≤ length ys
-picks_stand n xs ys e i q = let long : rank n xs ≤ length xs = count_by-le-length (λ y. nat_lt y n) xs in subst (λ zs. e ≤ length zs) (sym i) (omega (arith, long, q))
-
 -- ---- what is picked of a range of rows is one of them
 pub last_above : (x : ℕ) (ys : List ℕ) → is_rising (x ∷ ys) ≡ true → x ≤ last_from x ys
 last_above x [] h = omega arith

@@ -1,5 +1,5 @@
 -- The scan that a builder sets up.
-use Rattle.std.proofs.Common.{◌≡◌, ◌<◌, ◌==◌, ℕ, zero, suc, Bool, true, false, List, [], ◌∷◌, Option, Some, None, Result, Ok, Err, IfOk, ◌∙◌, ap, sym, subst, refl, arith}
+use Rattle.std.proofs.Common.{◌≡◌, ◌<◌, ◌==◌, ℕ, zero, suc, Bool, true, false, List, [], ◌∷◌, Option, None, Result, Ok, Err, IfOk, ◌∙◌, ap, sym, subst, arith}
 use Rattle.std.specs.declared.ops.Range.{Range}
 use Rattle.scan_values.specs.Fits.{is_bool_type}
 use Rattle.scan_values.specs.StrictSorted.{is_rising}
@@ -14,9 +14,7 @@ use Rattle.scan_core.specs.RowRanges.{is_past, UpTo}
 use Rattle.scan_core.specs.ScanData.{ScanData, IsScan, IsTyped, scan_data, splits_of}
 use Rattle.scan_core.specs.SplitData.{SplitData}
 use Rattle.scan_streams.specs.Plans.{PlansData, IsConjunct, ReachTo}
-use Rattle.scan_core.specs.Setup.{first_fault}
 use Rattle.scan_core.specs.SplitMeaning.{ArePlansOf, IsScanOf}
-use Rattle.scan_streams.specs.declared.setup.SetupFault.{SetupFault}
 
 conjuncts_reach : (s : ReaderState) (cs : List Bound) (ps : List PlanData) → ArePlansOf s cs ps → EachPlan (IsConjunct s.rows) ps
 conjuncts_reach s [] [] h = tt
@@ -55,7 +53,3 @@ scan_is {M} s offset cs e p n bs r sel l o c m k h up within range busy =
 pub built_ok : {M V E : Type 0} (P : ScanData M → Type 0) (s : ScanData M) (items : V → List (SplitData M)) (r : Result V E) → P s → IfOk r (λ v. items v ≡ splits_of s None) → IfOk r (λ v. (z : ScanData M) × (P z × (items v ≡ splits_of z None)))
 built_ok P s items (Ok v) h e = (s, (h, e))
 built_ok P s items (Err f) h e = tt
-
-pub neither : (o p : Option SetupFault) → first_fault o p ≡ None → (o ≡ None) × (p ≡ None)
-neither None p h = (refl, h)
-neither (Some f) p h = cc

@@ -1,5 +1,5 @@
 -- Rising boundaries, and the ranges between neighbours.
-use Rattle.std.proofs.Common.{◌≡◌, ℕ, zero, suc, ◌+◌, ◌-◌, ◌<◌, ◌≤◌, Bool, true, false, ◌&&◌, nat_lt, nat_le, cond, List, [], ◌∷◌, ◌++◌, length, get_or, take, drop, filter, ◌==◌, Some, refl, ap, sym, subst, ◌∙◌, arith, drop-cons}
+use Rattle.std.proofs.Common.{◌≡◌, ℕ, zero, suc, ◌+◌, ◌-◌, ◌<◌, ◌≤◌, Bool, true, false, ◌&&◌, nat_lt, nat_le, cond, List, [], ◌∷◌, ◌++◌, length, get_or, take, drop, filter, ◌==◌, Some, refl, ap, sym, subst, ◌∙◌, arith}
 use Rattle.std.proofs.lemmas.Bool.Decides.{nat_tests}
 use Rattle.std.proofs.lemmas.List.{append-nil}
 use Rattle.std.proofs.lemmas.List.Sums.{count_by-le-length}
@@ -11,14 +11,6 @@ use Rattle.scan_layout.specs.Edges.{is_inside}
 use Rattle.scan_core.specs.SplitRanges.{rows, neighbours, last_from, spanned, span_of}
 
 -- ---- the ranges between neighbours
-pub neighbours_at : (xs : List ℕ) (i : ℕ) → 0 < i → i < length xs → neighbours (drop (i - 1) xs) ≡ rows (get_or xs (i - 1) 0) (get_or xs i 0) ∷ neighbours (drop i xs)
-neighbours_at xs zero p l = absurd (omega arith)
-neighbours_at xs (suc k) p l =
-    let first : drop k xs ≡ get_or xs k 0 ∷ drop (suc k) xs = drop-cons xs k 0 (omega arith) in
-    let second : drop (suc k) xs ≡ get_or xs (suc k) 0 ∷ drop (suc (suc k)) xs = drop-cons xs (suc k) 0 (omega arith) in
-    let back : k ≡ suc k - 1 = omega arith in
-    let two : neighbours (drop k xs) ≡ rows (get_or xs k 0) (get_or xs (suc k) 0) ∷ neighbours (drop (suc k) xs) = ap neighbours (first ∙ ap (λ z. get_or xs k 0 ∷ z) second) ∙ ap (λ z. rows (get_or xs k 0) (get_or xs (suc k) 0) ∷ neighbours z) (sym second) in
-    subst (λ j. neighbours (drop j xs) ≡ rows (get_or xs j 0) (get_or xs (suc k) 0) ∷ neighbours (drop (suc k) xs)) back two
 
 dropped_one : (xs : List ℕ) (k : ℕ) → length xs ≤ suc k → neighbours (drop k xs) ≡ []
 dropped_one [] zero l = refl

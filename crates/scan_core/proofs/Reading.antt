@@ -90,8 +90,6 @@ module _ (p : ℕ → Bool) where
           sym (parts ∙ ap (λ xs. xs ++ (filter p (numbers a b) ++ filter p (numbers b e))) low ∙ ap (λ xs. filter p (numbers a b) ++ xs) high ∙ append-nil (filter p (numbers a b)))
 
   -- ---- the rows of ranges that follow each other
-  row_list : Range ℕ → List ℕ
-  row_list r = filter p (numbers r.start r.end)
 
   follow_order : (a b : ℕ) (rs : List (Range ℕ)) → Follow a b rs → a ≤ b
   follow_order a b [] h = omega (arith, h)

@@ -8,7 +8,7 @@ use Rattle.scan_values.specs.Marked.{Marked, is_true}
 use Rattle.scan_values.specs.Masks.{by_rank}
 use Rattle.scan_values.specs.Val.{is_clean}
 use Rattle.scan_segments.specs.Source.{Store}
-use Rattle.scan_layout.specs.Places.{Place, places_of}
+use Rattle.scan_spelling.specs.Places.{Place, places_of}
 use Rattle.scan_expr.specs.Bound.{Bound}
 use Rattle.scan_plans.specs.Came.{Came, arrived, Holds}
 use Rattle.scan_plans.specs.Masks.{Filter, mask_data, kept, filtered, damaged, spilled, filters_wanted, filters_spoiled}

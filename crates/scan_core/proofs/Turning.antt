@@ -1,25 +1,15 @@
 -- Plans of the conjuncts of a filter.
-use Rattle.std.proofs.Common.{◌≡◌, ℕ, zero, suc, ◌+◌, ◌<◌, ◌≤◌, Bool, true, false, not, ◌&&◌, List, [], ◌∷◌, ◌++◌, length, get_or, drop, filter, Option, Some, None, Result, Ok, Err, IfOk, refl, ap, sym, subst, ◌∙◌, arith, add-one, drop-cons}
-use Rattle.std.specs.Prelude.{is_some, is_none}
+use Rattle.std.proofs.Common.{◌≡◌, ℕ, zero, suc, ◌+◌, ◌≤◌, Bool, true, false, not, List, [], ◌∷◌, ◌++◌, length, drop, filter, Result, Ok, Err, IfOk, refl, ap, sym, subst, ◌∙◌, arith}
 use Rattle.std.specs.declared.alloc.Global.{Global}
 use Rattle.std.specs.declared.sync.Arc.{Arc}
-use Rattle.std.proofs.lemmas.List.{map-append, append-nil, append_assoc}
+use Rattle.std.proofs.lemmas.List.{append-nil}
 use Rattle.scan_expr.specs.Bound.{Bound}
-use Rattle.scan_expr.specs.Expr.{Expr, uses_row_index}
 use Rattle.scan_plans.specs.PlanData.{PlanData, plans_of}
 use Rattle.scan_plans.specs.Pruning.{is_numbered}
-use Rattle.scan_readers.specs.PlanOf.{IsPlanOf}
-use Rattle.scan_readers.specs.Readers.{ReaderState, lacks_numbers, numbers_alone}
-use Rattle.scan_core.specs.BuilderData.{IsFilter, AreFilters}
+use Rattle.scan_readers.specs.Readers.{ReaderState, numbers_alone}
+use Rattle.scan_core.specs.BuilderData.{AreFilters}
 use Rattle.scan_core.specs.Prepared.{numbered_first}
-use Rattle.scan_core.specs.SplitMeaning.{IsPlanOfBool, ArePlansOf, in_turn}
-
-pub has_numbers : (s : ReaderState) (e : Expr) → is_some s.first_number ≡ true → lacks_numbers s e ≡ false
-has_numbers s e h = go s.first_number h
-  where
-    go : (o : Option ℕ) → is_some o ≡ true → (is_none o && uses_row_index e) ≡ false
-    go (Some n) h = refl
-    go None h = cc
+use Rattle.scan_core.specs.SplitMeaning.{ArePlansOf, in_turn}
 
 -- ---- expression by expression
 -- the first i expressions over a reader have these plans; the reader's state stayed
@@ -27,32 +17,6 @@ pub record Walked (s t : ReaderState) (es : List Bound) (i : ℕ) (made : List P
   pub same : t ≡ s
   pub filters : AreFilters s.dtype (drop i es)
   pub plans : (rest : List PlanData) → ArePlansOf s (drop i es) rest → ArePlansOf s es (made ++ rest)
-
-pub walk_start : (s : ReaderState) (es : List Bound) → AreFilters s.dtype es → Walked s s es 0 []
-walk_start s es h = record { same = refl; filters = h; plans = λ rest p. p }
-
-at_place : (es : List Bound) (i : ℕ) (e : Bound) → i < length es → e ≡ get_or es i e → drop i es ≡ e ∷ drop (i + 1) es
-at_place es i e l h = drop-cons es i e l ∙ ap (λ z. z ∷ drop (suc i) es) (sym h) ∙ ap (λ n. e ∷ drop n es) (sym (add-one i))
-
-pub walk_here : (s t : ReaderState) (es : List Bound) (i : ℕ) (made : List PlanData) (e : Bound) → Walked s t es i made → i < length es → e ≡ get_or es i e → IsFilter t.dtype e
-walk_here s t es i made e w l h =
-    let here : AreFilters s.dtype (e ∷ drop (i + 1) es) = subst (AreFilters s.dtype) (at_place es i e l h) w.filters in
-    subst (λ (z : ReaderState). IsFilter z.dtype e) (sym w.same) here.0
-
-pub walk_next : (s t u : ReaderState) (es : List Bound) (i : ℕ) (made : List (Arc PlanData Global)) (e : Bound) (p : Arc PlanData Global)
-    → Walked s t es i (plans_of made) → i < length es → e ≡ get_or es i e → u ≡ t → IsPlanOf t e p.value → Walked s u es (i + 1) (plans_of (made ++ p ∷ []))
-walk_next s t u es i made e p w l h k q =
-    let place = at_place es i e l h in
-    let here : AreFilters s.dtype (e ∷ drop (i + 1) es) = subst (AreFilters s.dtype) place w.filters in
-    let plan : IsPlanOfBool s e p.value = (subst (λ (z : ReaderState). IsPlanOf z e p.value) w.same q, (here.0).bool) in
-    let more : plans_of (made ++ p ∷ []) ≡ plans_of made ++ p.value ∷ [] = map-append (λ r. r.value) made (p ∷ []) in
-    record {
-      same = k ∙ w.same;
-      filters = here.1;
-      plans = λ rest r.
-          let whole : ArePlansOf s (drop i es) (p.value ∷ rest) = subst (λ (xs : List Bound). ArePlansOf s xs (p.value ∷ rest)) (sym place) (plan, r) in
-          subst (λ (ps : List PlanData). ArePlansOf s es ps) (sym (ap (λ (ps : List PlanData). ps ++ rest) more ∙ append_assoc (plans_of made) (p.value ∷ []) rest)) (w.plans (p.value ∷ rest) whole);
-    }
 
 dropped_all : (es : List Bound) (i : ℕ) → length es ≤ i → drop i es ≡ []
 dropped_all [] zero l = refl

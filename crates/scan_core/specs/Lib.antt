@@ -6,6 +6,7 @@ pub mod LazyData
 pub mod LazyIter
 pub mod LazyIterState
 pub mod LazyState
+pub mod NameSets
 pub mod Prepared
 pub mod RowRanges
 pub mod ScanCode

@@ -4,13 +4,15 @@ ghost use Rattle.std.specs.List.{flat_map};
 ghost use Rattle.scan_values.specs.DataType.{Fields};
 ghost use Rattle.scan_expr.specs.Infer.{fields_or_none, infer, struct_fields};
 ghost use Rattle.scan_expr.specs.Needs.{other_names, uses};
+ghost use Rattle.scan_core.specs.NameSets.{names_in};
 ghost use Rattle.scan_core.specs.FieldMasks.{below, onto, end_of, lent_names, ends_of, path_mask, demand_paths, used_paths, scan_paths, firsts};
 ghost use Rattle.scan_readers.specs.FieldNames.{all_lead, name_fields};
 
+use crate::name_set::NameSet;
 use scan_expr::{BoundExpression, BoundNode, Unary};
-use scan_values::{DType, FieldMask, FieldName, FieldPath, Names, NoMemory, has_name};
+use scan_values::{DType, FieldMask, FieldName, FieldPath, Names, NoMemory};
 use std::alloc::Global;
-use std::collections::HashSet;
+use std::collections::BTreeSet;
 
 /// The paths of the fields that the projection and the filter of a scan use, each once, in the order in which they are
 /// first used. Of a select or an exclude on a field these are the fields that it chooses. Each is a field of the dtype
@@ -50,13 +52,25 @@ fn add_referenced(
 fn distinct_masks(alloc: Global, paths: &[Names]) -> Result<Vec<FieldMask>, NoMemory>
     ensures { IfOk result (λ v. v.items ≡ map path_mask (firsts paths.now)) }
 {
-    let mut seen: HashSet<&Names> = HashSet::new(alloc);
+    let mut seen: BTreeSet<Vec<&str>> = BTreeSet::new(alloc);
     let mut masks = Vec::new(alloc);
     for path in paths {
-        let is_new = seen.insert(path)?;
+        let is_new = seen.insert(texts_of(alloc, path)?)?;
         push_new(alloc, is_new, path, &mut masks)?;
     }
     Ok(masks)
+}
+
+/// The texts of a path's names.
+fn texts_of<'a>(alloc: Global, path: &'a Names) -> Result<Vec<&'a str>, NoMemory>
+    ensures { IfOk result (λ v. names_in v ≡ path.entry.now) }
+{
+    let names = path.as_slice();
+    let mut texts = Vec::with_capacity(alloc, names.len())?;
+    for name in names {
+        texts.push(name.as_str())?;
+    }
+    Ok(texts)
 }
 
 /// Adds the mask of a path that is new.
@@ -180,8 +194,9 @@ fn others(alloc: Global, dtype: &DType, left: &Names) -> Result<Vec<FieldName>, 
     let Some(fields) = dtype.as_struct_fields_opt() else {
         return Ok(made);
     };
+    let left = NameSet::of(alloc, left)?;
     for name in fields.names() {
-        if !has_name(name, left.as_slice()) {
+        if !left.has(name) {
             made.push(name.try_clone(alloc)?)?;
         }
     }

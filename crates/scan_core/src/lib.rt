@@ -7,6 +7,7 @@ mod builder;
 mod field_masks;
 mod laws;
 mod lazy_stream;
+mod name_set;
 mod planning;
 mod repeated;
 mod scan_iter;

@@ -1,22 +1,19 @@
 -- Rounds keep the books and counts up to the last, and then all splits are served.
-use Rattle.std.proofs.Common.{◌≡◌, ◌≢◌, ℕ, ◌+◌, ◌<◌, ◌≤◌, List, [], ◌∷◌, ◌++◌, length, get_or, Bool, true, false, ◌||◌, eqb, Option, Some, None, inl, inr, refl, sym, ap, ◌∙◌, subst, arith}
-use Rattle.std.specs.Prelude.{◌⊎◌, All}
+use Rattle.std.proofs.Common.{◌≡◌, ◌≢◌, ℕ, ◌+◌, ◌<◌, ◌≤◌, List, [], ◌∷◌, length, get_or, Bool, true, false, ◌||◌, eqb, Option, Some, None, inl, inr, refl, sym, ap, ◌∙◌, subst, arith}
+use Rattle.std.specs.Prelude.{◌⊎◌}
 use Rattle.std.proofs.lemmas.Bool.{cases_eq}
 use Rattle.std.proofs.lemmas.Bool.Decides.{nat_tests}
 use Rattle.std.proofs.lemmas.List.{get_or_default}
-use Rattle.std.proofs.lemmas.List.Elements.{All-append, All-cons, All-nil}
 use Rattle.scan_values.specs.Selections.{is_among}
 use Rattle.scan_segments.specs.Source.{SourceState}
 use Rattle.scan_splits.specs.Wanted.{is_any}
 use Rattle.scan_drive.specs.Accounts.{AllServed, RunsOut, RunEnds}
 use Rattle.scan_drive.specs.Asks.{EachLinkedBut}
-use Rattle.scan_drive.specs.Chunks.{HasRow, KeepsRows}
 use Rattle.scan_drive.specs.Desks.{Waiters, waiters_at, is_in, HasWaiter, IsAwaited}
 use Rattle.scan_drive.specs.Drives.{desk_at, EachLinked}
 use Rattle.scan_drive.specs.Losses.{HaltsStay, FilesBalance}
 use Rattle.scan_drive.specs.Slots.{slot_at, is_halted, stage_waits}
 use Rattle.scan_drive.specs.Wants.{Cache}
-use Rattle.scan_drive.specs.declared.delivery.Chunk.{Chunk}
 use Rattle.scan_drive.specs.declared.files.ScanFile.{ScanFile}
 use Rattle.scan_drive.specs.declared.report.ScanReport.{ScanReport}
 use Rattle.scan_drive.specs.declared.round.Drive.{Drive}
@@ -112,6 +109,3 @@ module _ {O S W R F : Type 0} (source : S → SourceState) where
   }
 
 -- ---- chunks
-module _ {R I : Type 0} (items : R → List I) where
-  pub rows_push : (chunks now : List (Chunk R)) (c : Chunk R) (n : ℕ) → n ≡ length (items c.rows) → (n ≡ 0 → ⊥) → now ≡ chunks ++ c ∷ [] → KeepsRows items chunks now
-  rows_push chunks now c n e some is h = subst (All (HasRow items)) (sym is) (All-append (HasRow items) chunks (c ∷ []) h (All-cons (HasRow items) c [] (λ none. some (e ∙ ap length none)) (All-nil (HasRow items))))

@@ -10,7 +10,7 @@ use Rattle.scan_splits.specs.Arrivals.{Arrivals}
 use Rattle.scan_splits.specs.Wanted.{no_repeats}
 use Rattle.scan_drive.specs.Asks.{LinkedBut, EachLinkedBut, WaitsThere}
 use Rattle.scan_drive.specs.Desks.{Waiters, waits}
-use Rattle.scan_drive.specs.Drives.{desk_at, EachLinked, SourcesMove, SlotsKeep}
+use Rattle.scan_drive.specs.Drives.{desk_at, SourcesMove, SlotsKeep}
 use Rattle.scan_drive.specs.Files.{Part}
 use Rattle.scan_drive.specs.Measures.{is_there, Advances, EachAdvances}
 use Rattle.scan_drive.specs.Slots.{slot_at, nothing, is_reading, stage_waits, MayTake, SlotKeeps}
@@ -121,22 +121,11 @@ module _ {W R : Type 0} where
       go (inl is) = subst (λ i. LinkedBut rest i (desk_at (set desks k e) i) new) (sym is) (subst (λ (x : Waiters). LinkedBut rest k x new) (sym (get_or-set_same desks k e [] lt)) this)
       go (inr n) = let jlt : j < length desks = (let m = length-set desks k e in omega (arith, jl, m)) in subst (λ (x : Waiters). LinkedBut rest j x new) (sym (get_or-set_other desks k j e [] n)) (other n jlt)
 
-  -- all have been asked for
-  pub but_done : (rest : List ℕ) (desks : List Waiters) (slots : List (Slot W R)) → rest ≡ [] → EachLinkedBut rest desks slots → EachLinked desks slots
-  but_done rest desks slots e l k lt = let b = l k lt in record {
-    file_is = b.file_is;
-    takes = b.takes;
-    live = λ id q f v. b.live id q f (ap (λ (xs : List ℕ). is_among xs q) e) v;
-  }
-
   -- what is still to be asked for is as it was
   pub record Remains (rest all : List ℕ) (old now : List (Slot W R)) : Type 0 where
     pub once : no_repeats rest ≡ true
     pub among : (place : ℕ) → is_among rest place ≡ true → is_among all place ≡ true
     pub same : (place : ℕ) → is_among rest place ≡ true → slot_at now place ≡ slot_at old place
-
-  pub remains_all : (all : List ℕ) (slots : List (Slot W R)) → no_repeats all ≡ true → Remains all all slots slots
-  remains_all all slots o = record { once = o; among = λ p m. m; same = λ p m. refl }
 
   pub remains_next : (place : ℕ) (rest all : List ℕ) (old now : List (Slot W R)) (s : Slot W R) → Remains (place ∷ rest) all old now → Remains rest all old (set now place s)
   remains_next place rest all old now s r = record {

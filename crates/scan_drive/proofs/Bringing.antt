@@ -84,13 +84,6 @@ module _ {W I R : Type 0} (split : W → SplitState I) where
   pub fetching_all : (ids : List ℕ) (s : SourceState) (d : Waiters) (slots : List (Slot W R)) → Fetching ids ids s s d d slots slots
   fetching_all ids s d slots = record { turns = omega arith; at = λ id place m w v. inr (m, w, refl) }
 
-  pub fetching_done : (ids rest : List ℕ) (s t : SourceState) (d e : Waiters) (old now : List (Slot W R)) → rest ≡ [] → Fetching ids rest s t d e old now → (id : ℕ) → is_among ids id ≡ true → BringsNearer split id s t d old now
-  fetching_done ids rest s t d e old now is f id m place w v = go (f.at id place m w v)
-    where
-      go : ((t.turns < s.turns) ⊎ IsNearer split (slot_at old place) (slot_at now place)) ⊎ ((is_among rest id ≡ true) × (waits e id place ≡ true) × (slot_at now place ≡ slot_at old place)) → (t.turns < s.turns) ⊎ IsNearer split (slot_at old place) (slot_at now place)
-      go (inl n) = n
-      go (inr r) = let bad = sym (ap (λ (xs : List ℕ). is_among xs id) is) ∙ r.0 in absurd cc
-
   -- an id is polled
   pub fetching_next : (x : ℕ) (ids rest : List ℕ) (s t u : SourceState) (d e f : Waiters) (old now new : List (Slot W R)) → Fetching ids (x ∷ rest) s t d e old now → u.turns ≤ t.turns → WaitOn x e f → EachAdvances split now new → BringsNearer split x t u e now new → Fetching ids rest s u d f old new
   fetching_next x ids rest s t u d e f old now new h less on adv near = record {
@@ -142,9 +135,6 @@ module _ {O S W I R : Type 0} (source : S → SourceState) (split : W → SplitS
   pub record FirstNearer (first k : ℕ) (files0 files : List (ScanFile O S)) (desks0 desks : List Waiters) (slots0 slots : List (Slot W R)) : Type 0 where
     pub before : k ≡ first → (files ≡ files0) × (desks ≡ desks0) × (slots ≡ slots0)
     pub after : first < k → BringsFileNearer source split first files0 files desks0 slots0 slots
-
-  pub first_none : (first : ℕ) (files : List (ScanFile O S)) (desks : List Waiters) (slots : List (Slot W R)) → FirstNearer first first files files desks desks slots slots
-  first_none first files desks slots = record { before = λ e. (refl, refl, refl); after = λ lt. absurd (omega arith) }
 
   pub first_next : (first k : ℕ) (files0 files : List (ScanFile O S)) (desks0 desks : List Waiters) (slots0 slots new : List (Slot W R)) (x y : ScanFile O S) (d e : Waiters) → first ≤ k
       → k < length files → k < length desks → x ≡ get_or files k x → d ≡ get_or desks k d → FirstNearer first k files0 files desks0 desks slots0 slots → EachAdvances split slots new →

@@ -51,9 +51,6 @@ room_more room i n s t lt fits e =
     times_more : (a b c : ℕ) → b ≤ c → a * b ≤ a * c
     times_more a b c l = let d : c ≡ b + (c - b) = omega (arith, l) in let e : a * (b + (c - b)) ≡ a * b + a * (c - b) = omega arith in subst (λ k. a * b ≤ a * k) (sym d) (omega (arith, e))
 
-pub none_split : (room : ℕ) (s : SeatState) → s ≡ after_split (room * 0) s
-none_split room s = λ k. record { budget = s.budget; room = (let e : s.room ≡ s.room - room * 0 = omega arith in e) k; claimed = s.claimed; granted = s.granted }
-
 module _ {W R : Type 0} where
   -- a split for which memory was not short, without its seat
   abbrev pub IsJoined : Job W R → Job W R → Type 0

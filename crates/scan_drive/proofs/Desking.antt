@@ -1,7 +1,7 @@
 -- The live requests stay those of the desk.
-use Rattle.std.proofs.Common.{◌≡◌, ℕ, List, [], ◌∷◌, ◌++◌, Bool, true, false, ◌||◌, cond, eqb, Option, Some, None, is_some, Result, Ok, Err, OnErr, refl, sym, ap, ◌∙◌, subst, arith}
+use Rattle.std.proofs.Common.{◌≡◌, ℕ, List, [], ◌∷◌, ◌++◌, Bool, true, false, ◌||◌, cond, eqb, Option, Some, is_some, Result, Ok, Err, OnErr, refl, sym, ap, ◌∙◌, subst, arith}
 use Rattle.std.proofs.lemmas.Bool.Decides.{nat_tests}
-use Rattle.scan_segments.specs.Source.{with_live, without_live, none_live}
+use Rattle.scan_segments.specs.Source.{none_live}
 use Rattle.scan_segments.proofs.LiveSets.{at-id}
 use Rattle.scan_values.specs.Selections.{is_among}
 use Rattle.scan_splits.specs.Wanted.{no_repeats, is_any}
@@ -10,37 +10,6 @@ use Rattle.scan_drive.specs.Desks.{Waiters, waiters_at, Agree, Stay, Moves}
 
 pub moved : (id : ℕ) (x : Option (List ℕ)) (d e : Waiters) → Moves id x d e → (q : ℕ) → waiters_at e q ≡ cond (eqb q id) x (waiters_at d q)
 moved id x d e m q = m q ∙ ap (λ b. cond b x (waiters_at d q)) (at-id id q)
-
-some_at : (b : Bool) (x y : Option (List ℕ)) → is_some (cond b x y) ≡ cond b (is_some x) (is_some y)
-some_at true x y = refl
-some_at false x y = refl
-
-if_at : (q id : ℕ) (f : ℕ → Bool) (x : Bool) → x ≡ f id → cond (eqb q id) x (f q) ≡ f q
-if_at q id f x is = go (eqb q id) refl
-  where
-    go : (b : Bool) → eqb q id ≡ b → cond (eqb q id) x (f q) ≡ f q
-    go true e = let same : q ≡ id = grind (arith, nat_tests) in rw e (is ∙ sym (ap f same))
-    go false e = rw e refl
-
-pub agree_stay : (live live' : ℕ → Bool) (d e : Waiters) → Agree live d → live' ≡ live → Stay d e → Agree live' e
-agree_stay live live' d e h l s q = ap (λ (f : ℕ → Bool). f q) l ∙ h q ∙ sym (ap is_some (s q))
-
-pub agree_begin : (id : ℕ) (live live' : ℕ → Bool) (places : List ℕ) (d e : Waiters) → Agree live d → live' ≡ with_live id live → Moves id (Some places) d e → Agree live' e
-agree_begin id live live' places d e h l m q = ap (λ (f : ℕ → Bool). f q) l ∙ ap (cond (eqb q id) true) (h q) ∙ sym (ap is_some (moved id (Some places) d e m q) ∙ some_at (eqb q id) (Some places) (waiters_at d q))
-
-pub agree_join : (id : ℕ) (live : ℕ → Bool) (places : List ℕ) (d e : Waiters) → Agree live d → is_some (waiters_at d id) ≡ true → Moves id (Some places) d e → Agree live e
-agree_join id live places d e h there m q = h q ∙ sym (ap is_some (moved id (Some places) d e m q) ∙ some_at (eqb q id) (Some places) (waiters_at d q) ∙ if_at q id (λ k. is_some (waiters_at d k)) true (sym there))
-
-pub agree_end : (id : ℕ) (live live' : ℕ → Bool) (d e : Waiters) → Agree live d → live' ≡ without_live id live → Moves id None d e → Agree live' e
-agree_end id live live' d e h l m q = ap (λ (f : ℕ → Bool). f q) l ∙ ap (cond (eqb q id) false) (h q) ∙ sym (ap is_some (moved id None d e m q) ∙ some_at (eqb q id) None (waiters_at d q))
-
--- an id that was written and is taken out again
-pub undone : (id : ℕ) (places : List ℕ) (d e f : Waiters) → waiters_at d id ≡ None → Moves id (Some places) d e → Moves id None e f → Stay d f
-undone id places d e f none m n q = moved id None e f n q ∙ ap (cond (eqb q id) None) (moved id (Some places) d e m q) ∙ go (eqb q id) refl
-  where
-    go : (b : Bool) → eqb q id ≡ b → cond b None (cond b (Some places) (waiters_at d q)) ≡ waiters_at d q
-    go true k = let same : q ≡ id = grind (arith, nat_tests) in sym none ∙ sym (ap (waiters_at d) same)
-    go false k = refl
 
 -- an id whose places are as they were
 pub unwritten : (id : ℕ) (places : List ℕ) (d e : Waiters) → waiters_at d id ≡ Some places → Moves id (Some places) d e → Stay d e

@@ -18,7 +18,7 @@ use Rattle.scan_drive.specs.Links.{Linked}
 use Rattle.scan_drive.specs.Measures.{is_there}
 use Rattle.scan_drive.specs.Moves.{tell, tells}
 use Rattle.scan_drive.specs.Openers.{OpenerState, IsRefused}
-use Rattle.scan_drive.specs.Phases.{phase_at, is_unopened, unopened, IsSpent, IsQueued, has_left, SpentBelow, RowsOk}
+use Rattle.scan_drive.specs.Phases.{phase_at, IsSpent, IsQueued, has_left, SpentBelow, RowsOk}
 use Rattle.scan_drive.specs.Rounds.{Stands}
 use Rattle.scan_drive.specs.Slots.{slot_at, stage_waits, is_halted}
 use Rattle.scan_drive.specs.Splits.{SplitState, Event}
@@ -36,7 +36,7 @@ use Rattle.scan_drive.specs.declared.slot.Slot.{Slot}
 use Rattle.scan_drive.specs.declared.slot.Stage.{Stage}
 use Rattle.scan_drive.specs.declared.slot.Stage.TheVariants as stage
 use Rattle.scan_drive.proofs.Handing.{le_or_lt}
-use Rattle.scan_drive.proofs.Exchanging.{exchange_below, exchange_before, exchange_from, exchange_first, exchange_second, exchange_other, Which, which, swap_at, swap_twice, sum_by_swapped, all_swapped, at_swapped, both_swapped, at_exchanged, both_exchanged, take_swapped}
+use Rattle.scan_drive.proofs.Exchanging.{exchange_below, exchange_before, exchange_from, exchange_first, exchange_second, exchange_other, Which, which, swap_at, swap_twice, all_swapped, at_swapped, both_swapped, at_exchanged, both_exchanged, take_swapped}
 use Rattle.scan_drive.proofs.ExchangedBooks.{books_ledger}
 use Rattle.scan_drive.proofs.ExchangedFiles.{swap_moves, swap_tells}
 
@@ -138,9 +138,6 @@ module _ {W R F : Type 0} (i j : ℕ) (v w : Drive W R F) (r : Rephased (swap v.
 
     q : j < length v.phases.items
     q = s.within
-
-    pub swap_unopened : unopened w.phases.items ≡ unopened v.phases.items
-    swap_unopened = ap unopened r.phases_are ∙ sum_by_swapped is_unopened v.phases.items i j p q
 
     pub swap_stands : (n : ℕ) → Stands n v → Stands n w
     swap_stands n h = of_rephased (Stands n) (record {

@@ -207,11 +207,6 @@ module _ {X : Type 0} where
   exchanged_at (s ∷ ss) xs k d r =
       exchanged_at ss (swap xs s.0 s.1) k d (subst (λ n. SwapsInRange n ss) (sym (length-swap xs s.0 s.1)) r.2) ∙ swap_at xs s.0 s.1 (placed_by ss k) d r.0 r.1
 
-  pub restored_exchanged : (ss : List (ℕ × ℕ)) (xs : List X) → SwapsInRange (length xs) ss → restored ss (exchanged ss xs) ≡ xs
-  restored_exchanged [] xs r = refl
-  restored_exchanged (s ∷ ss) xs r =
-      ap (λ ys. swap ys s.0 s.1) (restored_exchanged ss (swap xs s.0 s.1) (subst (λ n. SwapsInRange n ss) (sym (length-swap xs s.0 s.1)) r.2)) ∙ swap_twice xs s.0 s.1 r.0 r.1
-
   pub exchanged_restored : (ss : List (ℕ × ℕ)) (xs : List X) → SwapsInRange (length xs) ss → exchanged ss (restored ss xs) ≡ xs
   exchanged_restored [] xs r = refl
   exchanged_restored (s ∷ ss) xs r =

@@ -1,5 +1,5 @@
 -- What was asked of a source, where it failed, and what came to the splits meanwhile.
-use Rattle.std.proofs.Common.{◌≡◌, ◌≢◌, ℕ, zero, suc, ◌+◌, ◌-◌, ◌^◌, ◌<◌, ◌≤◌, List, [], ◌∷◌, ◌++◌, length, set, get_or, Bool, true, false, ◌||◌, eqb, Option, Some, None, Result, OnOk, inl, inr, refl, sym, ap, ◌∙◌, subst, arith, append_assoc, append-nil}
+use Rattle.std.proofs.Common.{◌≡◌, ℕ, ◌+◌, ◌-◌, ◌≤◌, List, [], ◌∷◌, ◌++◌, Bool, true, false, eqb, Some, inl, inr, refl, sym, ap, ◌∙◌, arith, append_assoc}
 use Rattle.std.specs.Prelude.{◌⊎◌, Contains}
 use Rattle.std.proofs.lemmas.Bool.Decides.{nat_tests}
 use Rattle.std.proofs.lemmas.List.Elements.{Contains-append_left, Contains-append_right}
@@ -84,9 +84,6 @@ open_at id places s t d a e = inl (a id ∙ ap Rattle.std.proofs.Common.is_some 
 module _ {W R : Type 0} where
   pub source_self : (s t : SourceState) (slots : List (Slot W R)) → SourceFollows s t slots slots
   source_self s t slots = each_self (λ k id. WasOpen id s t) (λ k id. FailedAt id s t) slots
-
-  pub source_same : (s t : SourceState) (old new : List (Slot W R)) → new ≡ old → SourceFollows s t old new
-  source_same s t old new e = subst (SourceFollows s t old) (sym e) (source_self s t old)
 
   pub source_then : (May Can : ℕ → Type 0) (s t u : SourceState) (a b c : List (Slot W R)) → SourceMoves May s t → SourceMoves Can t u → SourceFollows s t a b → SourceFollows t u b c → SourceFollows s u a c
   source_then May Can s t u a b c m n p q =

@@ -51,9 +51,6 @@ module _ {O S : Type 0} (source : S → SourceState) where
   pub files_balance_then : (old mid new : List (ScanFile O S)) (c d e : Cache) (r x y : ScanReport) (a b g : Bool) → length mid ≡ length old → FilesKeepBalance source old mid c d r x a b → FilesKeepBalance source mid new d e x y b g → FilesKeepBalance source old new c e r y a g
   files_balance_then old mid new c d e r x y a b g m p q first cache n l = q first cache (m ∙ n) (p first cache n l)
 
-  pub files_report_self : (files : List (ScanFile O S)) (c : Cache) (report : ScanReport) → FilesKeepReport source files files c c report report
-  files_report_self files c report lost = files_balance_self files c report lost
-
   pub files_report_then : (old mid new : List (ScanFile O S)) (c d e : Cache) (r x y : ScanReport) → length mid ≡ length old → FilesKeepReport source old mid c d r x → FilesKeepReport source mid new d e x y → FilesKeepReport source old new c e r y
   files_report_then old mid new c d e r x y m p q lost = files_balance_then old mid new c d e r x y lost lost lost m (p lost) (q lost)
 

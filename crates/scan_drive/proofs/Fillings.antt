@@ -67,9 +67,6 @@ module _ {W F : Type 0} where
       queued k lt (inr other) = h.queued k (let a = c.0 in let b = c.1 in omega (arith, lt, other, a, b))
 
 module _ {W R F : Type 0} where
-  pub fills_none : (first : ℕ) (t : Tally) (ps : List (Phase W F)) (slots : List (Slot W R)) → Fills first first t t ps ps slots slots
-  fills_none first t ps slots = record { grows = omega arith; queued = λ k h. h; left = λ k h. h; counted = λ h. h; rows = λ tale n r h. (r, h); slots = λ h place. inl refl }
-
   retally : (t u : Tally) (ps : List (Phase W F)) (old new : Slot W R) → t.files ≤ u.files → (new ≡ old) ⊎ IsTakenBy t ps new → (new ≡ old) ⊎ IsTakenBy u ps new
   retally t u ps old new l (inl e) = inl e
   retally t u ps old new l (inr h) = inr (record { counted = (let c = h.counted in omega (arith, c, l)); had = h.had; work = h.work; now = h.now })

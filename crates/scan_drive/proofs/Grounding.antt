@@ -109,12 +109,6 @@ module _ {O S : Type 0} (source : S → SourceState) where
       let z = source (get_or b k f).source in
       (failed_more (λ i. Unit {0}) x y z (m.moves k f) (h f).0, asked_more (λ i. Unit {0}) id x y z (m.moves k f) (h f).1)
 
-  pub reason_on : (first a b : List (ScanFile O S)) (c : Cache) (k : ℕ) (h : Halt) → Moved source a b → IsReason source first a c k h → IsReason source first b c k h
-  reason_on first a b c k (halt.Source id) m r = failed_on first a b c k id m r
-  reason_on first a b c k (halt.Corrupt id) m r = λ f. came_more first a b c (get_or first k f).source_id id m (r f)
-  reason_on first a b c k halt.Overflow m r = tt
-  reason_on first a b c k halt.NoMemory m r = tt
-
   -- what may have come while they were served
   open_asked : (first a b : List (ScanFile O S)) (c d : Cache) (k id : ℕ) (f : ScanFile O S) → Moved source first a → k < length first → Moved source a b → Ledger (books_of source first a) c d
       → WasOpen id (source (get_or a k f).source) (source (get_or b k f).source) → WasAsked id (source (get_or first k f).source) (source (get_or b k f).source)

@@ -80,10 +80,6 @@ module _ {O S W R : Type 0} (source : S → SourceState) where
       FilesBalance source old new c c report report slots
   round_same old new c report slots n s m = record { failed = false; keeps = λ lost. files_balance_same source old new c report lost n s m; halted = λ h. absurd cc }
 
-  -- steps of the slots alone
-  pub round_slots : (old new : List (ScanFile O S)) (c d : Cache) (report after : ScanReport) (between slots : List (Slot W R)) → HaltsStay between slots → FilesBalance source old new c d report after between → FilesBalance source old new c d report after slots
-  round_slots old new c d report after between slots stay k = record { failed = k.failed; keeps = k.keeps; halted = λ h. still_halted between slots stay (k.halted h) }
-
   pub round_then : (old mid new : List (ScanFile O S)) (c d e : Cache) (r x y : ScanReport) (between slots : List (Slot W R)) → length mid ≡ length old → HaltsStay between slots → FilesBalance source old mid c d r x between → FilesBalance source mid new d e x y slots
       → FilesBalance source old new c e r y slots
   round_then old mid new c d e r x y between slots n stay p q = record {

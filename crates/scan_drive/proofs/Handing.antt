@@ -89,9 +89,6 @@ module _ {W R : Type 0} where
     pub take : AllTake id rest now
     pub once : no_repeats rest ≡ true
 
-  pub walks_none : (id : ℕ) (f : Slot W R → Slot W R) (places : List ℕ) (slots : List (Slot W R)) → AllTake id places slots → no_repeats places ≡ true → Walks id f places places slots slots
-  walks_none id f places slots t d = record { slots_are = refl; take = t; once = d }
-
   pub walks_next : (id : ℕ) (f : Slot W R → Slot W R) (p : ℕ) (rest places : List ℕ) (slots now : List (Slot W R)) (s : Slot W R) → Walks id f (p ∷ rest) places slots now → s ≡ f (slot_at now p) → Walks id f rest places slots (set now p s)
   walks_next id f p rest places slots now s w is =
       let parts = and_both (not (is_among rest p)) (no_repeats rest) w.once in
@@ -101,9 +98,6 @@ module _ {W R : Type 0} where
         take = λ q m. subst (MayTake id) (sym (at_set_other now p q s (among_apart p q rest off m))) (w.take q (among_later p q rest m));
         once = parts.1;
       }
-
-  pub walks_all : (id : ℕ) (f : Slot W R → Slot W R) (rest places : List ℕ) (slots now : List (Slot W R)) → Walks id f rest places slots now → rest ≡ [] → now ≡ at_each f places slots
-  walks_all id f rest places slots now w e = ap (λ ps. at_each f ps now) (sym e) ∙ w.slots_are
 
   pub walks_within : (id : ℕ) (f : Slot W R → Slot W R) (p : ℕ) (rest places : List ℕ) (slots now : List (Slot W R)) → Walks id f (p ∷ rest) places slots now → p < length now
   walks_within id f p rest places slots now w = take_within now p id (w.take p (among_head p rest))

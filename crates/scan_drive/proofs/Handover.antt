@@ -1,5 +1,5 @@
 -- A split wants ids, one after the other: what the cache has is handed to it, and for the others its place waits.
-use Rattle.std.proofs.Common.{◌≡◌, ◌≢◌, ℕ, List, [], ◌∷◌, Bool, true, false, not, ◌||◌, ◌&&◌, cond, eqb, inl, inr, refl, sym, ap, ◌∙◌, subst, arith}
+use Rattle.std.proofs.Common.{◌≡◌, ◌≢◌, ℕ, List, ◌∷◌, Bool, true, false, not, ◌||◌, ◌&&◌, cond, eqb, inl, inr, refl, sym, ap, ◌∙◌, subst, arith}
 use Rattle.std.proofs.lemmas.Bool.Decides.{nat_tests}
 use Rattle.scan_values.specs.Selections.{is_among}
 use Rattle.scan_segments.specs.Source.{Store}
@@ -8,7 +8,7 @@ use Rattle.scan_splits.specs.Arrivals.{Arrivals}
 use Rattle.scan_splits.specs.Wanted.{no_repeats}
 use Rattle.scan_splits.specs.declared.inbox.Arrival.{Arrival}
 use Rattle.scan_splits.specs.declared.inbox.Arrival.TheVariants as arrival
-use Rattle.scan_drive.specs.Asks.{WantsOne, WaitsThere}
+use Rattle.scan_drive.specs.Asks.{WantsOne}
 use Rattle.scan_drive.specs.Desks.{Waiters, waits}
 use Rattle.scan_drive.specs.Files.{Part}
 use Rattle.scan_drive.specs.Measures.{Advances}
@@ -65,9 +65,6 @@ module _ {W R : Type 0} where
     once = o;
     others = λ id q ne. refl;
   }
-
-  pub wanting_done : (rest : List ℕ) (place : ℕ) (s : Slot W R) (d e : Waiters) → rest ≡ [] → Wanting rest place s d e → WaitsThere place s d e
-  wanting_done rest place s d e is w = record { here = λ id. w.here id (ap (λ (xs : List ℕ). is_among xs id) is); others = w.others }
 
   pub wanting_next : (key : SegmentKey) (rest : List ℕ) (place : ℕ) (c : Cache) (s t : Slot W R) (d e f : Waiters) → Wanting (key.segment ∷ rest) place s d e → WantsOne key place c s t e f → Wanting rest place t d f
   wanting_next key rest place c s t d e f w h = go h

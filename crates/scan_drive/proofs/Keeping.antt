@@ -85,10 +85,6 @@ module _ {W I R : Type 0} (split : W → SplitState I) (comes : W → Arrivals �
         ok = λ o. let k = h (subst (StageOk split comes items p store) e o) in subst (StageOk split comes items p store) (sym now) k.1;
       }
 
-  -- a slot whose split was polled, and waits
-  pub keeps_polled : (s t : Slot W R) (r next : RunData W) → s.stage ≡ stage.Reads r → t ≡ record s { stage = stage.Reads next } → SameSplit split comes r.inbox next.work r.work → next.inbox ≡ r.inbox → SlotKeeps split comes items p store s t
-  keeps_polled s t r next e f m i = keeps_stage s t (stage.Reads r) (stage.Reads next) e f (λ h. (m.rows store h.agrees, run_polled r next m i h))
-
   -- one that is given up after a poll
   pub keeps_halted : (s t u : Slot W R) (r next : RunData W) (h : Halt) → s.stage ≡ stage.Reads r → u ≡ given_up h t → t ≡ record s { stage = stage.Reads next } → SameSplit split comes r.inbox next.work r.work → next.inbox ≡ r.inbox →
       (RunOk split comes p store r → HaltAt p store h) →

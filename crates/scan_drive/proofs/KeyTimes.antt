@@ -1,6 +1,5 @@
 -- How often a key stands in lists of keys and of events, and puts after lookups.
-use Rattle.std.proofs.Common.{◌≡◌, ℕ, ◌+◌, List, [], ◌∷◌, ◌++◌, Bool, true, false, ◌&&◌, ◌||◌, not, cond, nat_eq, map, refl, ap, ◌∙◌, arith}
-use Rattle.std.proofs.lemmas.List.{map-append}
+use Rattle.std.proofs.Common.{◌≡◌, ℕ, ◌+◌, List, [], ◌∷◌, ◌++◌, Bool, true, false, ◌&&◌, ◌||◌, not, cond, nat_eq, refl, ap, ◌∙◌, arith}
 use Rattle.std.specs.Cmp.Lexicographic.{pointwise}
 use Rattle.std.proofs.lemmas.Bool.Decides.{nat_tests}
 use Rattle.scan_segments.specs.Keys.{same_key}
@@ -8,7 +7,6 @@ use Rattle.scan_segments.specs.Events.{missed_keys, found_keys, offered_keys, ti
 use Rattle.scan_segments.specs.declared.cache.CacheEvent.{CacheEvent}
 use Rattle.scan_segments.specs.declared.cache.CacheEvent.TheVariants.{Missed, Found, Offered}
 use Rattle.scan_segments.specs.declared.segment.SegmentKey.{SegmentKey}
-use Rattle.scan_drive.specs.Traffic.{key_of}
 use Rattle.scan_drive.specs.Ledger.{open_after}
 
 abbrev pub Events : Type 0
@@ -24,9 +22,6 @@ times_cons k x xs = go (same_key k x) refl where
 pub times_append : (k : SegmentKey) (xs ys : List SegmentKey) → times k (xs ++ ys) ≡ times k xs + times k ys
 times_append k [] ys = omega arith
 times_append k (x ∷ xs) ys = let ih = times_append k xs ys in omega (arith, times_cons k x (xs ++ ys), times_cons k x xs)
-
-pub times_ids : (k : SegmentKey) (name xs ys : List ℕ) → times k (map (key_of name) (xs ++ ys)) ≡ times k (map (key_of name) xs) + times k (map (key_of name) ys)
-times_ids k name xs ys = ap (times k) (map-append (key_of name) xs ys) ∙ times_append k (map (key_of name) xs) (map (key_of name) ys)
 
 -- ---- keys that are the same
 pub names_same : (a b : List ℕ) → pointwise nat_eq a b ≡ true → a ≡ b

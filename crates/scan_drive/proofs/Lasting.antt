@@ -10,7 +10,7 @@ use Rattle.scan_drive.specs.Chunks.{given}
 use Rattle.scan_drive.specs.Desks.{Waiters, waits}
 use Rattle.scan_drive.specs.Drives.{desk_at, EachLinked, SourcesMove, BringsFileNearer}
 use Rattle.scan_drive.specs.Files.{answer, Told}
-use Rattle.scan_drive.specs.Measures.{is_there, slots_steps, phases_steps, IsNearer, Advances, EachAdvances}
+use Rattle.scan_drive.specs.Measures.{slots_steps, phases_steps, IsNearer, EachAdvances}
 use Rattle.scan_drive.specs.Moves.{EachMoves, AllWait, HoldsWhy, KeepsRest}
 use Rattle.scan_drive.specs.Openers.{OpenerState}
 use Rattle.scan_drive.specs.Phases.{phase_at, IsShut, SpentBelow, PhasesOk, rest}
@@ -40,9 +40,6 @@ on_both (Ok x) f a b = f a b
 on_both (Err e) f a b = tt
 
 module _ {O S I : Type 0} (state : O → OpenerState I) (source : S → SourceState) where
-  turns_one : ScanFile O S → ℕ
-  turns_one f = (state f.opener).turns + (source f.source).turns
-
   pub turns_le : (a b : List (ScanFile O S)) → length b ≡ length a → ((k : ℕ) (f : ScanFile O S) → (state (get_or b k f).opener).turns ≤ (state (get_or a k f).opener).turns)
       → ((k : ℕ) (f : ScanFile O S) → (source (get_or b k f).source).turns ≤ (source (get_or a k f).source).turns) → files_turns state source b ≤ files_turns state source a
   turns_le [] [] n o s = omega arith

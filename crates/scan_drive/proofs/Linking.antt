@@ -14,7 +14,7 @@ use Rattle.scan_drive.specs.Files.{Part}
 use Rattle.scan_drive.specs.Links.{Linked, OfFile, StaysLinked, KeepsTold}
 use Rattle.scan_drive.specs.Looks.{FoundWaits, is_ended}
 use Rattle.scan_drive.specs.Runs.{RunData, run_waits, is_ready, is_nil, with_arrival}
-use Rattle.scan_drive.specs.Slots.{slot_at, stage_waits, is_fresh, is_reading, is_halted, stage_handed, stage_given_up, handed, given_up, at_each, HasNews, MayTake, AllTake, SlotKeeps, StageOk, wanted_in}
+use Rattle.scan_drive.specs.Slots.{slot_at, stage_waits, is_fresh, is_halted, stage_handed, stage_given_up, handed, given_up, at_each, HasNews, MayTake, AllTake, SlotKeeps, StageOk, wanted_in}
 use Rattle.scan_drive.specs.Splits.{SplitState, Event, wants, lacks}
 use Rattle.scan_drive.specs.declared.slot.Halt.{Halt}
 use Rattle.scan_drive.specs.declared.slot.Slot.{Slot}
@@ -68,12 +68,6 @@ module _ {W R : Type 0} where
   fresh_takes (stage.Reads r) id f t = let bad = sym f ∙ waits_not_ready r id (t refl) in absurd cc
   fresh_takes (stage.Read rows) id f t = absurd cc
   fresh_takes (stage.Halted r h) id f t = absurd cc
-
-  still_waits : (x : Stage W R) (id : ℕ) → is_reading x ≡ false → stage_waits x id ≡ false
-  still_waits stage.Empty id n = refl
-  still_waits (stage.Reads r) id n = absurd cc
-  still_waits (stage.Read rows) id n = refl
-  still_waits (stage.Halted r h) id n = refl
 
   -- the splits that wait for a live id take what comes of it
   pub take_all : (file id : ℕ) (places : List ℕ) (d : Waiters) (slots : List (Slot W R)) → Linked file d slots → waiters_at d id ≡ Some places → AllTake id places slots
@@ -248,21 +242,6 @@ module _ {W R : Type 0} where
   pub linked_then : (d e f : Waiters) (a b c : List (Slot W R)) → StaysLinked d e a b → StaysLinked e f b c → StaysLinked d f a c
   linked_then d e f a b c g h file l = let x = g file l in let y = h file x.0 in (y.0, of_then file a b c x.1 y.1)
 
-  pub of_set : (slots : List (Slot W R)) (place : ℕ) (s : Slot W R) → place < length slots → s.file ≡ (slot_at slots place).file → ((slot_at slots place).stage ≡ stage.Empty → s.stage ≡ stage.Empty) → OfFile (slot_at slots place).file slots (set slots place s)
-  of_set slots place s lt f g = record { len = length-set slots place s; files = λ q. files q (cases_eq q place); others = λ q n. others q n (cases_eq q place); empty = λ q e. empty q e (cases_eq q place) }
-    where
-      empty : (q : ℕ) → (slot_at slots q).stage ≡ stage.Empty → (q ≡ place) ⊎ (q ≢ place) → (slot_at (set slots place s) q).stage ≡ stage.Empty
-      empty q e (inl is) = ap (λ k. (slot_at (set slots place s) k).stage) is ∙ ap (λ (x : Slot W R). x.stage) (at_set_same slots place s lt) ∙ g (sym (ap (λ k. (slot_at slots k).stage) is) ∙ e)
-      empty q e (inr n) = ap (λ (x : Slot W R). x.stage) (at_set_other slots place q s n) ∙ e
-
-      files : (q : ℕ) → (q ≡ place) ⊎ (q ≢ place) → (slot_at (set slots place s) q).file ≡ (slot_at slots q).file
-      files q (inl is) = ap (λ k. (slot_at (set slots place s) k).file) is ∙ ap (λ (x : Slot W R). x.file) (at_set_same slots place s lt) ∙ f ∙ sym (ap (λ k. (slot_at slots k).file) is)
-      files q (inr n) = ap (λ (x : Slot W R). x.file) (at_set_other slots place q s n)
-
-      others : (q : ℕ) → (slot_at slots q).file ≢ (slot_at slots place).file → (q ≡ place) ⊎ (q ≢ place) → slot_at (set slots place s) q ≡ slot_at slots q
-      others q n (inl is) = absurd (n (ap (λ k. (slot_at slots k).file) is))
-      others q n (inr other) = at_set_other slots place q s other
-
   -- nobody waits at a place whose split waits for nothing
   pub new_place : (file place : ℕ) (d : Waiters) (slots : List (Slot W R)) → Linked file d slots → is_fresh (slot_at slots place).stage ≡ true → (id : ℕ) → waits d id place ≡ false
   new_place file place d slots l f id = go (waits d id place) refl
@@ -313,9 +292,6 @@ module _ {W I R : Type 0} (split : W → SplitState I) (comes : W → Arrivals �
 
   pub keeps_file : (old new : Slot W R) → ((p : Part I) (store : Store) → SlotKeeps split comes items p store old new) → new.file ≡ old.file
   keeps_file old new k = (k nowhere (λ id. None)).file_is
-
-pub fresh_some : {W R : Type 0} (x y : Stage W R) → is_fresh x ≡ true → x ≡ stage.Empty → y ≡ stage.Empty
-fresh_some x y f e = let bad = sym (ap is_fresh e) ∙ f in absurd cc
 
 pub done_settled : {W R : Type 0} (x : Stage W R) → is_ended x ≡ true → is_fresh x ≡ false
 done_settled stage.Empty r = absurd cc

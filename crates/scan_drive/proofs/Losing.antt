@@ -5,12 +5,11 @@ use Rattle.std.proofs.lemmas.Bool.Decides.{nat_tests}
 use Rattle.scan_values.specs.Selections.{is_among}
 use Rattle.scan_segments.specs.Source.{SourceState}
 use Rattle.scan_splits.specs.Wanted.{no_repeats, is_any}
-use Rattle.scan_splits.specs.declared.inbox.Arrival.{Arrival}
 use Rattle.scan_drive.specs.Ledger.{fails, KeepsBalance, KeepsReply, FilesKeepBalance}
 use Rattle.scan_drive.specs.Losses.{HasHalted, HaltsStay, KeepsCounts, FilesKeepCounts}
 use Rattle.scan_drive.specs.Measures.{stage_steps, IsNearer, EachAdvances}
 use Rattle.scan_drive.specs.Splits.{SplitState}
-use Rattle.scan_drive.specs.Slots.{slot_at, is_halted, stage_waits, handed, given_up, at_each, MayTake, AllTake}
+use Rattle.scan_drive.specs.Slots.{slot_at, is_halted, stage_waits, given_up, at_each, MayTake, AllTake}
 use Rattle.scan_drive.specs.Wants.{Cache}
 use Rattle.scan_drive.specs.declared.desk.Reply.{Reply}
 use Rattle.scan_drive.specs.declared.files.ScanFile.{ScanFile}
@@ -19,7 +18,7 @@ use Rattle.scan_drive.specs.declared.slot.Slot.{Slot}
 use Rattle.scan_drive.specs.declared.slot.Stage.{Stage}
 use Rattle.scan_drive.specs.declared.slot.Stage.TheVariants as stage
 use Rattle.scan_drive.proofs.Balancing.{balance_self, balance_then}
-use Rattle.scan_drive.proofs.Filing.{files_balance, files_balance_self, files_balance_then}
+use Rattle.scan_drive.proofs.Filing.{files_balance, files_balance_then}
 use Rattle.scan_drive.proofs.Linking.{each_at}
 
 pub or_both : (a b lost : Bool) → (a || (b || lost)) ≡ ((a || b) || lost)
@@ -37,24 +36,6 @@ module _ {W R : Type 0} where
   pub still_halted : (old new : List (Slot W R)) → HaltsStay old new → HasHalted old → HasHalted new
   still_halted old new p h = record { place = h.place; halted = p h.place h.halted }
 
-  halted_handed : (id : ℕ) (a : Arrival) (s : Slot W R) → is_halted s.stage ≡ true → is_halted (handed id a s).stage ≡ true
-  halted_handed id a s h = go s.stage refl h
-    where
-      go : (x : Stage W R) → s.stage ≡ x → is_halted x ≡ true → is_halted (handed id a s).stage ≡ true
-      go stage.Empty e h = absurd cc
-      go (stage.Reads r) e h = absurd cc
-      go (stage.Read rows) e h = absurd cc
-      go (stage.Halted r g) e h = rw e refl
-
-  halted_given_up : (h : Halt) (s : Slot W R) → is_halted s.stage ≡ true → is_halted (given_up h s).stage ≡ true
-  halted_given_up h s on = go s.stage refl on
-    where
-      go : (x : Stage W R) → s.stage ≡ x → is_halted x ≡ true → is_halted (given_up h s).stage ≡ true
-      go stage.Empty e on = absurd cc
-      go (stage.Reads r) e on = absurd cc
-      go (stage.Read rows) e on = absurd cc
-      go (stage.Halted r g) e on = rw e refl
-
   -- a split that waits, or is given up, is given up
   taken_halted : (id : ℕ) (h : Halt) (s : Slot W R) → MayTake id s → is_halted (given_up h s).stage ≡ true
   taken_halted id h s m = go s.stage refl m
@@ -64,19 +45,6 @@ module _ {W R : Type 0} where
       go (stage.Reads r) e m = rw e refl
       go (stage.Read rows) e m = let bad : false ≡ true = sym (ap (λ y. stage_waits y id) e) ∙ m (ap is_halted e) in absurd cc
       go (stage.Halted r g) e m = rw e refl
-
-  halts_each : (id : ℕ) (f : Slot W R → Slot W R) (places : List ℕ) (slots : List (Slot W R)) → ((s : Slot W R) → is_halted s.stage ≡ true → is_halted (f s).stage ≡ true) → AllTake id places slots → no_repeats places ≡ true → HaltsStay slots (at_each f places slots)
-  halts_each id f places slots keeps take once place h = subst (λ (s : Slot W R). is_halted s.stage ≡ true) (sym (each_at id f places slots place take once)) (go (is_among places place))
-    where
-      go : (b : Bool) → is_halted (cond b (f (slot_at slots place)) (slot_at slots place)).stage ≡ true
-      go true = keeps (slot_at slots place) h
-      go false = h
-
-  pub halts_handed : (id : ℕ) (a : Arrival) (places : List ℕ) (slots : List (Slot W R)) → AllTake id places slots → no_repeats places ≡ true → HaltsStay slots (at_each (handed id a) places slots)
-  halts_handed id a places slots take once = halts_each id (handed id a) places slots (halted_handed id a) take once
-
-  pub halts_lost : (id : ℕ) (h : Halt) (places : List ℕ) (slots : List (Slot W R)) → AllTake id places slots → no_repeats places ≡ true → HaltsStay slots (at_each (given_up h) places slots)
-  halts_lost id h places slots take once = halts_each id (given_up h) places slots (halted_given_up h) take once
 
   -- those that waited for what failed are given up
   pub has_lost : (id : ℕ) (h : Halt) (places : List ℕ) (slots : List (Slot W R)) → AllTake id places slots → no_repeats places ≡ true → is_any places ≡ true → HasHalted (at_each (given_up h) places slots)
@@ -111,9 +79,6 @@ module _ {W R : Type 0} (name : List ℕ) where
       go false e h = still_halted mid new stay (p.halted h)
 
 module _ {O S W R : Type 0} (source : S → SourceState) where
-  pub files_counts_self : (files : List (ScanFile O S)) (c : Cache) (slots : List (Slot W R)) → FilesKeepCounts source files files c c slots
-  files_counts_self files c slots = record { failed = false; keeps = λ report lost. files_balance_self source files c report lost; halted = λ h. absurd cc }
-
   -- one file's step
   pub files_counts : (now : List (ScanFile O S)) (k : ℕ) (x y : ScanFile O S) (c d : Cache) (slots : List (Slot W R)) → k < length now → x ≡ get_or now k x → y.source_id ≡ x.source_id → KeepsCounts x.source_id (source x.source) (source y.source) c d slots
       → FilesKeepCounts source now (set now k y) c d slots

@@ -9,7 +9,6 @@ use Rattle.scan_drive.specs.Openers.{AreSplits, PhaseKeeps}
 use Rattle.scan_drive.specs.Runs.{new_run}
 use Rattle.scan_drive.specs.Slots.{RunOk}
 use Rattle.scan_drive.specs.Splits.{SplitState, Event}
-use Rattle.scan_drive.specs.declared.phase.Phase.{Phase}
 use Rattle.scan_drive.specs.declared.phase.Phase.TheVariants as phase
 use Rattle.std.specs.declared.collections.VecDeque.{VecDeque}
 use Rattle.std.proofs.Common.{Global}
@@ -39,6 +38,3 @@ module _ {W I : Type 0} (split : W → SplitState I) (comes : W → Arrivals →
     ok = λ t e old. (let k : IfSome t.part (λ p. AreSplits split comes p rows ws.items) = subst (λ (o : Option (Part I)). IfSome o (λ p. AreSplits split comes p rows ws.items)) (sym e) h in
         (split_ok rows t.part t.store ws.items k, count_ok rows t.part ws.items k));
   }
-
-  pub phase_same : {F : Type 0} (gives : Option (Part I)) (p : Phase W F) → PhaseKeeps {F = F} split comes gives p p
-  phase_same gives p = record { left = λ place t e tells. refl; ok = λ t e old. old }

@@ -6,10 +6,9 @@ use Rattle.std.proofs.Math.Seq.{drop-append_seam}
 use Rattle.std.proofs.lemmas.List.{length-map}
 use Rattle.std.proofs.lemmas.List.Elements.{All-head, All-tail}
 use Rattle.scan_values.specs.Selections.{is_among}
-use Rattle.scan_segments.proofs.Agrees.{contains}
+use Rattle.scan_segments.proofs.LiveSets.{contains}
 use Rattle.scan_segments.specs.Events.{times, missed_keys, found_keys, offered_keys}
-use Rattle.scan_segments.specs.Sharing.{has}
-use Rattle.scan_segments.specs.Source.{SourceState, none_live}
+use Rattle.scan_segments.specs.Source.{has, SourceState, none_live}
 use Rattle.scan_segments.specs.declared.segment.SegmentKey.{SegmentKey}
 use Rattle.scan_drive.specs.Ledger.{count_held, asks, ask_count, held_asked, held_open, total, Each, IsKept, Lacks, IsAlone, IsFedIn, Feeds, Ledger, Balance, books_of}
 use Rattle.scan_drive.specs.Traffic.{key_of, asked_since, ended_since, capped_report, IsReport, asked_keys, held_of, held_asks, named_so, LooksUpFirst, PutsWhatItAsked, IsFedBy, CacheMoves}

@@ -1,6 +1,6 @@
 -- Steps of a round over all files: the desks agree with the sources, and the links stay.
-use Rattle.std.proofs.Common.{◌≡◌, ◌≢◌, ℕ, suc, zero, ◌+◌, ◌<◌, List, [], ◌∷◌, ◌++◌, length, get_or, set, Bool, true, false, ◌||◌, eqb, inl, inr, refl, sym, ap, ◌∙◌, subst, arith, length-set, get_or-set_same, get_or-set_other}
-use Rattle.std.specs.Prelude.{◌⊎◌, All, is_some}
+use Rattle.std.proofs.Common.{◌≡◌, ◌≢◌, ℕ, ◌+◌, ◌<◌, List, [], ◌∷◌, length, get_or, set, Bool, true, false, ◌||◌, eqb, inl, inr, refl, sym, ap, ◌∙◌, subst, arith, length-set, get_or-set_same, get_or-set_other}
+use Rattle.std.specs.Prelude.{◌⊎◌, is_some}
 use Rattle.std.proofs.lemmas.Bool.{cases_eq}
 use Rattle.std.proofs.lemmas.Bool.Decides.{nat_tests}
 use Rattle.std.proofs.lemmas.List.{get_or_default}
@@ -19,24 +19,11 @@ use Rattle.scan_drive.proofs.Asking.{moves_self, moves_then}
 use Rattle.scan_drive.proofs.Keeping.{keeps_refl, keeps_then}
 use Rattle.scan_drive.proofs.Linking.{linked_other}
 
--- a desk more, without requests
-pub desk_push : (desks : List Waiters) → ((k : ℕ) → desk_at desks k ≡ []) → (k : ℕ) → desk_at (desks ++ [] ∷ []) k ≡ []
-desk_push [] h zero = refl
-desk_push [] h (suc k) = refl
-desk_push (d ∷ desks) h zero = h 0
-desk_push (d ∷ desks) h (suc k) = desk_push desks (λ j. h (suc j)) k
-
 -- no request and a desk without any
 pub none_agree : (live : ℕ → Bool) (d : Waiters) → live ≡ none_live → d ≡ [] → Agree live d
 none_agree live d e f id = ap (λ (l : ℕ → Bool). l id) e ∙ sym (ap (λ (w : Waiters). is_some (Rattle.scan_drive.specs.Desks.waiters_at w id)) f)
 
 module _ {O S : Type 0} (source : S → SourceState) where
-  pub desks_made : (files : List (ScanFile O S)) (desks : List Waiters) → length desks ≡ length files → ((k : ℕ) → desk_at desks k ≡ []) → All (IsIdle source) files → DesksAgree source files desks
-  desks_made files desks n none idle = record {
-    len = n;
-    at = λ k f lt id. ap (λ (live : ℕ → Bool). live id) (idle k f lt) ∙ sym (ap (λ (d : Waiters). is_some (Rattle.scan_drive.specs.Desks.waiters_at d id)) (none k));
-  }
-
   -- the source of a file agrees with its desk
   pub agree_at : (files : List (ScanFile O S)) (desks : List Waiters) (i : ℕ) (x : ScanFile O S) (d : Waiters) → DesksAgree source files desks → i < length files → x ≡ get_or files i x → d ≡ get_or desks i d → Agree (source x.source).live d
   agree_at files desks i x d a lt e f =
@@ -127,9 +114,6 @@ module _ {W R : Type 0} where
           sym (ap (λ b. b || is_among rest q) i) ∙ sym (ap (λ (xs : List ℕ). is_among xs q) e) ∙ there
 
 module _ {O S W I R : Type 0} (source : S → SourceState) (split : W → SplitState I) (comes : W → Arrivals → Store → Event → Type 0) (items : R → List I) where
-  pub slots_self : (files : List (ScanFile O S)) (slots : List (Slot W R)) → SlotsKeep source split comes items files slots slots
-  slots_self files slots f p store place e = keeps_refl split comes items p store (slot_at slots place)
-
   -- the slots of one file have moved
   pub slots_kept : (old now : List (ScanFile O S)) (before slots next : List (Slot W R)) (k : ℕ) (x : ScanFile O S) → SourcesMove source NoneOf old now → SlotsKeep source split comes items old before slots → k < length now → x ≡ get_or now k x →
       KeepsTold split comes items (source x.source).holds slots next → OfFile k slots next → SlotsKeep source split comes items old before next

@@ -1,7 +1,7 @@
 -- Lists of the same elements in another order, and groups that are the same, in their order or in any.
 use Rattle.std.proofs.Common.{◌≡◌, ℕ, zero, suc, ◌+◌, ◌-◌, ◌<◌, Bool, true, false, List, [], ◌∷◌, ◌++◌, filter, flat_map, length, take, get_or, set, swap, min, Option, Some, None, refl, sym, ap, ◌∙◌, subst, arith, append_assoc, IsPermutation}
 use Rattle.std.specs.Prelude.{cond}
-use Rattle.std.proofs.lemmas.List.Sorted.{IsPermutation-refl, IsPermutation-sym, IsPermutation-cons, IsPermutation-keeps, IsPermutation-trans, IsPermutation-append, IsPermutation-append_left, IsPermutation-append_right, IsPermutation-append_comm}
+use Rattle.std.proofs.lemmas.List.Sorted.{IsPermutation-refl, IsPermutation-cons, IsPermutation-keeps, IsPermutation-trans, IsPermutation-append, IsPermutation-append_left, IsPermutation-append_right, IsPermutation-append_comm}
 use Rattle.scan_drive.specs.Files.{Group, grouped, count, cut, limited}
 use Rattle.scan_drive.specs.Grants.{AreSame, AreGiven, AreFronts, IsFront}
 
@@ -80,10 +80,6 @@ module _ {I : Type 0} where
   same_trans true xs ys zs h k = h ∙ k
   same_trans false xs ys zs h k = IsPermutation-trans xs ys zs h k
 
-  pub same_sym : (b : Bool) (xs ys : List (Group I)) → AreSame b xs ys → AreSame b ys xs
-  same_sym true xs ys h = sym h
-  same_sym false xs ys h = IsPermutation-sym xs ys h
-
   -- what is in order is so in any
   pub same_any : (b : Bool) (xs ys : List (Group I)) → AreSame b xs ys → IsPermutation xs ys
   same_any true xs ys h = subst (IsPermutation xs) h (IsPermutation-refl xs)
@@ -92,10 +88,6 @@ module _ {I : Type 0} where
   pub same_append : (b : Bool) (xs ys us vs : List (Group I)) → AreSame b xs ys → AreSame b us vs → AreSame b (xs ++ us) (ys ++ vs)
   same_append true xs ys us vs h k = λ i. h i ++ k i
   same_append false xs ys us vs h k = IsPermutation-append xs ys us vs h k
-
-  -- others before them, and behind them
-  pub same_before : (b : Bool) (us xs ys : List (Group I)) → AreSame b xs ys → AreSame b (us ++ xs) (us ++ ys)
-  same_before b us xs ys h = same_append b us us xs ys (same_refl b us) h
 
   pub same_behind : (b : Bool) (xs ys us : List (Group I)) → AreSame b xs ys → AreSame b (xs ++ us) (ys ++ us)
   same_behind b xs ys us h = same_append b xs ys us us h (same_refl b us)

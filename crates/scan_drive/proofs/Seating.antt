@@ -89,19 +89,6 @@ module _ {W R : Type 0} where
   pub becomes_set : (slots : List (Slot W R)) (place : ℕ) (s : Slot W R) → place < length slots → Becomes place s slots (set slots place s)
   becomes_set slots place s lt = record { at = at_set_same slots place s lt; others = λ q other. at_set_other slots place q s other }
 
-  at_end : (slots : List (Slot W R)) (s : Slot W R) → slot_at (slots ++ s ∷ []) (length slots) ≡ s
-  at_end [] s = refl
-  at_end (x ∷ slots) s = at_end slots s
-
-  not_end : (slots : List (Slot W R)) (s : Slot W R) (q : ℕ) → q ≢ length slots → slot_at (slots ++ s ∷ []) q ≡ slot_at slots q
-  not_end [] s zero other = absurd (other refl)
-  not_end [] s (suc q) other = refl
-  not_end (x ∷ slots) s zero other = refl
-  not_end (x ∷ slots) s (suc q) other = not_end slots s q (λ e. other (ap suc e))
-
-  pub becomes_push : (slots : List (Slot W R)) (s : Slot W R) → Becomes (length slots) s slots (slots ++ s ∷ [])
-  becomes_push slots s = record { at = at_end slots s; others = λ q other. not_end slots s q other }
-
   -- a place that is used, behind those of the others
   pub seated_room : (turns free free' : List ℕ) (place : ℕ) (s : Slot W R) (old new : List (Slot W R)) → AreSeats turns free old → Becomes place s old new → IsRoom place free free' old new → AreSeats (turns ++ place ∷ []) free' new × (is_among turns place ≡ false)
   seated_room turns free free' place s old new seats b room = go room

@@ -24,7 +24,7 @@ use Rattle.scan_drive.specs.declared.slot.Slot.{Slot}
 use Rattle.scan_drive.proofs.Asking.{moves_self, moves_asks}
 use Rattle.scan_drive.proofs.Caching.{both_trans, both_same}
 use Rattle.scan_drive.proofs.Failing.{open_more, open_before, at_more, at_before}
-use Rattle.scan_drive.proofs.Following.{follows_same, follows_self, follows_weaker, follows_handed, each_self, each_weaker, each_then, each_set}
+use Rattle.scan_drive.proofs.Following.{follows_same, follows_weaker, follows_handed, each_self, each_weaker, each_then, each_set}
 use Rattle.scan_drive.proofs.Handing.{among_head}
 use Rattle.scan_drive.proofs.Rounding.{sources_self, sources_moved}
 
@@ -100,9 +100,6 @@ module _ {O S : Type 0} (source : S → SourceState) where
   one_moves now k May x y lt e o s m = sources_moved source May now now k x y (sources_self source May now) lt e o s m
 
 module _ {O S W R : Type 0} (source : S → SourceState) where
-  pub served_self : (c : Cache) (files : List (ScanFile O S)) (slots : List (Slot W R)) → SlotsFollow source c files files slots slots
-  served_self c files slots = each_self (MayCome source c files files) (MayFail source files files) slots
-
   pub served_then : (c d : Cache) (May Can : ℕ → ℕ → Type 0) (a b e : List (ScanFile O S)) (x y z : List (Slot W R)) → OnlyLoses c d → SourcesMove source May a b → SourcesMove source Can b e → SlotsFollow source c a b x y → SlotsFollow source d b e y z → SlotsFollow source c a e x z
   served_then c d May Can a b e x y z l m n p q =
       each_then (MayCome source c a e) (MayFail source a e) x y z

@@ -4,7 +4,7 @@ use Rattle.std.specs.Prelude.{◌⊎◌, IsSome}
 use Rattle.scan_values.specs.Selections.{is_among}
 use Rattle.scan_segments.specs.Source.{SourceState, Store}
 use Rattle.scan_splits.specs.Arrivals.{Arrivals}
-use Rattle.scan_drive.specs.Actives.{AreSeats, EachOk, SlotOk, AllOk, groups_in, Keeps, groups_left}
+use Rattle.scan_drive.specs.Actives.{AreSeats, EachOk, SlotOk, groups_in, Keeps, groups_left}
 use Rattle.scan_drive.specs.Asks.{LinkedBut, EachLinkedBut}
 use Rattle.scan_drive.specs.Chunks.{given, IsMore, IsCut, IsDeliverFault}
 use Rattle.scan_drive.specs.Desks.{Waiters, waits}
@@ -29,7 +29,6 @@ use Rattle.scan_drive.specs.declared.slot.Slot.{Slot}
 use Rattle.scan_drive.specs.declared.slot.Stage.{Stage}
 use Rattle.scan_drive.specs.declared.slot.Stage.TheVariants as stage
 use Rattle.scan_drive.proofs.Asking.{moves_then, moves_weaker}
-use Rattle.scan_drive.proofs.Handing.{and_both}
 use Rattle.scan_drive.proofs.Keeping.{keeps_then}
 use Rattle.scan_drive.proofs.Linking.{may_ask, new_place}
 use Rattle.scan_drive.proofs.Nearing.{all_polled}
@@ -45,12 +44,6 @@ module _ {W R : Type 0} where
   off_empty (stage.Reads r) h = absurd cc
   off_empty (stage.Read rows) h = absurd cc
   off_empty (stage.Halted r k) h = absurd cc
-
-  fresh_there : (x : Stage W R) → is_fresh x ≡ true → is_there x ≡ true
-  fresh_there stage.Empty h = h
-  fresh_there (stage.Reads r) h = refl
-  fresh_there (stage.Read rows) h = refl
-  fresh_there (stage.Halted r k) h = refl
 
   -- a slot with a split is one of those whose turn comes
   pub there_among : (turns free : List ℕ) (slots : List (Slot W R)) (place : ℕ) → AreSeats turns free slots → is_there (slot_at slots place).stage ≡ true → is_among turns place ≡ true
@@ -321,9 +314,6 @@ module _ {W I R : Type 0} (split : W → SplitState I) (comes : W → Arrivals �
   -- splits that were polled are of the same files
   pub files_mid : (asking : List ℕ) (old mid : List (Slot W R)) (n : ℕ) → EachPolled split comes items asking old mid → FilesWithin n old → FilesWithin n mid
   files_mid asking old mid n p w = within_advances split n old mid (all_polled split comes items asking old mid p) w
-
-  pub ok_mid : (tale : List (Told I)) (old mid : Active W R) → Keeps split comes items tale old.turns.items old.slots.items mid.slots.items → mid.turns ≡ old.turns → AllOk split comes items tale old → AllOk split comes items tale mid
-  ok_mid tale old mid k t ok = subst (λ ts. EachOk split comes items tale ts.items mid.slots.items) (sym t) (k.ok ok)
 
   pub steps_mid : (asking : List ℕ) (old mid new : Active W R) → EachPolled split comes items asking old.slots.items mid.slots.items → mid.turns ≡ old.turns → GivesOn split mid new
       → (slots_steps split new.slots.items < slots_steps split old.slots.items) ⊎ ((slots_steps split new.slots.items ≤ slots_steps split old.slots.items) × (new.turns.items ≡ old.turns.items))

@@ -1,6 +1,6 @@
 -- A drive before its first round, and after its last.
-use Rattle.std.proofs.Common.{◌≡◌, ℕ, suc, zero, ◌+◌, ◌<◌, List, [], ◌∷◌, ◌++◌, length, map, take, drop, get_or, Bool, true, false, ◌||◌, Option, Some, None, inl, inr, refl, sym, ap, ◌∙◌, subst, arith}
-use Rattle.std.specs.Prelude.{All, IfSome, is_some}
+use Rattle.std.proofs.Common.{◌≡◌, ℕ, suc, ◌+◌, ◌<◌, List, [], ◌∷◌, ◌++◌, length, map, take, drop, get_or, Bool, true, false, ◌||◌, Option, Some, None, inl, inr, refl, sym, ap, ◌∙◌, subst, arith}
+use Rattle.std.specs.Prelude.{All, is_some}
 use Rattle.std.proofs.lemmas.List.{length-map}
 use Rattle.std.proofs.lemmas.List.Elements.{All-nil}
 use Rattle.scan_values.specs.Selections.{is_among}
@@ -15,7 +15,7 @@ use Rattle.scan_drive.specs.Drives.{desk_at, EachLinked, DesksAgree, IsIdle, Sou
 use Rattle.scan_drive.specs.Drivings.{PollsEnd}
 use Rattle.scan_drive.specs.Ends.{limit_in}
 use Rattle.scan_drive.specs.Files.{Told, told_at, answer, answer_from, part_groups, count}
-use Rattle.scan_drive.specs.Ledger.{Ledger, books_of, FilesKeepLedger, KeepsAllBalance}
+use Rattle.scan_drive.specs.Ledger.{Ledger, books_of, FilesKeepLedger}
 use Rattle.scan_drive.specs.Losses.{FilesBalance}
 use Rattle.scan_drive.specs.Measures.{is_there}
 use Rattle.scan_drive.specs.Moves.{tell, tells}
@@ -27,7 +27,7 @@ use Rattle.scan_drive.specs.Runnings.{Starts}
 use Rattle.scan_drive.specs.Slots.{slot_at, is_fresh, stage_waits}
 use Rattle.scan_drive.specs.Splits.{SplitState, Event}
 use Rattle.scan_drive.specs.Trades.{FilesTrade}
-use Rattle.scan_drive.specs.Traffic.{asked_since, ended_since, capped_report, IsReport, key_of, asked_keys, PutsWhatItAsked}
+use Rattle.scan_drive.specs.Traffic.{asked_since, ended_since, capped_report, IsReport, key_of, asked_keys}
 use Rattle.scan_drive.specs.Turns.{rows_of}
 use Rattle.scan_drive.specs.Wants.{Cache}
 use Rattle.scan_drive.specs.declared.files.ScanFile.{ScanFile}
@@ -40,20 +40,13 @@ use Rattle.scan_drive.specs.declared.slot.Stage.TheVariants as stage
 use Rattle.scan_drive.proofs.Balancing.{same_asked}
 use Rattle.scan_drive.proofs.Desking.{no_ids}
 use Rattle.scan_drive.proofs.Filing.{balance_starts}
-use Rattle.scan_drive.proofs.Halting.{round_balance, round_any}
+use Rattle.scan_drive.proofs.Halting.{round_any}
 use Rattle.scan_drive.proofs.Moving.{moves_none}
 use Rattle.scan_drive.proofs.Same.{same_is}
-use Rattle.scan_drive.proofs.Reckoning.{SameNames, ends_report, ends_puts}
+use Rattle.scan_drive.proofs.Reckoning.{SameNames, ends_report}
 use Rattle.scan_drive.proofs.Trading.{agrees_same}
 
 -- ---- before the first round
-module _ {W F : Type 0} where
-  -- a phase more that is not open
-  pub unopened_push : (ps : List (Phase W F)) → ((k : ℕ) → phase_at ps k ≡ phase.Unopened) → (k : ℕ) → phase_at (ps ++ phase.Unopened ∷ []) k ≡ phase.Unopened
-  unopened_push [] h zero = refl
-  unopened_push [] h (suc k) = refl
-  unopened_push (p ∷ ps) h zero = h 0
-  unopened_push (p ∷ ps) h (suc k) = unopened_push ps (λ j. h (suc j)) k
 
 -- nobody waits at the desk of a source without requests
 idle_waits : (live : ℕ → Bool) (d : Waiters) → Agree live d → live ≡ none_live → (id place : ℕ) → waits d id place ≡ true → ⊥
@@ -192,12 +185,6 @@ module _ {O S : Type 0} (source : S → SourceState) where
         let balance = from_zero a b c d old.report new.report k.slots zeros k.balance in
         subst (λ keys. IsReport (length keys) (ended_since c d) new.report) (sym (keys_same a b e n m.len (λ i f. same_asked (source (get_or b i f).source) (source (get_or e i f).source) (m.moves i f))))
         (ends_report source a b c d names new.report (balance.failed || false) (round_any source a b c d new.report k.slots idle balance))
-
-    pub driven_puts : SameNames source a e → DesksAgree source b desks → ((i : ℕ) → i < length desks → IsAwaited (desk_at desks i)) → (All (IsIdle source) b → KeepsAllBalance source b e) → All (IsIdle source) e → limit ≡ None → IfSome (ended_since c d) (PutsWhatItAsked source a e c d)
-    driven_puts named agree awaited closes rests none =
-        let served = k.served none in
-        let balance = round_balance source a b c d new.report k.slots idle served.halts (from_zero a b c d old.report new.report k.slots zeros k.balance) in
-        ends_puts source a e c d named new.report rests (closes (served_idle b desks k.slots agree served awaited) d new.report false a c n balance)
 
 -- ---- where nothing is done
 module _ {O S R I : Type 0} (state : O → OpenerState I) (source : S → SourceState) (items : R → List I) where

@@ -22,9 +22,6 @@ rose_then a b c h r = let x = r.least in omega (arith, h, x)
 rose_once : (a b c : ℕ) → a ≤ b → RaisedBy 1 b c → Rose a c
 rose_once a b c h r = let x = r.least in omega (arith, h, x)
 
-pub rose_more : (a b : ℕ) → a < b → Rose a b
-rose_more a b lt = omega (arith, lt)
-
 spent_open : {W F : Type 0} (p : Phase W F) → IsSpent p → is_unopened p ≡ 0
 spent_open phase.Unopened h = absurd h
 spent_open (phase.Queued ws rows) h = refl

@@ -3,7 +3,7 @@ use Rattle.std.proofs.Common.{◌≡◌, ◌≢◌, ℕ, ◌<◌, List, length, 
 use Rattle.std.specs.Prelude.{◌⊎◌, IsSome}
 use Rattle.std.proofs.lemmas.Bool.{cases_eq}
 use Rattle.std.proofs.lemmas.List.{get_or_default}
-use Rattle.scan_segments.specs.Cache.{Entries, Loses, Stores, Both}
+use Rattle.scan_segments.specs.Cache.{Entries, Stores, Both}
 use Rattle.scan_segments.specs.Cached.{Offers}
 use Rattle.scan_segments.specs.Source.{SourceState, Store, TellsBytes}
 use Rattle.scan_segments.specs.declared.segment.SegmentKey.{SegmentKey}
@@ -41,10 +41,6 @@ still_trusts name s t c d e l = record { trusts = λ n store h u. subst (Trusts 
 
 pub trades_then : (name : List ℕ) (r s t : SourceState) (c d e : Cache) → s.holds ≡ r.holds → Trades name r s c d → Trades name s t d e → Trades name r t c e
 trades_then name r s t c d e same p q = record { trusts = λ n store h u. q.trusts n store (λ is. same ∙ h is) (p.trusts n store h u); ledger = ledger_then name r s t c d e p.ledger q.ledger }
-
--- entries only went
-pub trades_lost : (name : List ℕ) (s t : SourceState) (c d : Cache) → Both c.entries d.entries Loses → KeepsLedger name s t c d → Trades name s t c d
-trades_lost name s t c d b l = record { trusts = λ n store h u. trusts_by n store Loses c d (λ x y lost v id bytes e. v id bytes (lost (key_of n id) bytes e)) b u; ledger = l }
 
 told : (o : Option Store) (store : Store) (id : ℕ) (b : List ℕ) → o ≡ Some store → IfSome o (λ s. s id ≡ Some b) → store id ≡ Some b
 told o store id b e t = subst (λ (q : Option Store). IfSome q (λ s. s id ≡ Some b)) e t

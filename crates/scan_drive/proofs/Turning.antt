@@ -159,9 +159,6 @@ module _ {W I F : Type 0} (split : W → SplitState I) where
   phases_one (x ∷ ps) (suc i) p d lt = let b = phases_one ps i p d (omega (arith, lt)) in omega (arith, b)
 
 module _ {W I R F : Type 0} (split : W → SplitState I) where
-  pub seats_none : (first : ℕ) (a : Active W R) (ps : List (Phase W F)) → SeatsOn split first first a a ps ps
-  seats_none first a ps = record { at = λ q. inl refl; filled = λ f. f; nears = inl (refl, refl, (refl, refl)); order = λ low h. h; shut = λ k. refl }
-
   -- a step after others
   less_then : (first i j : ℕ) (old mid new : Active W R) (ps qs rs : List (Phase W F)) → ((i ≡ first) × (qs ≡ ps) × SameTurns old mid) ⊎ (seats_steps split i mid qs < seats_steps split first old ps)
       → seats_steps split j new rs < seats_steps split i mid qs → seats_steps split j new rs < seats_steps split first old ps

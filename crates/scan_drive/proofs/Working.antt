@@ -109,15 +109,6 @@ module _ {W R : Type 0} where
   among_at (j ∷ jobs) (suc i) d lt = among_later j.place (get_or jobs i d).place (places_of jobs) (among_at jobs i d (omega arith))
 
   -- ---- splits are taken
-  pub jobs_none : (jobs : List (Job W R)) (slots : List (Slot W R)) → jobs ≡ [] → AreJobs jobs slots slots
-  jobs_none jobs slots e = rw e (record {
-    len = refl;
-    within = All-nil (IsWithin (length slots));
-    from = All-nil (λ (j : Job W R). j.slot ≡ slot_at slots j.place);
-    once = refl;
-    gone = λ place h. absurd cc;
-    others = λ place h. refl;
-  })
 
   -- a place of which the split waits for nothing has not been taken
   not_taken : (jobs : List (Job W R)) (start now : List (Slot W R)) (place : ℕ) → AreJobs jobs start now → is_fresh (slot_at now place).stage ≡ true → is_among (places_of jobs) place ≡ false
@@ -165,17 +156,6 @@ module _ {W R : Type 0} where
   news_next place jobs jobs' now next news rest e h (inr t) =
       news_popped now next place news rest e h (λ q n. ap (λ (ss : List (Slot W R)). slot_at ss q) t.3 ∙ at_set_other now place q nothing n)
       (ap (λ (ss : List (Slot W R)). is_fresh (slot_at ss place).stage) t.3 ∙ ap (λ (s : Slot W R). is_fresh s.stage) (at_set_same now place nothing t.0))
-
-  -- once no news is left all that had news are taken
-  pub jobs_all : (jobs : List (Job W R)) (start now : List (Slot W R)) (news : List ℕ) → AreJobs jobs start now → news ≡ [] → HasNews now news → HasNews start (places_of jobs)
-  jobs_all jobs start now news a e h place f = go (is_among (places_of jobs) place) refl
-    where
-      go : (b : Bool) → is_among (places_of jobs) place ≡ b → is_among (places_of jobs) place ≡ true
-      go true i = i
-      go false i =
-          let still : is_fresh (slot_at now place).stage ≡ true = ap (λ (s : Slot W R). is_fresh s.stage) (a.others place i) ∙ f in
-          let bad = sym (ap (λ (xs : List ℕ). is_among xs place) e) ∙ h place still in
-          absurd cc
 
 -- ---- splits are put back
 module _ {W I R : Type 0} (split : W → SplitState I) (comes : W → Arrivals → Store → Event → Type 0) (items : R → List I) where

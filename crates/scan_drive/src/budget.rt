@@ -1,5 +1,5 @@
 //! How many rows may be given in a scan without an order. Each worker claims those of the splits that it polls.
-ghost use Rattle.std.specs.Prelude.{◌≡◌, ◌+◌, IfOk, MatchOption, min};
+ghost use Rattle.std.specs.Prelude.{◌≡◌, ◌+◌, IfOk, MatchOption};
 ghost use Rattle.scan_limit.specs.Budget.{most};
 ghost use Rattle.scan_drive.specs.Budgets.{IsOpen};
 
@@ -72,14 +72,5 @@ impl Budget {
         // No more is granted than is claimed.
         let _granted = seat.granted();
         Some(Budget::of_parts(limit, seat))
-    }
-
-    /// Uses the budget up, and answers how many rows were claimed.
-    pub fn close(self) -> u64
-        ensures claimed { result ≡ self.claimed }
-        ensures granted { self.granted ≡ min self.limit self.claimed }
-    {
-        let (limit, seat) = self.into_parts();
-        limit.close(seat)
     }
 }

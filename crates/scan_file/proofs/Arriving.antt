@@ -8,8 +8,8 @@ use Rattle.scan_values.specs.DataType.{DataType, nullability_of}
 use Rattle.scan_values.specs.declared.ptype.Nullability.{Nullability}
 use Rattle.scan_values.specs.declared.ptype.Nullability.TheVariants.{NonNullable, Nullable}
 use Rattle.scan_segments.specs.Source.{Store}
-use Rattle.scan_layout.specs.Places.{Place, places_of}
-use Rattle.scan_layout.specs.Spelling.{decode}
+use Rattle.scan_spelling.specs.Places.{Place, places_of}
+use Rattle.scan_spelling.specs.Spelling.{decode}
 use Rattle.scan_layout.specs.RowValue.{item_of, leaf_value, offset_of, segment_value}
 use Rattle.scan_plans.specs.Came.{Came, arrived}
 use Rattle.scan_plans.specs.Futures.{FutureData, masks_in, rows_of, future_spoiled}

@@ -2,7 +2,7 @@
 use Rattle.std.proofs.Common.{◌≡◌, ℕ, Bool, true, false, ◌||◌, ◌&&◌, ◌==◌, List, [], ◌∷◌, Option, Some, None, is_none, refl, ap, ◌∙◌, sym}
 use Rattle.std.specs.Prelude.{if◌then◌else◌, is_some}
 use Rattle.std.proofs.lemmas.Bool.{eqb-true}
-use Rattle.scan_layout.specs.Places.{Place}
+use Rattle.scan_spelling.specs.Places.{Place}
 use Rattle.scan_plans.specs.Came.{Came, arrived, Extends}
 use Rattle.scan_plans.specs.Futures.{FutureData, SameFuture, masks_in, rows_of, future_spoiled, future_wanted}
 use Rattle.scan_plans.specs.MaskLists.{SameMasks, masks_spoiled, masks_wanted}

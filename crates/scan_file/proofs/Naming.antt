@@ -7,7 +7,7 @@ use Rattle.scan_segments.specs.Source.{Store}
 use Rattle.scan_expr.specs.Bound.{Bound, bound_of, exprs_of}
 use Rattle.scan_expr.specs.Expr.{Expr, conjuncts_of}
 use Rattle.scan_expr.specs.Needs.{needed, needed_by}
-use Rattle.scan_layout.specs.Places.{Place}
+use Rattle.scan_spelling.specs.Places.{Place}
 use Rattle.scan_readers.specs.Evaluations.{rows_true}
 use Rattle.scan_readers.specs.PlanOf.{may_spoil, may_want, needed_places}
 use Rattle.scan_readers.specs.Readers.{ReaderState, numbers_alone}

@@ -16,7 +16,7 @@ use Rattle.scan_splits.specs.Arrivals.{Arrivals, Agrees}
 use Rattle.scan_expr.specs.Needs.{needed_by}
 use Rattle.scan_layout.specs.Edges.{edges}
 use Rattle.scan_layout.specs.Layout.{Layout, rows_of}
-use Rattle.scan_layout.specs.Places.{Place}
+use Rattle.scan_spelling.specs.Places.{Place}
 use Rattle.scan_plans.specs.Came.{Came, Holds}
 use Rattle.scan_plans.specs.Futures.{future_overflow, future_spoiled, future_wanted}
 use Rattle.scan_plans.specs.Wants.{names_id}

@@ -1,5 +1,5 @@
 -- A poll of the opener of a file.
-use Rattle.std.proofs.Common.{◌≡◌, Bool, true, false, List, [], Option, None, Some, IfSome, refl, sym, ap, subst}
+use Rattle.std.proofs.Common.{◌≡◌, Bool, true, false, List, Option, None, Some, IfSome, sym, ap, subst}
 use Rattle.std.specs.Prelude.{option_map}
 use Rattle.scan_values.specs.Same.{same_type}
 use Rattle.scan_segments.specs.Source.{Store}
@@ -7,7 +7,7 @@ use Rattle.scan_splits.specs.Arrivals.{Arrivals}
 use Rattle.scan_layout.specs.Check.{first_fault}
 use Rattle.scan_layout.specs.Layout.{Layout, dtype_of, rows_of}
 use Rattle.scan_layout.specs.declared.fault.LayoutFault.{LayoutFault}
-use Rattle.scan_opener.specs.Opener.{Given, skip, layout_of}
+use Rattle.scan_opener.specs.Opener.{Given, layout_of}
 use Rattle.scan_opener.specs.Opener as opened
 use Rattle.scan_drive.specs.Files.{Item, Part}
 use Rattle.scan_drive.specs.Openers.{PolledOnce, PollsOpen, AreSplits}
@@ -18,7 +18,7 @@ use Rattle.scan_file.specs.FileAsks.{FileAsk, asked_dtype}
 use Rattle.scan_file.specs.FileSplits.{FutureComes, split_state}
 use Rattle.scan_file.specs.Opened.{IsOpened}
 use Rattle.scan_file.specs.Openings.{Admits, GivesFault, GivesSplits, Refuses, ends_past, file_state, layout_fault, part_of, part_unless, typed_fault}
-use Rattle.scan_file.specs.Parts.{layout_part, no_part}
+use Rattle.scan_file.specs.Parts.{layout_part}
 use Rattle.scan_file.specs.declared.fault.FileFault.{FileFault}
 use Rattle.scan_file.specs.declared.split.FileSplit.{FileSplit}
 use Rattle.scan_file.specs.declared.fault.FileFault.TheVariants as fault
@@ -31,11 +31,6 @@ polled_so a old new p = record { moves = record { gives = ap (option_map (part_o
 pub of_part : (a : FileAsk) (l : Layout) (o : Option Given) (P : Part Item → Type 0) → IfSome o (λ g. g ≡ layout_of l) → layout_fault a l ≡ None → P (layout_part a l) → IfSome (option_map (part_of a) o) P
 of_part a l None P h e k = tt
 of_part a l (Some g) P h e k = subst (λ (x : Given). P (part_of a x)) (sym h) (subst (λ f. P (part_unless a f (layout_part a l))) (sym e) k)
-
--- and where it gives none
-pub of_none : (a : FileAsk) (o : Option Given) (P : Part Item → Type 0) → IfSome o (λ g. g ≡ skip) → P no_part → IfSome (option_map (part_of a) o) P
-of_none a None P h k = tt
-of_none a (Some g) P h k = subst (λ (x : Given). P (part_of a x)) (sym h) k
 
 pub of_fault : (a : FileAsk) (l : Layout) (o : Option Given) (f : FileFault) → IfSome o (λ g. g ≡ layout_of l) → layout_fault a l ≡ Some f → IfSome o (GivesFault a f)
 of_fault a l None f h e = tt
@@ -58,11 +53,6 @@ refused_so a l old new fault.RowRangePast h e = of_fault a l old.gives fault.Row
 pub admits_so : (a : FileAsk) (l : Layout) (o : Option Given) (ws : List FileSplit) → IfSome o (λ g. g ≡ layout_of l) → layout_fault a l ≡ None → IfSome o (GivesSplits a ws)
 admits_so a l None ws h e = tt
 admits_so a l (Some g) ws h e = subst (λ (x : Given). GivesSplits a ws x) (sym h) e
-
--- and of one that is skipped
-pub admits_none : (a : FileAsk) (o : Option Given) → IfSome o (λ g. g ≡ skip) → IfSome o (GivesSplits a [])
-admits_none a None h = tt
-admits_none a (Some g) h = subst (λ (x : Given). GivesSplits a [] x) (sym h) refl
 
 -- what is made of the layout that it gives is what a poll answers
 module _ {O : Type 0} (opener : O → opened.OpenerState) (a : FileAsk) (l : Layout) (old new : O) (h : opened.PolledOnce (opener old) (opener new)) (g : IfSome (opener old).gives (λ x. x ≡ layout_of l)) where

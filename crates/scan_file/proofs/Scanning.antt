@@ -1,9 +1,6 @@
 -- The futures of a file, by the builder that makes them.
-use Rattle.std.proofs.Common.{◌≡◌, ℕ, Bool, true, false, List, [], ◌∷◌, ◌++◌, map, filter, Option, None, Some, refl, sym, ap, subst, ◌∙◌}
-use Rattle.std.specs.Prelude.{not, if◌then◌else◌}
-use Rattle.std.specs.List.{list_all}
+use Rattle.std.proofs.Common.{◌≡◌, ℕ, List, [], ◌∷◌, map, filter, Option, None, Some, refl, ap, subst, ◌∙◌}
 use Rattle.std.specs.declared.ops.Range.{Range}
-use Rattle.std.proofs.lemmas.List.{append-nil, map-append}
 use Rattle.scan_values.specs.DataType.{Name}
 use Rattle.scan_values.specs.Selections.{is_among, row_mask}
 use Rattle.scan_values.specs.declared.selection.Selection.{Selection}
@@ -26,26 +23,10 @@ use Rattle.scan_core.specs.SplitData.{SplitData}
 use Rattle.scan_core.specs.SplitMeaning.{IsScanOf, in_turn}
 use Rattle.scan_core.specs.SplitRanges.{common, span_of, split_ranges}
 use Rattle.scan_file.specs.FileAsks.{FileAsk}
-use Rattle.scan_file.specs.FileScans.{IsAskedOf, IsFileScan, arrays_of, futures_in, may_give}
+use Rattle.scan_file.specs.FileScans.{IsAskedOf, IsFileScan, arrays_of}
 use Rattle.scan_file.specs.Parts.{ask_range, ask_turn, file_ranges, file_rows, split_points}
-use Rattle.scan_file.specs.declared.split.FileSplit.{FileSplit}
 
 -- ---- the splits that may give a row
-pub put_in : (old new : List FileSplit) (w : FileSplit) (f : FutureData) → new ≡ old ++ w ∷ [] → w.future ≡ f → list_all not (f.mask).known ≡ false → futures_in new ≡ futures_in old ++ filter may_give (f ∷ [])
-put_in old new w f e same h =
-    ap futures_in e ∙ map-append (λ (x : FileSplit). x.future) old (w ∷ [])
-    ∙ ap (λ x. futures_in old ++ x ∷ []) same
-    ∙ ap (λ b. futures_in old ++ (if not b then f ∷ [] else [])) (sym h)
-
-pub left_out : (old : List FileSplit) (f : FutureData) → list_all not (f.mask).known ≡ true → futures_in old ≡ futures_in old ++ filter may_give (f ∷ [])
-left_out old f h = sym (append-nil (futures_in old)) ∙ ap (λ b. futures_in old ++ (if not b then f ∷ [] else [])) (sym h)
-
-pub filter_first : (f : FutureData) (fs : List FutureData) → filter may_give (f ∷ fs) ≡ filter may_give (f ∷ []) ++ filter may_give fs
-filter_first f fs = go (may_give f)
-  where
-    go : (b : Bool) → (if b then f ∷ filter may_give fs else filter may_give fs) ≡ (if b then f ∷ [] else []) ++ filter may_give fs
-    go true = refl
-    go false = refl
 
 -- ---- what a builder makes
 common_none : (o : Option (Range ℕ)) → common o None ≡ o

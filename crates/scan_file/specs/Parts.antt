@@ -12,7 +12,7 @@ use Rattle.scan_expr.specs.Needs.{needed_by}
 use Rattle.scan_expr.specs.Overflow.{overflows}
 use Rattle.scan_layout.specs.Edges.{edges}
 use Rattle.scan_layout.specs.Layout.{Layout, rows_of}
-use Rattle.scan_layout.specs.Places.{Place}
+use Rattle.scan_spelling.specs.Places.{Place}
 use Rattle.scan_layout.specs.RowValue.{row_value}
 use Rattle.scan_layout.specs.Touched.{touched}
 use Rattle.scan_plans.specs.Wants.{names_id}

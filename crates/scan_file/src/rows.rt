@@ -2,15 +2,16 @@
 ghost use Rattle.std.specs.Prelude.{◌≡◌, ◌==◌, IfOk, length, take};
 ghost use Rattle.scan_file.specs.FileRows.{AreEven, row_items, rows_data};
 
-use scan_values::{Array, NoMemory};
+use scan_columns::Column;
+use scan_values::NoMemory;
 use std::alloc::Global;
 use std::marker::Model;
 
-/// Rows by their numbers, with a value for each. Contracts see the numbers and the array.
+/// Rows by their numbers, with a column of their values. Contracts see the numbers and the values as an array.
 #[derive(Drop)]
 pub struct FileRows {
     numbers: Vec<u64>,
-    values: Array,
+    values: Column,
 }
 
 impl Model for FileRows {
@@ -27,7 +28,7 @@ impl Model for FileRows {
 
 impl FileRows {
     /// Rows of these numbers, with as many values.
-    pub fn new(numbers: Vec<u64>, values: Array) -> FileRows
+    pub fn new(numbers: Vec<u64>, values: Column) -> FileRows
         requires { AreEven (rows_data numbers.items values) }
         ensures { result ≡ rows_data numbers.items values }
     {
@@ -43,7 +44,7 @@ impl FileRows {
     }
 
     /// Their values.
-    pub fn values(&self) -> &Array
+    pub fn values(&self) -> &Column
         ensures values { result.now ≡ self.now.values }
         ensures even { AreEven self.now }
     {
@@ -51,7 +52,7 @@ impl FileRows {
     }
 
     /// The numbers and the values.
-    pub fn into_parts(self) -> (Vec<u64>, Array)
+    pub fn into_parts(self) -> (Vec<u64>, Column)
         ensures parts { rows_data result.0.items result.1 ≡ self }
         ensures even { length result.0.items ≡ length result.1.items }
     {

@@ -5,10 +5,11 @@ ghost use Rattle.scan_file.specs.FileSplits.{FutureComes, split_state};
 ghost use Rattle.scan_file.specs.FileRows.{row_items, rows_data};
 
 use crate::rows::FileRows;
+use scan_columns::Column;
 use scan_drive::SplitWork;
 use scan_plans::ArrayFuture;
 use scan_splits::{Inbox, Poll};
-use scan_values::{Array, NoMemory};
+use scan_values::NoMemory;
 use std::alloc::Global;
 
 /// The projection of a split of a file: it gives the values with the numbers of their rows.
@@ -27,7 +28,7 @@ impl FileSplit {
 }
 
 /// The values that a future gave, with the numbers of their rows.
-fn with_numbers(alloc: Global, future: &ArrayFuture, values: Array) -> Result<FileRows, NoMemory>
+fn with_numbers(alloc: Global, future: &ArrayFuture, values: Column) -> Result<FileRows, NoMemory>
     requires { length values.items ≡ length (known_rows future.now) }
     ensures { IfOk result (λ r. r ≡ rows_data (known_rows future.now) values) }
 {
@@ -45,7 +46,7 @@ impl SplitWork for FileSplit {
     ghost comes = { λ s here store e. FutureComes s.future here store e };
 
     fn poll(&mut self, alloc: Global, inbox: &Inbox) -> Poll<FileRows> {
-        match self.future.poll(alloc, inbox) {
+        match self.future.poll_column(alloc, inbox) {
             Poll::Ready(values) => match with_numbers(alloc, &self.future, values) {
                 Ok(rows) => Poll::Ready(rows),
                 Err(_) => Poll::NoMemory,

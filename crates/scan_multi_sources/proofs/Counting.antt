@@ -13,9 +13,6 @@ added k (o ∷ os) = added (add_known k o) os
 same_known : (a b c d : ℕ) → a ≡ b → c ≡ d → known_data a c ≡ known_data b d
 same_known a b c d p q = rw (p, q) refl
 
-capped_sum : (a n s : ℕ) → capped (capped (a + n) + s) ≡ capped (a + (n + s))
-capped_sum a n s = grind arith
-
 added_is : (n k : ℕ) (os : List (Option ℕ)) → added (known_data (capped n) k) os ≡ known_data (capped (n + sum (known os))) (k + length (known os))
 added_is n k [] = same_known (capped n) (capped (n + 0)) k (k + 0) (ap capped (omega arith)) (omega arith)
 added_is n k (None ∷ os) = added_is n k os

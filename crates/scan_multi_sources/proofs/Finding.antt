@@ -62,11 +62,6 @@ map_get f [] k x h l = absurd (omega (arith, l))
 map_get f (y ∷ ys) zero x h l = ap (λ z. Some (f z)) (sym h)
 map_get f (y ∷ ys) (suc k) x h l = map_get f ys k x h (omega (arith, l))
 
-pub map_past : {A B : Type 0} (f : A → B) (xs : List A) (k : ℕ) → length xs ≤ k → slice_get (map f xs) k ≡ None
-map_past f [] k l = refl
-map_past f (y ∷ ys) zero l = absurd (omega (arith, l))
-map_past f (y ∷ ys) (suc k) l = map_past f ys k (omega (arith, l))
-
 pub map_remove : {A B : Type 0} (f : A → B) (xs : List A) (i : ℕ) → map f (remove xs i) ≡ remove (map f xs) i
 map_remove f [] zero = refl
 map_remove f [] (suc i) = refl

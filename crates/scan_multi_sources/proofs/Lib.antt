@@ -4,5 +4,4 @@ pub mod Going
 pub mod Moving
 pub mod Parting
 pub mod Standing
-pub mod Starting
 pub mod Stepping

@@ -42,11 +42,6 @@ module _ {O : Type 0} (opener : O → OpenerState) where
   }
 
   -- ---- one is asked
-  less : Option (ChildData O) → Option (ChildData O) → Type 0
-  less o p = turns_of opener p ≤ turns_of opener o
-
-  more : Option (ChildData O) → Option (ChildData O) → Type 0
-  more o p = faults_of opener o ≤ faults_of opener p
 
   asked_moves : (o : Option (ChildData O)) (cs ds : List (ChildData O)) (k : ℕ) (r : Opening) → slice_get cs k ≡ o → AsksFile opener o cs ds k r → Moves opener cs ds
   asked_moves None cs ds k r g h = subst (λ z. Moves opener cs z) (sym h.0) (stays cs)

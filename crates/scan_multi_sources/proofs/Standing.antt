@@ -1,5 +1,5 @@
 -- What holds of a scan of many files behind a step.
-use Rattle.std.proofs.Common.{◌≡◌, ◌<◌, ◌+◌, ℕ, Bool, true, false, ◌&&◌, List, [], ◌∷◌, ◌++◌, length, Option, Some, None, Ok, Err, ◌⊎◌, inl, inr, refl, ap, sym, subst, arith}
+use Rattle.std.proofs.Common.{◌≡◌, ◌<◌, ℕ, Bool, true, false, ◌&&◌, List, length, Option, Some, None, Ok, Err, ◌⊎◌, inl, inr, refl, ap, sym, subst, arith}
 use Rattle.std.proofs.lemmas.List.Edits.{length-remove}
 use Rattle.std.specs.List.{list_any, remove, slice_set}
 use Rattle.std.proofs.lemmas.List.{length-set}
@@ -12,13 +12,13 @@ use Rattle.scan_sources.specs.Splits.{rest_of}
 use Rattle.scan_multi_sources.specs.FileFaults.{file_fault, is_too_many, many_fault, rows_after}
 use Rattle.scan_multi_sources.specs.Files.{SlotData, StageData, is_failed, keeps_failure, slot_data}
 use Rattle.scan_multi_sources.specs.Files as file
-use Rattle.scan_multi_sources.specs.MultiScans.{IsMultiScan, KeepsInOrder, Makes, MakesPartition, MayKeep, MultiScan, begun, delivered_at, first_of, kept_at, left_out, refusal}
+use Rattle.scan_multi_sources.specs.MultiScans.{IsMultiScan, KeepsInOrder, Makes, MakesPartition, MayKeep, MultiScan, delivered_at, first_of, kept_at, left_out, refusal}
 use Rattle.scan_multi_sources.specs.Numbers.{is_given}
 use Rattle.scan_multi_sources.specs.Partitions.{PartitionData, part_size}
 use Rattle.scan_multi_sources.specs.Sources.{AsksSource, MultiData}
 use Rattle.scan_multi_sources.specs.declared.fault.MultiFault.{MultiFault}
 use Rattle.scan_multi_sources.specs.declared.fault.MultiFault.TheVariants as fault
-use Rattle.scan_multi_sources.proofs.Finding.{any_append, any_remove, any_set}
+use Rattle.scan_multi_sources.proofs.Finding.{any_remove, any_set}
 use Rattle.scan_multi_sources.proofs.Parting.{part_rest}
 
 not_true : (b : Bool) → (b ≡ true → ⊥) → b ≡ false
@@ -46,18 +46,6 @@ set_order false ws i k st may h = λ n. not_true (list_any (keeps_failure n) (sl
     go : (n : ℕ) → (keeps_failure n (slot_data k st) ≡ true) ⊎ (list_any (keeps_failure n) ws ≡ true) → ⊥
     go n (inl a) = let no = may (is_failed_slot n k st a) in cc
     go n (inr a) = let no = h n in cc
-
-begun_order : (b : Bool) (ws : List SlotData) (k : ℕ) → KeepsInOrder b ws → KeepsInOrder b (ws ++ slot_data k file.opening ∷ [])
-begun_order true ws k h = tt
-begun_order false ws k h = λ n. not_true (list_any (keeps_failure n) (ws ++ slot_data k file.opening ∷ [])) (λ e. go n (any_append (keeps_failure n) ws (slot_data k file.opening) e))
-  where
-    go : (n : ℕ) → (keeps_failure n (slot_data k file.opening) ≡ true) ⊎ (list_any (keeps_failure n) ws ≡ true) → ⊥
-    go n (inl a) = cc
-    go n (inr a) = let no = h n in cc
-
-pub one_longer : (ws : List SlotData) (s : SlotData) → length (ws ++ s ∷ []) ≡ length ws + 1
-one_longer [] s = refl
-one_longer (w ∷ ws) s = let e = one_longer ws s in omega (arith, e)
 
 module _ {O : Type 0} (s : MultiScan O) (is : IsMultiScan s) where
   pub kept_stands : (i k : ℕ) (st : StageData) → MayKeep s st → IsMultiScan (kept_at s i k st)
@@ -88,16 +76,6 @@ module _ {O : Type 0} (s : MultiScan O) (is : IsMultiScan s) where
     room = is.room;
     failures = removed_order s.request.ordered s.window i is.failures;
     count = let n = length-remove s.window i l in let c = is.count in omega (arith, n, c);
-  }
-
-  pub begun_stands : (k : ℕ) (ks : List ℕ) → s.waiting ≡ k ∷ ks → IsMultiScan (begun s k ks)
-  begun_stands k ks w = record {
-    some = is.some;
-    over = is.over;
-    forward = is.forward;
-    room = is.room;
-    failures = begun_order s.request.ordered s.window k is.failures;
-    count = let n = one_longer s.window (slot_data k file.opening) in let c = is.count in let m = ap (λ (z : List ℕ). length z) w in let p : length (k ∷ ks) ≡ length ks + 1 = omega arith in omega (arith, n, c, m, p);
   }
 
   pub counted_stands : (l : Layout) (seat : Option SeatState) (given : ℕ) → is_past s.request.row_range (rows_of l) ≡ false → is_too_many s.seat s.given_rows (rows_of l) ≡ false

@@ -1,6 +1,6 @@
 -- What comes of a file that is looked at, as a step of a poll.
-use Rattle.std.proofs.Common.{◌≡◌, ◌≢◌, ◌≤◌, ◌<◌, ◌+◌, ◌==◌, ◌||◌, not, ℕ, zero, suc, Bool, true, false, List}
-use Rattle.std.proofs.Common.{[], ◌∷◌, length, Option, Some, None, Result, Ok, Err, inl, inr, refl, ap, sym, subst, ◌∙◌, arith}
+use Rattle.std.proofs.Common.{◌≡◌, ◌≢◌, ◌≤◌, ◌<◌, ◌+◌, ◌==◌, ◌||◌, not, ℕ, zero, suc, Bool, true, false}
+use Rattle.std.proofs.Common.{length, Option, Some, None, Result, Ok, Err, inl, inr, refl, ap, sym, subst, ◌∙◌, arith}
 use Rattle.std.proofs.lemmas.Bool.Decides.{nat_tests}
 use Rattle.std.proofs.lemmas.List.{length-set}
 use Rattle.std.proofs.lemmas.List.Edits.{length-remove}
@@ -11,13 +11,13 @@ use Rattle.scan_layout.specs.Layout.{Layout}
 use Rattle.scan_opener.specs.Opener.{OpenerState}
 use Rattle.scan_opener.specs.declared.opener.Opening.{Opening}
 use Rattle.scan_opener.specs.declared.opener.Opening.TheVariants as opening
-use Rattle.scan_multi_sources.specs.Files.{SlotData, StageData, is_failed, slot_data}
+use Rattle.scan_multi_sources.specs.Files.{StageData, slot_data}
 use Rattle.scan_multi_sources.specs.Files as file
-use Rattle.scan_multi_sources.specs.MultiScans.{Finds, MakesPartition, MayKeep, MultiScan, Passes, PassesOpened, PollsFile, begun, delivered_at, has_room, is_turn, kept_at, left_out}
+use Rattle.scan_multi_sources.specs.MultiScans.{Finds, MakesPartition, MayKeep, MultiScan, Passes, PassesOpened, PollsFile, delivered_at, has_room, is_turn, kept_at, left_out}
 use Rattle.scan_multi_sources.specs.Opens.{Found, Waited, found_of}
 use Rattle.scan_multi_sources.specs.Opens as asks
 use Rattle.scan_multi_sources.specs.Partitions.{PartitionData}
-use Rattle.scan_multi_sources.specs.Polls.{Answers, AnswersBy, ComesTo, FailsOpened, GoesOn, IsRest, IsStep, StepsLast, StepsOn, weight}
+use Rattle.scan_multi_sources.specs.Polls.{Answers, AnswersBy, ComesTo, FailsOpened, GoesOn, IsStep, StepsLast, weight}
 use Rattle.scan_multi_sources.specs.declared.fault.MultiFault.{MultiFault}
 use Rattle.scan_multi_sources.specs.declared.fault.MultiFault.TheVariants as fault
 use Rattle.scan_multi_sources.specs.declared.scan.PartitionPoll.{PartitionPoll}
@@ -27,7 +27,6 @@ use Rattle.scan_multi_sources.specs.declared.scan.Step.TheVariants.{Next, Answer
 use Rattle.scan_multi_sources.proofs.Finding.{some_within}
 use Rattle.scan_multi_sources.proofs.Going.{polled_children}
 use Rattle.scan_multi_sources.proofs.Moving.{asks_wait}
-use Rattle.scan_multi_sources.proofs.Standing.{one_longer}
 
 -- ---- turns
 not_turn : (b c : Bool) → (not b || c) ≡ false → (b ≡ true) × (c ≡ false)
@@ -115,24 +114,9 @@ module _ {O : Type 0} (opener : O → OpenerState) where
   kept_failed s i k g = record { stage = file.failed; slot = g; finds = (refl, refl) }
 
   -- ---- beginning
-  pub begins_step : (s new : MultiScan O) (at k : ℕ) (ks : List ℕ) → length s.window ≤ at → has_room s ≡ true → s.waiting ≡ k ∷ ks → new ≡ begun s k ks → StepsOn opener s new at at
-  begins_step s new at k ks l room w is = record {
-    step = inl (record { place = k; rest = ks; next = w; few = room; then = is });
-    nearer = rw is (let a = one_longer s.window (slot_data k file.opening) in let b = ap (λ (z : List ℕ). length z) w in let p : length (k ∷ ks) ≡ length ks + 1 = omega arith in omega (arith, a, b, p, l));
-    waits = λ m. inl m;
-  }
 
   pub full_step : (s : MultiScan O) (at : ℕ) → length s.window ≤ at → has_room s ≡ false → 0 < s.source.concurrency → StepsLast opener s s at poll.Pending
   full_step s at l room some = record { answer = refl; waits = λ e. grind (arith, nat_tests, l, room, some) }
-
-  pub rest_step : (s : MultiScan O) (at : ℕ) (r : PartitionPoll) → length s.window ≤ at → s.waiting ≡ [] → IsRest s r → StepsLast opener s s at r
-  rest_step s at poll.Pending l w h = record { answer = refl; waits = λ e. omega (arith, l, h) }
-  rest_step s at (poll.Partition p) l w h = absurd h
-  rest_step s at poll.End l w h = record { answer = (h, w, refl); waits = λ e. absurd cc }
-  rest_step s at (poll.Fault f) l w h = absurd h
-
-  pub short_step : (s : MultiScan O) (at : ℕ) → StepsLast opener s s at (poll.Fault fault.NoMemory)
-  short_step s at = record { answer = inl (refl, refl); waits = λ e. absurd cc }
 
   -- ---- an opener that was polled
   module _ (s looked : MultiScan O) (at k : ℕ) (slot : slice_get s.window at ≡ Some (slot_data k file.opening)) where

@@ -1,5 +1,5 @@
 -- Scans of many files of which nothing was delivered.
-use Rattle.std.specs.Prelude.{◌≡◌, ◌≢◌, ◌++◌, ◌==◌, ℕ, suc, Bool, true, false, List, [], ◌∷◌, Option, Some, None, if◌then◌else◌, Result, Ok, Err}
+use Rattle.std.specs.Prelude.{◌≡◌, ◌++◌, ◌==◌, ℕ, suc, Bool, true, false, List, [], ◌∷◌, Option, Some, None, if◌then◌else◌}
 use Rattle.std.specs.declared.ops.Range.{Range}
 use Rattle.scan_expr.specs.declared.request.ScanRequest.{ScanRequest}
 use Rattle.scan_core.specs.Streaming.{IsOwnSeat}
@@ -42,8 +42,3 @@ number_refusal n r = if n == 0 then Some fault.Concurrency else if is_reversed r
 -- what is wrong with a request, by numbers and then by its expressions
 abbrev pub multi_refusal : {O : Type 0} → MultiData O → ScanRequest → Option SourceFault
 multi_refusal s r = source.first_of (number_refusal s.concurrency r.row_range) (source.bind_refusal s.dtype r.projection r.filter)
-
--- a refusal leaves the source as it was
-abbrev pub LeavesSame : {O T : Type 0} → MultiData O → MultiData O → Result T SourceFault → Type 0
-LeavesSame old new (Ok x) = Unit {0}
-LeavesSame old new (Err f) = f ≢ fault.NoMemory → new ≡ old
