@@ -1,13 +1,12 @@
 -- The answer of files, file by file, and its groups, which are those of the files one after another.
-use Rattle.std.proofs.Common.{◌≡◌, ◌<◌, ◌+◌, ℕ, suc, Bool, true, false, List, [], ◌∷◌, ◌++◌, flat_map, get_or, length, inl, inr, refl, sym, ap, ◌∙◌, arith}
+use Rattle.std.proofs.Common.{◌≡◌, ◌<◌, ◌+◌, ℕ, suc, Bool, true, false, List, [], ◌∷◌, ◌++◌, get_or, inl, inr, refl, sym, ap, ◌∙◌, arith}
 use Rattle.std.specs.Prelude.{◌==◌, ◌&&◌, None, if◌then◌else◌}
-use Rattle.std.specs.List.{range_with_len}
 use Rattle.scan_values.specs.DataType.{DataType}
 use Rattle.scan_expr.specs.declared.request.ScanRequest.{ScanRequest}
 use Rattle.scan_opener.specs.Opener.{skip}
-use Rattle.scan_multi.specs.Answer.{Item, ToldFile, answer, answer_from, part_of}
-use Rattle.scan_multi.specs.Chunks.{cut, grouped, is_beside, join_first}
-use Rattle.scan_multi.proofs.Chosen.{AreOf, IsFrom, RiseFrom, answer_rises, part_rises}
+use Rattle.scan_multi.specs.Answer.{Item, ToldFile, part_of}
+use Rattle.scan_multi.specs.Chunks.{grouped, is_beside, join_first}
+use Rattle.scan_multi.proofs.Chosen.{AreOf, IsFrom, RiseFrom}
 use Rattle.scan_multi.proofs.Keys.{split_in}
 use Rattle.scan_multi.proofs.Orders.{other_numbers}
 
@@ -74,14 +73,6 @@ module _ (d : DataType) (request : ScanRequest) (files : List ToldFile) where
   abbrev pub part_at : ℕ → List Item
   part_at k = part_of d request k (get_or files k no_file).store (get_or files k no_file).given
 
-  -- its groups
-  abbrev pub cuts_at : ℕ → List (List Item)
-  cuts_at k = cut d request files (part_at k)
-
-  -- the places of all files
-  abbrev pub all_places : List ℕ
-  all_places = range_with_len 0 (length files)
-
   -- files from a place on
   abbrev pub AreFrom : ℕ → List ToldFile → Type 0
   AreFrom place fs = (k : ℕ) (f : ToldFile) → get_or files (place + k) f ≡ get_or fs k f
@@ -91,17 +82,6 @@ module _ (d : DataType) (request : ScanRequest) (files : List ToldFile) where
 
   pub others_from : (place : ℕ) (f : ToldFile) (fs : List ToldFile) → AreFrom place (f ∷ fs) → AreFrom (place + 1) fs
   others_from place f fs h = λ k e. ap (λ j. get_or files j e) (let z : place + 1 + k ≡ place + suc k = omega arith in z) ∙ h (suc k) e
-
-  parts_from : (place : ℕ) (fs : List ToldFile) → AreFrom place fs → answer_from d request place fs ≡ flat_map part_at (range_with_len place (length fs))
-  parts_from place [] h = refl
-  parts_from place (f ∷ fs) h =
-      let here = first_is place f fs h in
-      let rest = parts_from (place + 1) fs (others_from place f fs h) in
-      λ z. part_of d request place (here z).store (here z).given ++ rest z
-
-  -- the answer is that of the files one after another
-  pub parts_are : answer d request files ≡ flat_map part_at all_places
-  parts_are = parts_from 0 files (λ k f. ap (λ j. get_or files j f) (let z : 0 + k ≡ k = omega arith in z))
 
   other_file : (x y : Item) → x.file < y.file → is_beside d request files x y ≡ false
   other_file x y l = ap (λ b. b && (split_in d request files x.file x.row == split_in d request files x.file y.row)) (other_numbers x.file y.file l)
@@ -117,16 +97,3 @@ module _ (d : DataType) (request : ScanRequest) (files : List ToldFile) where
   pub files_off : (place : ℕ) (xs ys : List Item) → AreOf place xs → RiseFrom (place + 1) 0 ys → AreOff (is_beside d request files) xs ys
   files_off place [] ys o h = tt
   files_off place (x ∷ xs) ys o h = (first_off place x ys o.0 h, files_off place xs ys o.1 h)
-
-  cuts_from : (place : ℕ) (fs : List ToldFile) → AreFrom place fs → cut d request files (answer_from d request place fs) ≡ flat_map cuts_at (range_with_len place (length fs))
-  cuts_from place [] h = refl
-  cuts_from place (f ∷ fs) h =
-      let here = first_is place f fs h in
-      let rest = cuts_from (place + 1) fs (others_from place f fs h) in
-      let off = files_off place (part_of d request place f.store f.given) (answer_from d request (place + 1) fs) (part_rises d request place f.store f.given).1 (answer_rises d request (place + 1) fs) in
-      grouped_apart (is_beside d request files) (part_of d request place f.store f.given) (answer_from d request (place + 1) fs) off
-      ∙ (λ z. cut d request files (part_of d request place (here z).store (here z).given) ++ rest z)
-
-  -- its groups are those of the files one after another
-  pub cuts_are : cut d request files (answer d request files) ≡ flat_map cuts_at all_places
-  cuts_are = cuts_from 0 files (λ k f. ap (λ j. get_or files j f) (let z : 0 + k ≡ k = omega arith in z))

@@ -1,15 +1,13 @@
 -- What a drive over files gives is cut at the splits of the files.
-use Rattle.std.proofs.Common.{◌≡◌, ◌<◌, ◌+◌, ℕ, suc, Bool, true, false, List, [], ◌∷◌, ◌++◌, append-nil, append_assoc, drop, map, Option, Some, None, inl, inr, refl, sym, ap, subst, ◌∙◌, arith}
-use Rattle.std.specs.Prelude.{◌⊎◌, ◌==◌, ◌&&◌, All, if◌then◌else◌}
-use Rattle.std.proofs.lemmas.List.{take-append-drop}
-use Rattle.std.proofs.lemmas.List.Elements.{All-cons, All-nil}
+use Rattle.std.proofs.Common.{◌≡◌, ◌<◌, ◌+◌, ℕ, Bool, true, false, List, [], ◌∷◌, ◌++◌, map, Option, inl, inr, refl, sym, ap, subst, ◌∙◌, arith}
+use Rattle.std.specs.Prelude.{◌⊎◌, ◌==◌, ◌&&◌, if◌then◌else◌}
 use Rattle.scan_values.specs.DataType.{DataType}
 use Rattle.scan_expr.specs.declared.request.ScanRequest.{ScanRequest}
 use Rattle.scan_drive.specs.Files as drive
 use Rattle.scan_file.specs.FileAsks.{FileAsk}
 use Rattle.scan_multi.specs.Answer.{Item, ToldFile}
 use Rattle.scan_multi.specs.Asked.{AreClean, AsksFor, Row, item_from, items_from, tale_of}
-use Rattle.scan_multi.specs.Chunks.{IsFrontOf, cut, grouped, is_beside, join_first}
+use Rattle.scan_multi.specs.Chunks.{cut, grouped, is_beside, join_first}
 use Rattle.scan_multi.specs.Output.{ChunkData, chunk_items, given, limited}
 use Rattle.scan_multi.proofs.Keys.{IsNext, KeyedFrom, OfSplit, answer_keyed, keyed_limited, split_in}
 use Rattle.scan_multi.proofs.Orders.{other_numbers, same_numbers}
@@ -26,12 +24,6 @@ items_append (x ∷ xs) ys = ap (λ zs. item_from x ∷ zs) (items_append xs ys)
 pub clean_parts : (xs ys : List Row) → AreClean (xs ++ ys) → AreClean xs × AreClean ys
 clean_parts [] ys h = (tt, h)
 clean_parts (x ∷ xs) ys h = let p = clean_parts xs ys h.1 in ((h.0, p.0), p.1)
-
--- groups put into one, or beside others
-pub record StartsWith (xs : List Item) (groups : List (List Item)) : Type 0 where
-  pub rest : List Item
-  pub others : List (List Item)
-  pub is : groups ≡ (xs ++ rest) ∷ others
 
 module _ (d : DataType) (request : ScanRequest) (files : List ToldFile) where
   abbrev pub beside : Item → Item → Bool
@@ -76,28 +68,6 @@ module _ (d : DataType) (request : ScanRequest) (files : List ToldFile) where
       ∙ ap (λ b. if b then (item_from (file, x) ∷ group_items (file, y ∷ ys)) ∷ grouped beside rest else (item_from (file, x) ∷ []) ∷ group_items (file, y ∷ ys) ∷ grouped beside rest)
       (alike file k (file, x) (file, y) refl refl h.0 h.1.0)
 
-  -- or before any items
-  starts_one : (x : Item) (gs : List (List Item)) → StartsWith (x ∷ []) (join_first beside x gs)
-  starts_one x [] = record { rest = []; others = []; is = refl }
-  starts_one x ([] ∷ gs) = record { rest = []; others = gs; is = refl }
-  starts_one x ((y ∷ ys) ∷ gs) = go (beside x y)
-    where
-      go : (b : Bool) → StartsWith (x ∷ []) (if b then (x ∷ y ∷ ys) ∷ gs else (x ∷ []) ∷ (y ∷ ys) ∷ gs)
-      go true = record { rest = y ∷ ys; others = gs; is = refl }
-      go false = record { rest = []; others = (y ∷ ys) ∷ gs; is = refl }
-
-  starts_group : (file k : ℕ) (x : drive.Item) (xs : List drive.Item) (rest : List Item) → OfSplit (split_in d request files file) k (x ∷ xs) → StartsWith (group_items (file, x ∷ xs)) (grouped beside (group_items (file, x ∷ xs) ++ rest))
-  starts_group file k x [] rest h = starts_one (item_from (file, x)) (grouped beside rest)
-  starts_group file k x (y ∷ ys) rest h =
-      let r = starts_group file k y ys rest h.1 in
-      record {
-        rest = r.rest;
-        others = r.others;
-        is = ap (join_first beside (item_from (file, x))) r.is
-            ∙ ap (λ b. if b then (item_from (file, x) ∷ group_items (file, y ∷ ys) ++ r.rest) ∷ r.others else (item_from (file, x) ∷ []) ∷ (group_items (file, y ∷ ys) ++ r.rest) ∷ r.others)
-            (alike file k (file, x) (file, y) refl refl h.0 h.1.0);
-      }
-
   -- the first of groups of later splits
   apart_next : (f c : ℕ) (file k : ℕ) (x : drive.Item) → IsNext f (c + 1) file k → split_in d request files file x.0 ≡ k → IsApart f c (item_from (file, x))
   apart_next f c file k x (inl l) e = inl l
@@ -108,21 +78,8 @@ module _ (d : DataType) (request : ScanRequest) (files : List ToldFile) where
   leave_groups f c ((file, []) ∷ gs) h clean = absurd h
   leave_groups f c ((file, x ∷ xs) ∷ gs) h clean = let r = h clean.0 in apart_next f c file r.0 x r.1 r.2.0
 
-  leave_first : (f c file k : ℕ) (x : drive.Item) (xs : List Item) (groups : List (List Item)) → StartsWith (item_from (file, x) ∷ xs) groups → IsNext f (c + 1) file k → split_in d request files file x.0 ≡ k → LeaveOff f c groups
-  leave_first f c file k x xs groups s n e = subst (LeaveOff f c) (sym s.is) (apart_next f c file k x n e)
-
-  -- a front of a group among others is one among more
-  fronts_more : (g : List Item) (groups chunks : List (List Item)) → All (IsFrontOf groups) chunks → All (IsFrontOf (g ∷ groups)) chunks
-  fronts_more g groups chunks h = λ k e l. let f = h k e l in let c = f.among in record { rest = f.rest; among = (suc c.0, let m = c.1 in omega (arith, m), c.2) }
-
-  first_front : (xs : List Item) (groups : List (List Item)) → StartsWith xs groups → IsFrontOf groups xs
-  first_front xs groups s = subst (λ z. IsFrontOf z xs) (sym s.is) (record { rest = s.rest; among = (0, omega arith, refl) })
-
   clean_rest : (g : drive.Group drive.Item) (gs : List (drive.Group drive.Item)) → AreClean (drive.flattened (g ∷ gs)) → AreClean (drive.flattened gs)
   clean_rest g gs h = (clean_parts (drive.placed g) (drive.flattened gs) h).1
-
-  flat_first : (g : drive.Group drive.Item) (gs : List (drive.Group drive.Item)) (later : List Item) → items_from (drive.flattened (g ∷ gs)) ++ later ≡ group_items g ++ (items_from (drive.flattened gs) ++ later)
-  flat_first g gs later = ap (λ xs. xs ++ later) (items_append (drive.placed g) (drive.flattened gs)) ∙ append_assoc (group_items g) (items_from (drive.flattened gs)) later
 
   -- ---- groups of splits that follow each other
   -- their items are cut into them
@@ -138,44 +95,7 @@ module _ (d : DataType) (request : ScanRequest) (files : List ToldFile) where
       ∙ one_group file r.0 x xs (items_from (drive.flattened gs)) r.2 off
       ∙ ap (λ zs. group_items (file, x ∷ xs) ∷ zs) rest
 
-  -- with more items behind them each is a front of a group
-  pub cut_fronts : (f c : ℕ) (gs : List (drive.Group drive.Item)) (later : List Item) → KeyedFrom (split_in d request files) f c gs → AreClean (drive.flattened gs)
-      → All (IsFrontOf (grouped beside (items_from (drive.flattened gs) ++ later))) (map group_items gs)
-  cut_fronts f c [] later h clean = All-nil (IsFrontOf (grouped beside later))
-  cut_fronts f c ((file, []) ∷ gs) later h clean = absurd h
-  cut_fronts f c ((file, x ∷ xs) ∷ []) later h clean =
-      let r = h clean.0 in
-      let starts = starts_group file r.0 x xs later r.2 in
-      subst (λ items. All (IsFrontOf (grouped beside items)) (group_items (file, x ∷ xs) ∷ [])) (sym (flat_first (file, x ∷ xs) [] later))
-      (All-cons (IsFrontOf (grouped beside (group_items (file, x ∷ xs) ++ later))) (group_items (file, x ∷ xs)) [] (first_front (group_items (file, x ∷ xs)) (grouped beside (group_items (file, x ∷ xs) ++ later)) starts)
-      (All-nil (IsFrontOf (grouped beside (group_items (file, x ∷ xs) ++ later)))))
-  cut_fronts f c ((file, x ∷ xs) ∷ (other, []) ∷ gs) later h clean = let r = h clean.0 in absurd r.3
-  cut_fronts f c ((file, x ∷ xs) ∷ (other, y ∷ ys) ∷ gs) later h clean =
-      let r = h clean.0 in
-      let behind : AreClean (drive.flattened ((other, y ∷ ys) ∷ gs)) = clean_rest (file, x ∷ xs) ((other, y ∷ ys) ∷ gs) clean in
-      let next = r.3 behind.0 in
-      let after : List Item = items_from (drive.flattened ((other, y ∷ ys) ∷ gs)) ++ later in
-      let starts : StartsWith (group_items (other, y ∷ ys)) (grouped beside after) =
-      subst (λ items. StartsWith (group_items (other, y ∷ ys)) (grouped beside items)) (sym (flat_first (other, y ∷ ys) gs later)) (starts_group other next.0 y ys (items_from (drive.flattened gs) ++ later) next.2) in
-      let off : LeaveOff file r.0 (grouped beside after) = leave_first file r.0 other next.0 y (group_items (other, ys)) (grouped beside after) starts next.1 next.2.0 in
-      let groups : grouped beside (group_items (file, x ∷ xs) ++ after) ≡ group_items (file, x ∷ xs) ∷ grouped beside after = one_group file r.0 x xs after r.2 off in
-      let rest = cut_fronts file (r.0 + 1) ((other, y ∷ ys) ∷ gs) later r.3 behind in
-      let all : All (IsFrontOf (group_items (file, x ∷ xs) ∷ grouped beside after)) (map group_items ((file, x ∷ xs) ∷ (other, y ∷ ys) ∷ gs)) =
-      All-cons (IsFrontOf (group_items (file, x ∷ xs) ∷ grouped beside after)) (group_items (file, x ∷ xs)) (map group_items ((other, y ∷ ys) ∷ gs))
-      (record { rest = []; among = (0, omega arith, sym (append-nil (group_items (file, x ∷ xs)))) })
-      (fronts_more (group_items (file, x ∷ xs)) (grouped beside after) (map group_items ((other, y ∷ ys) ∷ gs)) rest) in
-      subst (λ items. All (IsFrontOf (grouped beside items)) (map group_items ((file, x ∷ xs) ∷ (other, y ∷ ys) ∷ gs))) (sym (flat_first (file, x ∷ xs) ((other, y ∷ ys) ∷ gs) later))
-      (subst (λ groups. All (IsFrontOf groups) (map group_items ((file, x ∷ xs) ∷ (other, y ∷ ys) ∷ gs))) (sym groups) all)
-
 -- ---- what a drive gives, as far as the limit allows
--- the items that come behind those that are given
-abbrev pub later_items : Option ℕ → List Item → List Item
-later_items None items = []
-later_items (Some n) items = drop n items
-
-pub with_later : (limit : Option ℕ) (items : List Item) → limited limit items ++ later_items limit items ≡ items
-with_later None items = append-nil items
-with_later (Some n) items = take-append-drop n items
 
 module _ (d : DataType) (request : ScanRequest) (a : FileAsk) (asks : AsksFor d request a) (files : List ToldFile) where
   pub all_keyed : KeyedFrom (split_in d request files) 0 0 (drive.answer (map (tale_of a) files))

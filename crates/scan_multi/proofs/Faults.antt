@@ -104,9 +104,6 @@ module _ (d : DataType) (request : ScanRequest) (a : FileAsk) (asks : AsksFor d 
   fault_says l f h = says (same_type (dtype_of l) d) (first_fault l d) (ends_past request.row_range (rows_of l)) f (sym (in_words l) ∙ h)
 
   -- ---- what each fault of an opener says
-  pub none_fails : (g : Given) → GivesFault a fault.Opener g → ⊥
-  none_fails skip h = h
-  none_fails (layout_of l) h = fault_says l fault.Opener h
 
   pub other_type : (g : Given) → GivesFault a fault.DTypeMismatch g → IsOfOtherType d g
   other_type skip h = h

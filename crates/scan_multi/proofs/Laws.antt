@@ -12,7 +12,7 @@ use Rattle.scan_expr.specs.Expr.{Expr, filter_conjuncts}
 use Rattle.scan_expr.specs.declared.request.ScanRequest.{ScanRequest}
 use Rattle.scan_segments.specs.Source.{Store}
 use Rattle.scan_layout.specs.Layout.{Layout, rows_of}
-use Rattle.scan_layout.specs.Places.{Place}
+use Rattle.scan_spelling.specs.Places.{Place}
 use Rattle.scan_opener.specs.Opener.{Given, skip, layout_of}
 use Rattle.scan_readers.specs.Flaws.{IsFlawed, has_flaw, of_bytes, of_offset}
 use Rattle.scan_readers.proofs.Flawed.{flaw_is}

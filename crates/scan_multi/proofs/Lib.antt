@@ -35,3 +35,5 @@ pub mod Scanning
 pub mod Keys
 pub mod Cuts
 pub mod SplitChunks
+mod Made
+mod WantOfMemory

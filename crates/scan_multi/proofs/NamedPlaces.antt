@@ -10,7 +10,7 @@ use Rattle.scan_expr.specs.Needs.{needed_by}
 use Rattle.scan_expr.specs.declared.request.ScanRequest.{ScanRequest}
 use Rattle.scan_segments.specs.Source.{Store}
 use Rattle.scan_layout.specs.Layout.{Layout}
-use Rattle.scan_layout.specs.Places.{Place}
+use Rattle.scan_spelling.specs.Places.{Place}
 use Rattle.scan_layout.specs.Touched.{touched}
 use Rattle.scan_opener.specs.Opener.{layout_of}
 use Rattle.scan_plans.specs.Wants.{names_id}

@@ -5,7 +5,7 @@ use Rattle.scan_values.specs.Selections.{picked_rows}
 use Rattle.scan_expr.specs.declared.request.ScanRequest.{ScanRequest}
 use Rattle.scan_layout.specs.Layout.{Layout, rows_of}
 use Rattle.scan_layout.specs.PickGroups.{pick_groups, least}
-use Rattle.scan_layout.specs.Places.{Place}
+use Rattle.scan_spelling.specs.Places.{Place}
 use Rattle.scan_layout.specs.Touched.{touched}
 use Rattle.scan_opener.specs.Opener.{layout_of}
 use Rattle.scan_multi.specs.Answer.{ToldFile, Item, part_of, answer}

@@ -4,7 +4,7 @@ use Rattle.scan_values.specs.DataType.{DataType}
 use Rattle.scan_expr.specs.declared.request.ScanRequest.{ScanRequest}
 use Rattle.scan_segments.specs.Source.{Store}
 use Rattle.scan_layout.specs.Layout.{Layout}
-use Rattle.scan_layout.specs.Places.{Place}
+use Rattle.scan_spelling.specs.Places.{Place}
 use Rattle.scan_layout.specs.Touched.{touched}
 use Rattle.scan_readers.specs.Flaws.{ListOffsets, is_bad_offset, lists_of, offset_at, offset_before}
 use Rattle.scan_opener.specs.Opener.{layout_of}

@@ -1,7 +1,7 @@
 -- Segments at their leaves, and what may be wrong with one.
 use Rattle.std.specs.Prelude.{◌≡◌, ℕ, List, None, Contains}
 use Rattle.scan_segments.specs.Source.{Store}
-use Rattle.scan_layout.specs.Places.{Place, decoded}
+use Rattle.scan_spelling.specs.Places.{Place, decoded}
 
 -- the bytes of a place are missing, or do not decode for its leaf
 abbrev pub IsBad : Store → Place → Type 0

@@ -3,6 +3,9 @@
 
 mod scan;
 
-pub use scan::{RangeFault, ScanChunk, ScanFault, ScanOutput, scan_files};
+pub use scan::{
+    ColumnChunk, ColumnOutput, RangeFault, ScanChunk, ScanFault, ScanOutput, scan_columns_of,
+    scan_files,
+};
 pub use scan_drive::{Gate, NoGate, ScanFile, ScanReport};
 pub use scan_opener::{BoxedFactory, LayoutReaderFactory, MemoryOpener, Opening};

@@ -1,30 +1,18 @@
 //! The top call of the library: a scan of files. An own call over the Rust's parts.
-ghost use Rattle.std.specs.Prelude.{◌≡◌, All, IfOk, IfErr, Some, true, false};
-ghost use Rattle.scan_drive.specs.Chunks.{HasRoom};
+ghost use Rattle.std.specs.Prelude.{All, IfOk, IfErr};
 ghost use Rattle.scan_multi.specs.Lawful.{IsIdle};
 ghost use Rattle.scan_multi.specs.Scans.{IsScan, IsRefusedFor, ScanMoves};
 
-use crate::scan::fault::{ScanFault, placed};
-use crate::scan::output::{ScanOutput, chunks_of};
-use crate::scan::request::check_request;
-use scan_drive::{Gate, ScanFile, drive_files};
+use crate::scan::columns::scan_columns_of;
+use crate::scan::fault::ScanFault;
+use crate::scan::output::ScanOutput;
+use scan_drive::{Gate, ScanFile};
 use scan_expr::ScanRequest;
 use scan_opener::LayoutReaderFactory;
 use scan_segments::{KeyedSegmentCache, SegmentSource};
 use scan_values::DType;
 use std::alloc::Global;
 use std::thread::Threads;
-
-/// Whether a row may be given.
-fn has_room(limit: Option<u64>) -> bool
-    ensures some { result ≡ true → HasRoom limit }
-    ensures none { result ≡ false → limit ≡ Some 0 }
-{
-    match limit {
-        None => true,
-        Some(most) => most > 0,
-    }
-}
 
 /// Scans files: their rows in a range and a selection at which a filter is true, up to a limit, and of each the value
 /// of a projection. An ordered request is served in the order of the files and of their rows. An unordered one is
@@ -60,7 +48,7 @@ fn has_room(limit: Option<u64>) -> bool
 /// may be asked, and it is missing or damaged. `Overflow`: over lawful objects an expression overflows at a row that is
 /// read. `NoMemory` may come in place of any answer but the first three faults; it alone comes of a valid scan of
 /// lawful objects where no count of faults rose.
-#[tactic(none)]
+#[tactic(auto, using(crate::proofs::WantOfMemory::refused_after))]
 pub fn scan_files<
     R: Threads + Sync,
     O: LayoutReaderFactory + Drop,
@@ -85,25 +73,6 @@ pub fn scan_files<
     ensures moves { ScanMoves O.opener S.state workers dtype.now request.now
         files.old.items files.new.items (C.cache cache.old) (C.cache cache.new) }
 {
-    let ask = check_request(alloc, dtype, workers, request)?;
-    if !has_room(request.limit) {
-        return Ok(ScanOutput::empty(alloc));
-    }
-    match drive_files(
-        rt,
-        alloc,
-        gate,
-        &ask,
-        files,
-        cache,
-        workers,
-        request.limit,
-        request.ordered,
-    ) {
-        Ok(output) => Ok(ScanOutput {
-            chunks: chunks_of(alloc, output.chunks)?,
-            report: output.report,
-        }),
-        Err(fault) => Err(placed(fault)),
-    }
+    let output = scan_columns_of(rt, alloc, dtype, files, cache, request, workers, gate)?;
+    Ok(output.into_arrays(alloc)?)
 }

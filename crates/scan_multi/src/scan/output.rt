@@ -2,6 +2,7 @@
 ghost use Rattle.std.specs.Prelude.{◌≡◌, [], All, IfOk, map};
 ghost use Rattle.scan_multi.specs.Placed.{chunk_of, IsEven, no_counts};
 
+use scan_columns::Column;
 use scan_drive::{Chunk, ScanReport};
 use scan_file::FileRows;
 use scan_values::{Array, NoMemory};
@@ -43,33 +44,109 @@ impl Model for ScanOutput {
     ghost view = { λ a. record { chunks = a.chunks.items; report = a.report } };
 }
 
-impl ScanOutput {
+/// Some rows of a file by their numbers, and a column of their values. Contracts see of it what they see of a
+/// `ScanChunk`.
+#[derive(Drop)]
+pub struct ColumnChunk {
+    pub file: usize,
+    pub rows: Vec<u64>,
+    pub values: Column,
+}
+
+impl Model for ColumnChunk {
+    ghost use Rattle.scan_multi.specs.Output.{ChunkData, chunk_code};
+
+    ghost Value = { ChunkData };
+
+    ghost coded = { chunk_code };
+
+    ghost view = { λ a. record { file = a.file; rows = a.rows.items; values = a.values } };
+}
+
+/// What a scan gives, by columns. Contracts see of it what they see of a `ScanOutput`.
+#[derive(Drop)]
+pub struct ColumnOutput {
+    pub chunks: Vec<ColumnChunk>,
+    pub report: ScanReport,
+}
+
+impl Model for ColumnOutput {
+    ghost use Rattle.scan_multi.specs.Output.{OutputData, output_code};
+
+    ghost Value = { OutputData };
+
+    ghost coded = { output_code };
+
+    ghost view = { λ a. record { chunks = a.chunks.items; report = a.report } };
+}
+
+impl ColumnChunk {
+    /// The same rows with an array of their values.
+    pub fn into_array(self, alloc: Global) -> Result<ScanChunk, NoMemory>
+        ensures { IfOk result (λ c. c ≡ self) }
+    {
+        let ColumnChunk { file, rows, values } = self;
+        Ok(ScanChunk {
+            file,
+            rows,
+            values: values.to_array(alloc)?,
+        })
+    }
+}
+
+impl ColumnOutput {
     /// No rows, for which nothing was wanted.
-    pub(crate) fn empty(alloc: Global) -> ScanOutput
+    pub(crate) fn empty(alloc: Global) -> ColumnOutput
         ensures { result ≡ record { chunks = []; report = no_counts } }
     {
-        ScanOutput {
+        ColumnOutput {
             chunks: Vec::new(alloc),
             report: ScanReport::default(),
         }
     }
+
+    /// The same with an array for each column, made chunk by chunk.
+    pub fn into_arrays(self, alloc: Global) -> Result<ScanOutput, NoMemory>
+        ensures { IfOk result (λ out. out ≡ self) }
+    {
+        let ColumnOutput { chunks, report } = self;
+        Ok(ScanOutput {
+            chunks: arrays_of(alloc, chunks)?,
+            report,
+        })
+    }
+}
+
+/// An array for the column of each chunk.
+fn arrays_of(alloc: Global, chunks: Vec<ColumnChunk>) -> Result<Vec<ScanChunk>, NoMemory>
+    ensures { IfOk result (λ v. v.items ≡ chunks.items) }
+{
+    let mut made = Vec::with_capacity(alloc, chunks.len())?;
+    for chunk in chunks {
+        made.push(chunk.into_array(alloc)?)?;
+    }
+    Ok(made)
 }
 
 /// The rows of a split as a chunk of a scan. No value is copied.
-fn chunk_of(chunk: Chunk<FileRows>) -> ScanChunk
+fn chunk_of(chunk: Chunk<FileRows>) -> ColumnChunk
     ensures is { result ≡ chunk_of chunk }
     ensures even { IsEven result }
 {
     let Chunk { file, rows } = chunk;
-    let (rows, values) = rows.into_parts();
-    ScanChunk { file, rows, values }
+    let (numbers, values) = rows.into_parts();
+    ColumnChunk {
+        file,
+        rows: numbers,
+        values,
+    }
 }
 
 /// The same of each split.
 pub(crate) fn chunks_of(
     alloc: Global,
     chunks: Vec<Chunk<FileRows>>,
-) -> Result<Vec<ScanChunk>, NoMemory>
+) -> Result<Vec<ColumnChunk>, NoMemory>
     ensures are { IfOk result (λ v. v.items ≡ map chunk_of chunks.items) }
     ensures even { IfOk result (λ v. All IsEven v.items) }
 {

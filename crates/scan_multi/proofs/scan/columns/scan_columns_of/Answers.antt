@@ -12,7 +12,7 @@ use Rattle.scan_multi.proofs.Meaning.{Means}
 use Rattle.scan_multi.proofs.Requesting.{some_workers}
 use Rattle.scan_multi.proofs.Resting.{moves_still, scan_of_none, refused_request}
 use Rattle.scan_multi.proofs.Scanning.{scan_moved, refused_memory, refused_drive, scan_given}
-use Rattle.scan_multi.proofs.scan.files.scan_files.Goals as goal
+use Rattle.scan_multi.proofs.scan.columns.scan_columns_of.Goals as goal
 
 -- ---- a request with a fault
 pub returns-in_err-ask-clause-ok : goal.returns-in_err-ask-clause-ok
