@@ -1,10 +1,9 @@
 -- What callers need of manifests.
-use Rattle.std.proofs.Common.{◌≡◌, ℕ, ◌<◌, List, [], ◌∷◌, Bool, true, false, zero, suc, length, get_or, Option, None, Some, refl, sym, ap, ◌∙◌, subst, cond, arith}
-use Rattle.std.specs.Prelude.{not, ◌||◌, ◌&&◌, option_and_then, option_map, codes}
+use Rattle.std.proofs.Common.{◌≡◌, ℕ, ◌<◌, List, [], ◌∷◌, Bool, true, false, zero, suc, length, get_or, Option, None, Some, refl, sym, subst, cond, arith}
+use Rattle.std.specs.Prelude.{not, ◌||◌, option_and_then, option_map, codes}
 use Rattle.std.specs.Str.{bytes_eq}
 use Rattle.std.specs.List.{list_all}
 use Rattle.std.proofs.lemmas.Slice.Eq.{bytes_eq-Decides}
-use Rattle.serde_json.specs.Read.{read}
 use Rattle.serde_json.specs.Data.{Data}
 use Rattle.serde_json.specs.Find.{get}
 use Rattle.scan_manifest.specs.declared.json.Form.TheVariants as form
@@ -13,17 +12,8 @@ use Rattle.scan_manifest.specs.Json.{has_form, optional, number_to}
 use Rattle.scan_values.specs.DataType.{DataType}
 use Rattle.scan_manifest.specs.declared.manifest.FileSpec.{FileSpec}
 use Rattle.scan_manifest.specs.declared.manifest.Manifest.{Manifest}
-use Rattle.scan_manifest.specs.Manifest.{manifest_in, manifest_with, files_in, request_in, cache_in, usual_cache, IsManifest, agree, all_agree, same_segments}
+use Rattle.scan_manifest.specs.Manifest.{manifest_with, files_in, request_in, cache_in, usual_cache, IsManifest, agree, all_agree, same_segments}
 use Rattle.scan_manifest.proofs.Firsts.{first_true, then_true, same_is}
-
-same_some : {X : Type 0} (o : Option X) (x y : X) → o ≡ Some x → o ≡ Some y → x ≡ y
-same_some None x y h k = cc
-same_some (Some z) x y h k = let a : z ≡ x = cc in let b : z ≡ y = cc in sym a ∙ b
-
--- bytes are at most one manifest
-pub only_manifest : (bytes : List ℕ) (m k : Manifest) → IsManifest bytes m → IsManifest bytes k → m ≡ k
-only_manifest bytes m k (d, s, h) (e, t, g) =
-    same_some (manifest_in d) m k h (ap manifest_in (same_some (read bytes) d e s.1 t.1) ∙ g)
 
 -- two files of one id that agree have the same segments
 pub agree_same : (f g : FileSpec) → agree f g ≡ true → f.id ≡ g.id → f.segments ≡ g.segments

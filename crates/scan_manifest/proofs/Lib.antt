@@ -1,5 +1,5 @@
 pub mod Lists
 pub mod Levels
-pub mod Manifests
 pub mod Firsts
 pub mod CallerLemmas
+mod HexPairs

@@ -1,5 +1,5 @@
 -- Lists of JSON values, item by item, and the keys of objects.
-use Rattle.std.proofs.Common.{◌≡◌, ◌≢◌, ℕ, ◌+◌, ◌<◌, List, [], ◌∷◌, ◌++◌, length, get_or, drop, refl, sym, ap, ◌∙◌, append_assoc, arith, false, subst}
+use Rattle.std.proofs.Common.{◌≡◌, ◌≢◌, ℕ, ◌+◌, ◌<◌, List, [], ◌∷◌, ◌++◌, length, get_or, drop, refl, sym, ap, ◌∙◌, append_assoc, arith, subst}
 use Rattle.std.specs.Prelude.{Option, None, Some, option_map, option_and_then, ◌&&◌, string_bytes, String, Result}
 use Rattle.std.specs.declared.alloc.Global.{Global}
 use Rattle.std.specs.List.{list_all, zip}
@@ -21,12 +21,6 @@ pair_of-not (a ∷ []) h = refl
 pair_of-not (a ∷ b ∷ []) h = absurd (h refl)
 pair_of-not (a ∷ b ∷ c ∷ vs) h = refl
 
-pub pair_of-two : (vs : List Value) (d e : Value) → length vs ≡ 2 → pair_of (items_view vs) ≡ Some (view (get_or vs 0 d), view (get_or vs 1 e))
-pair_of-two [] d e h = absurd (omega arith)
-pair_of-two (a ∷ []) d e h = absurd (omega arith)
-pair_of-two (a ∷ b ∷ []) d e h = refl
-pair_of-two (a ∷ b ∷ c ∷ vs) d e h = absurd (omega arith)
-
 module _ {T : Type 0} (f : ℕ → Data → Option T) where
   glued : (found : List T) (x : T) (o : Option (List T)) → option_map (λ xs. found ++ xs) (option_map (λ xs. x ∷ xs) o) ≡ option_map (λ xs. (found ++ x ∷ []) ++ xs) o
   glued found x None = refl
@@ -41,12 +35,6 @@ module _ {T : Type 0} (f : ℕ → Data → Option T) where
       ∙ ap (λ o. option_map (λ xs. found ++ xs) (option_and_then (λ y. option_map (λ ys. y ∷ ys) (each_from f (i + 1) (items_view (drop (i + 1) all)))) o)) e
       ∙ glued found x (each_from f (i + 1) (items_view (drop (i + 1) all)))
 
-  -- an item is nothing
-  pub each_stop : (all : List Value) (found : List T) (i : ℕ) (d : Value) → i < length all → each_from f 0 (items_view all) ≡ option_map (λ xs. found ++ xs) (each_from f i (items_view (drop i all))) → f i (view (get_or all i d)) ≡ None → each_from f 0 (items_view all) ≡ None
-  each_stop all found i d lt inv e =
-      inv ∙ ap (λ vs. option_map (λ xs. found ++ xs) (each_from f i (items_view vs))) (drop_more all i d lt)
-      ∙ ap (λ o. option_map (λ xs. found ++ xs) (option_and_then (λ y. option_map (λ ys. y ∷ ys) (each_from f (i + 1) (items_view (drop (i + 1) all)))) o)) e
-
 pub has_keys-keys : (f : Form) (es : List (String Global × Value)) → has_keys f (members_view es) ≡ list_all (λ k. is_key f (string_bytes k)) (keys_of es)
 has_keys-keys f [] = refl
 has_keys-keys f (e ∷ es) = ap (λ b. is_key f (string_bytes e.0) && b) (has_keys-keys f es)
@@ -58,14 +46,6 @@ form_of f (number n) ms e = cc
 form_of f (string s) ms e = cc
 form_of f (array ds) ms e = cc
 form_of f (object ns) ms e = let same : ns ≡ ms = cc in ap (has_keys f) same
-
-pub no_form : (f : Form) (d : Data) → None ≡ as_object d → has_form f d ≡ false
-no_form f null e = refl
-no_form f (boolean b) e = refl
-no_form f (number n) e = refl
-no_form f (string s) e = refl
-no_form f (array ds) e = refl
-no_form f (object ns) e = cc
 
 zip_more : {A B : Type 0} (xs : List A) (ys : List B) (x : A) (y : B) → length xs ≡ length ys → zip (xs ++ x ∷ []) (ys ++ y ∷ []) ≡ zip xs ys ++ (x, y) ∷ []
 zip_more [] [] x y h = refl

@@ -1,6 +1,6 @@
 -- How large a cache of a manifest is.
 use Rattle.std.specs.Prelude.{ℕ}
-use Rattle.scan_segments.specs.declared.bounded.SegmentEviction.{SegmentEviction}
+use Rattle.scan_caches.specs.declared.bounded.SegmentEviction.{SegmentEviction}
 
 -- the most bytes and entries that it keeps, and what it drops first
 pub record CacheSize : Type 0 where

@@ -9,8 +9,8 @@ use Rattle.scan_values.specs.FieldLists.{dtypes_of}
 use Rattle.scan_values.specs.Kinds.{element_of, struct_fields_of}
 use Rattle.scan_layout.specs.declared.node.LayoutKind.{LayoutKind}
 use Rattle.scan_layout.specs.declared.node.LayoutKind.TheVariants.{Leaf, Struct, List as Listed}
-use Rattle.scan_layout.specs.declared.spelling.Spelling.{Spelling}
-use Rattle.scan_layout.specs.declared.spelling.Spelling.TheVariants.{One, Two}
+use Rattle.scan_spelling.specs.declared.spelling.Spelling.{Spelling}
+use Rattle.scan_spelling.specs.declared.spelling.Spelling.TheVariants.{One, Two}
 use Rattle.scan_layout.specs.Layout.{Layout, node, nodes, no_nodes}
 use Rattle.scan_manifest.specs.declared.json.Form.TheVariants.{LeafLayout, StructLayout, ListLayout}
 use Rattle.scan_manifest.specs.Json.{has_form, number_of, number_to, optional, pair_in, each_from, list_in, both}

@@ -17,8 +17,8 @@ use Rattle.scan_values.specs.declared.selection.Selection.{Selection}
 use Rattle.scan_values.specs.declared.selection.Selection.TheVariants.{All, IncludeByIndex, ExcludeByIndex}
 use Rattle.scan_expr.specs.Expr.{Expr}
 use Rattle.scan_expr.specs.declared.request.ScanRequest.{ScanRequest}
-use Rattle.scan_segments.specs.declared.bounded.SegmentEviction.{SegmentEviction}
-use Rattle.scan_segments.specs.declared.bounded.SegmentEviction.TheVariants.{Lru, TinyLfu}
+use Rattle.scan_caches.specs.declared.bounded.SegmentEviction.{SegmentEviction}
+use Rattle.scan_caches.specs.declared.bounded.SegmentEviction.TheVariants.{Lru, TinyLfu}
 use Rattle.scan_manifest.specs.declared.json.Form.TheVariants as form
 use Rattle.scan_manifest.specs.declared.manifest.Calls.{Calls}
 use Rattle.scan_manifest.specs.declared.manifest.FileSpec.{FileSpec}

@@ -4,6 +4,7 @@
 mod agreement;
 mod dtype;
 mod expression;
+mod hex_digits;
 mod json;
 mod layout;
 mod manifest;

@@ -15,14 +15,16 @@ ghost use Rattle.scan_values.specs.StrictSorted.{is_rising};
 use crate::agreement::files_agree;
 use crate::dtype::read_dtype;
 use crate::expression::read_expr;
+use crate::hex_digits::decode;
 use crate::json::{
     Form, ParseFault, has_form, member, read_flag, read_items, read_mark, read_number,
     read_number_to, read_pair, read_text,
 };
 use crate::layout::read_layout;
+use scan_caches::SegmentEviction;
 use scan_expr::{Expression, ScanRequest};
 use scan_layout::LayoutRef;
-use scan_segments::{ByteBuffer, SegmentEviction, SegmentId};
+use scan_segments::{ByteBuffer, SegmentId};
 use scan_values::{DType, NoMemory, Selection, StrictSorted, Text};
 use serde_json::Value;
 use std::alloc::Global;
@@ -345,7 +347,7 @@ fn read_request(alloc: Global, json: &Value) -> Result<ScanRequest, ParseFault>
 fn read_hex(alloc: Global, text: &str) -> Result<ByteBuffer, ParseFault>
     ensures { IsParse (result_ok (decode_of text.now)) result }
 {
-    match hex::decode(alloc, text) {
+    match decode(alloc, text.as_bytes()) {
         Ok(bytes) => Ok(ByteBuffer::new(alloc, bytes)?),
         Err(hex::FromHexError::OutOfMemory) => Err(ParseFault::NoMemory),
         Err(_) => Err(ParseFault::Bad),

@@ -10,11 +10,11 @@ use Rattle.scan_values.specs.declared.ptype.PType.TheVariants.{U8, U32}
 use Rattle.scan_values.specs.declared.dtype.DTypeKind.{DTypeKind}
 use Rattle.scan_values.specs.Selections.{numbers}
 use Rattle.scan_values.specs.Val.{Val, int_val}
-use Rattle.scan_layout.specs.declared.spelling.Spelling.{Spelling}
-use Rattle.scan_layout.specs.declared.spelling.Spelling.TheVariants.{One, Two}
-use Rattle.scan_layout.specs.Written.{slots, slot_bytes, spelled}
-use Rattle.scan_layout.specs.Spelling.{width}
-use Rattle.scan_layout.proofs.RoundTrip.{int_bytes_length}
+use Rattle.scan_spelling.specs.declared.spelling.Spelling.{Spelling}
+use Rattle.scan_spelling.specs.declared.spelling.Spelling.TheVariants.{One, Two}
+use Rattle.scan_spelling.specs.Written.{slots, slot_bytes, spelled}
+use Rattle.scan_spelling.specs.Spelling.{width}
+use Rattle.scan_spelling.proofs.RoundTrip.{int_bytes_length}
 use Rattle.scan_run.specs.Generated.{id_of, element_of, elements_of, elements, offsets, offsets_from, pieces, piece_at, rows_of, numbered, number_type, spelled_piece, column_segments}
 use Rattle.scan_run.specs.GeneratedBytes.{cut_bytes}
 use Rattle.scan_run.proofs.Numbers.{numbers_step, count_numbers}

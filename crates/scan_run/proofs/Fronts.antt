@@ -1,5 +1,5 @@
 -- A text of which a front was appended.
-use Rattle.std.proofs.Common.{◌≡◌, ℕ, ◌+◌, ◌-◌, ◌≤◌, ◌<◌, List, [], ◌∷◌, ◌++◌, length, take-append-drop, sym, ap, ◌∙◌, append_assoc, arith, subst}
+use Rattle.std.proofs.Common.{◌≡◌, ℕ, ◌+◌, ◌-◌, ◌≤◌, ◌<◌, List, ◌++◌, length, take-append-drop, sym, ap, ◌∙◌, append_assoc, arith, subst}
 use Rattle.std.proofs.lemmas.List.{length-append}
 use Rattle.std.proofs.Math.Nat.{le_refl}
 use Rattle.std.specs.Prelude.{Result, Ok, Err, OnOk, OnErr, codes, get_or, drop, take}
@@ -46,10 +46,6 @@ err_kept (Err x) t rest old mid new e k h = front_kept t rest old mid new e k h
 pub err_none : {T E : Type 0} (r : Result T E) (t old new : List ℕ) → OnErr r (new ≡ old) → OnErr r (AppendsFront t old new)
 err_none (Ok x) t old new h = tt
 err_none (Err x) t old new h = front_none t old new h
-
-pub err_first : {T E : Type 0} (r : Result T E) (a b old new : List ℕ) → OnErr r (AppendsFront a old new) → OnErr r (AppendsFront (a ++ b) old new)
-err_first (Ok x) a b old new h = tt
-err_first (Err x) a b old new h = front_first a b old new h
 
 pub err_then : {T E : Type 0} (r : Result T E) (a b old mid new : List ℕ) → mid ≡ old ++ a → OnErr r (AppendsFront b mid new) → OnErr r (AppendsFront (a ++ b) old new)
 err_then (Ok x) a b old mid new e h = tt

@@ -1,29 +1,27 @@
 -- Generated files: they are lawful, and the line of their scan is that of their answer.
 use Rattle.std.proofs.Common.{◌≡◌, ◌≢◌, ◌⊎◌, inl, inr, ℕ, zero, suc, ◌+◌, ◌*◌, ◌<◌, ◌≤◌, List, [], ◌∷◌, ◌++◌, length, get_or, map, Bool, true, false, Option, None, Some, refl, sym, ap, ◌∙◌, subst, arith}
-use Rattle.std.specs.Prelude.{IfSome, IsSome, All, unwrap_or, codes, option_map}
+use Rattle.std.specs.Prelude.{IfSome, IsSome, All, unwrap_or, option_map}
 use Rattle.scan_values.specs.DataType.{DataType}
-use Rattle.scan_segments.specs.Source.{Store, none_live}
+use Rattle.scan_segments.specs.Source.{Store}
 use Rattle.scan_segments.specs.MemorySource.{source_state}
-use Rattle.scan_segments.specs.Cache.{CacheState, empty_cache}
-use Rattle.scan_segments.specs.Faults.{capped}
+use Rattle.scan_segments.specs.Cache.{empty_cache}
 use Rattle.scan_segments.specs.declared.memory_source.MemorySource.{MemorySource}
-use Rattle.scan_layout.specs.declared.spelling.Spelling.{Spelling}
+use Rattle.scan_spelling.specs.declared.spelling.Spelling.{Spelling}
 use Rattle.scan_expr.specs.Infer.{infer}
 use Rattle.scan_opener.specs.Opener.{Given, skip, layout_of}
 use Rattle.scan_opener.specs.declared.opener.MemoryOpener.{MemoryOpener}
-use Rattle.scan_drive.specs.Traffic.{asked_keys}
 use Rattle.scan_drive.specs.declared.files.ScanFile.{ScanFile}
-use Rattle.scan_multi.specs.Answer.{Item, ToldFile, answer}
+use Rattle.scan_multi.specs.Answer.{ToldFile, answer}
 use Rattle.scan_multi.specs.Lawful.{told, told_file, IsLawful, Tells, Agrees, IsIdle}
-use Rattle.scan_multi.specs.Output.{ChunkData, OutputData, given, IsChunk, Admits}
+use Rattle.scan_multi.specs.Output.{OutputData, given}
 use Rattle.scan_expr.specs.declared.request.ScanRequest.{ScanRequest}
 use Rattle.scan_run.specs.Io.{OutputState}
 use Rattle.scan_run.specs.FileOf.{memory_opener}
 use Rattle.scan_run.specs.WriteAll.{WroteFront}
 use Rattle.scan_run.specs.Words.{IsGenerate}
 use Rattle.scan_run.specs.Generated.{table_type, generated_request}
-use Rattle.scan_run.specs.GeneratedFiles.{layout_at, store_at, IsGeneratedFile, AreGenerated}
-use Rattle.scan_run.specs.GeneratedLine.{told_at, generated_answer, totals_of, IsFirstRun, IsOutputOf, IsLineOf, IsGenerated, WroteFrontOfLine}
+use Rattle.scan_run.specs.GeneratedFiles.{layout_at, IsGeneratedFile, AreGenerated}
+use Rattle.scan_run.specs.GeneratedLine.{told_at, generated_answer, totals_of, IsOutputOf, IsLineOf, IsGenerated, WroteFrontOfLine}
 use Rattle.scan_run.specs.Totals.{with_chunks, no_totals, totals_line}
 use Rattle.scan_run.proofs.Totalling.{chunks_total}
 
@@ -87,9 +85,6 @@ same_three s n (a ∷ b ∷ d ∷ []) are (suc (suc zero)) (suc (suc zero)) f lt
 same_three s n (a ∷ b ∷ d ∷ []) are (suc (suc (suc i))) j f lt gt e = absurd (omega arith)
 same_three s n (a ∷ b ∷ d ∷ []) are i (suc (suc (suc j))) f lt gt e = absurd (omega arith)
 same_three s n (a ∷ b ∷ d ∷ g ∷ gs) are i j f lt gt e = absurd are
-
-agrees_empty : (name : List ℕ) (o : Option Store) → IfSome o (λ store. (id : ℕ) → Unit {0})
-agrees_empty name o = holds_none o
 
 pub lawful_three : (s : Spelling) (n : ℕ) (files : List File) → AreGenerated s n files → IsLawful memory_opener source_state files empty_cache
 lawful_three s n files are = record {

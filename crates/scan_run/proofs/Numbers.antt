@@ -5,7 +5,7 @@ use Rattle.std.specs.List.{range_with_len, flat_map}
 use Rattle.scan_values.specs.declared.dtype.DTypeKind.{DTypeKind}
 use Rattle.scan_values.specs.Selections.{numbers}
 use Rattle.scan_values.specs.Val.{Val}
-use Rattle.scan_layout.specs.Written.{slots, slot_bytes, flags, flag_of}
+use Rattle.scan_spelling.specs.Written.{slots, slot_bytes, flags, flag_of}
 use Rattle.scan_run.specs.Generated.{offsets_from, id_of, elements_of}
 
 pub numbers_step : (a b : ℕ) → a < b → numbers a b ≡ a ∷ numbers (a + 1) b
@@ -56,9 +56,6 @@ offsets_none k here f a b h = ap (λ ns. slots k (map id_of (offsets_from here (
 -- a list of which each item is made of its number
 pub map_step : {A : Type 0} (f : ℕ → A) (a b : ℕ) → a < b → map f (numbers a b) ≡ f a ∷ [] ++ map f (numbers (a + 1) b)
 map_step f a b h = ap (map f) (numbers_step a b h)
-
-pub map_none : {A : Type 0} (f : ℕ → A) (a b : ℕ) → b ≤ a → map f (numbers a b) ≡ []
-map_none f a b h = ap (map f) (numbers_none a b h)
 
 pub count_numbers : {A : Type 0} (f : ℕ → A) (first n : ℕ) → length (map f (numbers first (first + n))) ≡ n
 count_numbers f first n = length-map-range_with_len f first (first + n - first) ∙ omega arith

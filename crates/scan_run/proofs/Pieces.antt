@@ -40,6 +40,3 @@ wrote_more bytes n a b c w rest e h = record {
   faults = let f = w.faults in let g = h.faults in omega arith;
   short = let f = w.short in let g = h.short in omega arith;
 }
-
-pub all_written : (bytes : List ℕ) (a b : OutputState) (w : WroteFront bytes a b) → w.rest ≡ [] → b.written ≡ option_map (λ before. before ++ bytes) a.written
-all_written bytes a b w e = w.written ∙ ap (λ xs. option_map (λ before. before ++ xs) a.written) (sym (w.parts ∙ ap (λ xs. w.front ++ xs) e ∙ append-nil w.front))

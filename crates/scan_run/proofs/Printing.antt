@@ -1,5 +1,5 @@
 -- Values and fields, one after another.
-use Rattle.std.proofs.Common.{◌≡◌, ℕ, zero, suc, ◌+◌, ◌<◌, ◌≤◌, ◌==◌, List, [], ◌∷◌, ◌++◌, length, get_or, drop, map, Some, None, option_map, slice_get, Bool, true, false, refl, sym, ap, ◌∙◌, append_assoc, append-nil, subst, arith}
+use Rattle.std.proofs.Common.{◌≡◌, ℕ, zero, suc, ◌+◌, ◌<◌, ◌≤◌, ◌==◌, List, [], ◌∷◌, ◌++◌, length, get_or, drop, map, Some, None, slice_get, Bool, true, false, refl, sym, ap, ◌∙◌, append_assoc, append-nil, subst, arith}
 use Rattle.std.specs.Prelude.{codes}
 use Rattle.std.proofs.lemmas.Bool.{ne_eqb}
 use Rattle.std.proofs.lemmas.List.{drop_more, length-append}
@@ -91,11 +91,6 @@ fields_more vs fs i v f old t out new h at e inv k is =
           ∙ ap (λ b. new ++ fields_text b (vals_of (map val_of (drop (i + 1) vs))) (fields_of (drop (i + 1) fs))) (sym (not_zero i)),
       grows_by old out _ new k is,
     )
-
-pub mapped_get : {A B : Type 0} (f : A → B) (xs : List A) (i : ℕ) → slice_get (map f xs) i ≡ option_map f (slice_get xs i)
-mapped_get f [] i = refl
-mapped_get f (x ∷ xs) zero = refl
-mapped_get f (x ∷ xs) (suc i) = mapped_get f xs i
 
 -- what is left prints nothing
 pub nothing_more : (whole out rest : List ℕ) → whole ≡ out ++ rest → rest ≡ [] → out ≡ whole

@@ -9,7 +9,6 @@ use Rattle.scan_segments.specs.Faults.{Rose}
 use Rattle.scan_run.specs.ReadAll.{GaveAll, TookMore}
 use Rattle.scan_run.specs.WriteAll.{WroteFront}
 use Rattle.scan_manifest.specs.Manifest.{IsManifest}
-use Rattle.scan_manifest.proofs.CallerLemmas.{only_manifest}
 use Rattle.scan_run.specs.Run.{IsDone, IsRefused, IsFound, IsUnbound, IsUnreadable, IsFailing}
 use Rattle.scan_run.specs.Stops.{status_of, IsStop, IsTextOf, WroteFrontOfLines, Ends, IsReady}
 

@@ -7,11 +7,11 @@ use Rattle.std.specs.List.{range_with_len}
 use Rattle.scan_values.specs.Fits.{fits, fits_all}
 use Rattle.scan_values.specs.Selections.{numbers}
 use Rattle.scan_values.specs.Val.{Val, null_val, int_val, marked, marked_all, vals_of}
-use Rattle.scan_layout.specs.declared.spelling.Spelling.{Spelling}
-use Rattle.scan_layout.specs.declared.spelling.Spelling.TheVariants.{One, Two}
-use Rattle.scan_layout.specs.Spelling.{decode, are_bytes}
-use Rattle.scan_layout.specs.Written.{slots, flags, spelled, TextFits, IsText}
-use Rattle.scan_layout.proofs.Encoding.{again}
+use Rattle.scan_spelling.specs.declared.spelling.Spelling.{Spelling}
+use Rattle.scan_spelling.specs.declared.spelling.Spelling.TheVariants.{One, Two}
+use Rattle.scan_spelling.specs.Spelling.{decode, are_bytes}
+use Rattle.scan_spelling.specs.Written.{slots, flags, spelled, TextFits, IsText}
+use Rattle.scan_spelling.proofs.Encoding.{again}
 use Rattle.scan_run.specs.Generated.{value_of, value_type, values, piece_at, pieces, spelled_piece}
 use Rattle.scan_run.specs.GeneratedBytes.{signs}
 use Rattle.scan_run.proofs.Numbers.{count_numbers}

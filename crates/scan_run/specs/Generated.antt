@@ -13,9 +13,9 @@ use Rattle.scan_expr.specs.declared.op.Binary.TheVariants.{GreaterOrEqual}
 use Rattle.scan_expr.specs.declared.request.ScanRequest.{ScanRequest}
 use Rattle.scan_expr.specs.Expr.{Expr, root, literal, unary, binary, pack, parts_of}
 use Rattle.scan_layout.specs.declared.node.LayoutKind.TheVariants as kind
-use Rattle.scan_layout.specs.declared.spelling.Spelling.{Spelling}
+use Rattle.scan_spelling.specs.declared.spelling.Spelling.{Spelling}
 use Rattle.scan_layout.specs.Layout.{Layout, node, nodes, no_nodes}
-use Rattle.scan_layout.specs.Written.{spelled}
+use Rattle.scan_spelling.specs.Written.{spelled}
 
 -- ---- a row, by its number
 

@@ -3,7 +3,7 @@ use Rattle.std.specs.Prelude.{◌≡◌, ℕ, ◌*◌, List, [], ◌∷◌, Some
 use Rattle.scan_segments.specs.Source.{Store, SourceState, none_live}
 use Rattle.scan_segments.specs.MemorySource.{source_state}
 use Rattle.scan_segments.specs.declared.memory_source.MemorySource.{MemorySource}
-use Rattle.scan_layout.specs.declared.spelling.Spelling.{Spelling}
+use Rattle.scan_spelling.specs.declared.spelling.Spelling.{Spelling}
 use Rattle.scan_layout.specs.Layout.{Layout}
 use Rattle.scan_opener.specs.Opener.{OpenerState, layout_of}
 use Rattle.scan_opener.specs.declared.opener.MemoryOpener.{MemoryOpener}

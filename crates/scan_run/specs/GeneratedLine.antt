@@ -7,7 +7,7 @@ use Rattle.scan_segments.specs.declared.memory_source.MemorySource.{MemorySource
 use Rattle.scan_segments.specs.declared.segment.SegmentKey.{SegmentKey}
 use Rattle.scan_values.specs.DataType.{DataType}
 use Rattle.scan_expr.specs.declared.request.ScanRequest.{ScanRequest}
-use Rattle.scan_layout.specs.declared.spelling.Spelling.{Spelling}
+use Rattle.scan_spelling.specs.declared.spelling.Spelling.{Spelling}
 use Rattle.scan_opener.specs.Opener.{layout_of}
 use Rattle.scan_opener.specs.declared.opener.MemoryOpener.{MemoryOpener}
 use Rattle.scan_drive.specs.Traffic.{asked_keys}

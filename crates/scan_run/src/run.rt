@@ -2,7 +2,7 @@
 ghost use Rattle.std.specs.Prelude.{◌≡◌, ◌≢◌, ◌⊎◌, ◌↔◌, ◌<◌, ◌≤◌, ◌+◌, [], ◌∷◌, List, length, map, string_bytes, false, true, IfOk, IfErr, Some, None, if◌then◌else◌};
 ghost use Rattle.scan_segments.specs.Faults.{Rose};
 ghost use Rattle.scan_segments.specs.Cache.{empty_cache};
-ghost use Rattle.scan_segments.specs.Bounded.{bounded, keyed_state};
+ghost use Rattle.scan_caches.specs.Bounded.{bounded, keyed_state};
 ghost use Rattle.scan_opener.specs.Opener.{skip, layout_of};
 ghost use Rattle.scan_opener.specs.OpenerMemory.{given_of};
 ghost use Rattle.scan_multi.specs.Output.{ChunkData};
@@ -22,15 +22,17 @@ use crate::generate::{generated_of, generated_text};
 use crate::input::{Input, MOST_BYTES, ReadFault, read_all};
 use crate::output::{Output, WriteFault, write_all};
 use crate::print::push_chunks;
+use scan_caches::MokaSegmentCache;
 use scan_expr::ScanRequest;
 use scan_layout::LayoutRef;
 use scan_manifest::{
     CacheSpec, FileSpec, Files, LayoutTree, Manifest, ParseFault, manifest_of_bytes,
 };
 use scan_multi::{Gate, MemoryOpener, RangeFault, ScanFault, ScanFile, ScanOutput, scan_files};
-use scan_segments::{MemorySource, MokaSegmentCache, SegmentSourceId};
+use scan_segments::{MemorySource, SegmentSourceId};
 use scan_values::{DType, NoMemory};
 use std::alloc::Global;
+use std::hash::BuildHasher;
 use std::thread::Threads;
 
 fn is_scan(words: &[String]) -> bool
@@ -158,11 +160,12 @@ impl Drop for Asked {
 }
 
 /// The chunks of a manifest's scan.
-fn run_manifest<R: Threads + Sync, G: Gate>(
+fn run_manifest<R: Threads + Sync, G: Gate, S: BuildHasher + Copy + Drop>(
     rt: &R,
     alloc: Global,
     manifest: Manifest,
     gate: &G,
+    hasher: S,
 ) -> Result<ScanOutput, Stop>
     requires { all_agree manifest.files ≡ true }
     ensures ok { IfOk result (λ out. IsScanned manifest out.chunks) }
@@ -182,26 +185,31 @@ fn run_manifest<R: Threads + Sync, G: Gate>(
         cache,
     };
     match make_files(alloc, files) {
-        Ok(made) => scan_made(rt, alloc, &asked, made, gate),
+        Ok(made) => scan_made(rt, alloc, &asked, made, gate, hasher),
         Err(NoMemory) => Err(Stop::NoMemory),
     }
 }
 
-/// An empty cache of a manifest's size and eviction.
-fn new_cache(alloc: Global, size: &CacheSpec) -> Result<MokaSegmentCache, NoMemory>
+/// An empty cache of a manifest's size and eviction, whose keys are hashed by this.
+fn new_cache<S: BuildHasher + Copy + Drop>(
+    alloc: Global,
+    size: &CacheSpec,
+    hasher: S,
+) -> Result<MokaSegmentCache<S>, NoMemory>
     ensures exact { IfOk result (λ c. c ≡ bounded [] [] size.now.bytes size.now.entries size.now.eviction) }
     ensures empty { IfOk result (λ c. keyed_state c ≡ empty_cache) }
 {
-    MokaSegmentCache::new(alloc, size.bytes(), size.entries(), size.eviction())
+    MokaSegmentCache::with_hasher(alloc, size.bytes(), size.entries(), size.eviction(), hasher)
 }
 
 /// The chunks of a scan of files that were made.
-fn scan_made<R: Threads + Sync, G: Gate>(
+fn scan_made<R: Threads + Sync, G: Gate, S: BuildHasher + Copy + Drop>(
     rt: &R,
     alloc: Global,
     asked: &Asked,
     made: Vec<ScanFile<MemoryOpener, MemorySource>>,
     gate: &G,
+    hasher: S,
 ) -> Result<ScanOutput, Stop>
     requires { AreReady made.items }
     ensures ok { IfOk result (λ out. (m : Manifest) → IsAsked m asked.now → AreFilesOf m.files made.items →
@@ -210,7 +218,7 @@ fn scan_made<R: Threads + Sync, G: Gate>(
         IsStop m s) }
 {
     let mut files = made;
-    let mut cache = match new_cache(alloc, &asked.cache) {
+    let mut cache = match new_cache(alloc, &asked.cache, hasher) {
         Ok(cache) => cache,
         Err(NoMemory) => return Err(Stop::NoMemory),
     };
@@ -239,17 +247,18 @@ fn text_of(alloc: Global, out: &ScanOutput) -> Result<Vec<u8>, NoMemory>
 }
 
 /// The lines of a manifest's scan.
-fn scan_text<R: Threads + Sync, G: Gate>(
+fn scan_text<R: Threads + Sync, G: Gate, S: BuildHasher + Copy + Drop>(
     rt: &R,
     alloc: Global,
     manifest: Manifest,
     gate: &G,
+    hasher: S,
 ) -> Result<Vec<u8>, Stop>
     requires { all_agree manifest.files ≡ true }
     ensures ok { IfOk result (λ text. IsTextOf manifest text.items) }
     ensures stop { IfErr result (λ s. IsStop manifest s) }
 {
-    match run_manifest(rt, alloc, manifest, gate) {
+    match run_manifest(rt, alloc, manifest, gate, hasher) {
         Ok(out) => match text_of(alloc, &out) {
             Ok(text) => Ok(text),
             Err(NoMemory) => Err(Stop::NoMemory),
@@ -279,18 +288,19 @@ fn take_manifest<I: Input>(alloc: Global, input: &mut I) -> Result<Manifest, u8>
 }
 
 /// The lines of the scan of the manifest that an input is, or a status.
-fn take_text<R: Threads + Sync, I: Input, G: Gate>(
+fn take_text<R: Threads + Sync, I: Input, G: Gate, S: BuildHasher + Copy + Drop>(
     rt: &R,
     alloc: Global,
     input: &mut I,
     gate: &G,
+    hasher: S,
 ) -> Result<Vec<u8>, u8>
     ensures ok { IfOk result (λ text. IsReady text.items (I.input input.old) (I.input input.new)) }
     ensures end { IfErr result (λ s. Ends s (I.input input.old) (I.input input.new)) }
     ensures stops { (I.input input.new).taken ≤ (I.input input.old).taken + (MOST_BYTES + 65_536) }
 {
     match take_manifest(alloc, input) {
-        Ok(manifest) => match scan_text(rt, alloc, manifest, gate) {
+        Ok(manifest) => match scan_text(rt, alloc, manifest, gate, hasher) {
             Ok(text) => Ok(text),
             Err(stop) => Err(status_of(stop)),
         },
@@ -334,15 +344,17 @@ fn run_generated<R: Threads + Sync, O: Output, G: Gate>(
 /// 0 the lines were written, 1 other words, 2 the input is no manifest, 3 the request does not bind,
 /// 4 a file's layout is of another dtype or not well-formed, a segment is missing or damaged, or an expression overflows,
 /// 5 an opener or a source failed, 6 the input or the output failed or the input has more than 67,108,864 bytes, 7 want
-/// of memory. Whatever the status, reading stops once more than 67,108,864 bytes were read.
+/// of memory. Whatever the status, reading stops once more than 67,108,864 bytes were read. A manifest names sources and
+/// segments, and the cache hashes these names by `hasher`: `main` hands one in that is seeded at random.
 #[tactic(none)]
-pub fn run<R: Threads + Sync, I: Input, O: Output, G: Gate>(
+pub fn run<R: Threads + Sync, I: Input, O: Output, G: Gate, S: BuildHasher + Copy + Drop>(
     rt: &R,
     alloc: Global,
     words: &[String],
     input: &mut I,
     output: &mut O,
     gate: &G,
+    hasher: S,
 ) -> u8
     ensures done { is_scan_words (map string_bytes words.now) ≡ true → result ≡ 0 →
         IsDone (I.input input.old) (I.input input.new) (O.output output.old) (O.output output.new) }
@@ -374,7 +386,7 @@ pub fn run<R: Threads + Sync, I: Input, O: Output, G: Gate>(
     if !is_scan(words) {
         return run_generated(rt, alloc, words, output, gate);
     }
-    match take_text(rt, alloc, input, gate) {
+    match take_text(rt, alloc, input, gate, hasher) {
         Ok(text) => match write_all(output, text.as_slice()) {
             Ok(()) => 0,
             Err(WriteFault::Failed) => 6,

@@ -4,6 +4,7 @@
 
 use scan_run::run::run;
 use scan_run::{NoGate, StdInput, StdOutput};
+use std::collections::hash_map::RandomState;
 use std::env;
 use std::io::{Error, ErrorKind};
 use std::process::ExitCode;
@@ -22,6 +23,9 @@ fn main(rt: HostRuntime) -> ExitCode {
     let mut input = StdInput::new(rt.stdin());
     let mut output = StdOutput::new(rt.stdout());
     let gate = NoGate::new();
+    let Ok(hasher) = RandomState::new(&rt) else {
+        return ExitCode::from(7);
+    };
     ExitCode::from(run(
         &rt,
         rt.alloc(),
@@ -29,6 +33,7 @@ fn main(rt: HostRuntime) -> ExitCode {
         &mut input,
         &mut output,
         &gate,
+        hasher,
     ))
 }
 

@@ -1,8 +1,8 @@
 //! The columns of a generated file, as bytes.
 ghost use Rattle.std.specs.Prelude.{◌≡◌, ◌≤◌, ◌<◌, ◌+◌, ◌*◌, ◌++◌, IfOk, OnOk, length, map, true};
 ghost use Rattle.scan_values.specs.Selections.{numbers};
-ghost use Rattle.scan_layout.specs.Spelling.{are_bytes};
-ghost use Rattle.scan_layout.specs.Written.{slots, flags, slot_bytes, flag_of};
+ghost use Rattle.scan_spelling.specs.Spelling.{are_bytes};
+ghost use Rattle.scan_spelling.specs.Written.{slots, flags, slot_bytes, flag_of};
 ghost use Rattle.scan_run.specs.Generated.{id_of, value_of, element_of, elements_of, ids, values, elements, offsets};
 ghost use Rattle.scan_run.specs.GeneratedBytes.{longs, signs, bytes_only};
 

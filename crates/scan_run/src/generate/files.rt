@@ -1,13 +1,13 @@
 //! Generated files, as objects in memory.
 ghost use Rattle.std.specs.Prelude.{◌≡◌, ◌≤◌, ◌+◌, ◌++◌, [], ◌∷◌, IfOk, OnOk, length};
-ghost use Rattle.scan_layout.specs.Written.{slots};
+ghost use Rattle.scan_spelling.specs.Written.{slots};
 ghost use Rattle.scan_layout.specs.LayoutView.{layouts_of};
 ghost use Rattle.scan_run.specs.Generated.{piece_count, ids, elements, offsets, number_type, column_segments, file_segments, leaf_layout, list_layout, file_layout};
 ghost use Rattle.scan_run.specs.GeneratedBytes.{bytes_only};
 ghost use Rattle.scan_run.specs.GeneratedFiles.{GivesLayout, IsGeneratedSource, IsGeneratedFile, AreGenerated};
 ghost use Rattle.scan_run.specs.FileOf.{memory_opener};
 ghost use Rattle.scan_segments.specs.MemorySource.{source_state};
-ghost use Rattle.scan_layout.specs.declared.spelling.Spelling.{Spelling};
+ghost use Rattle.scan_spelling.specs.declared.spelling.Spelling.{Spelling};
 
 use super::columns::{element_bytes, id_bytes, offset_bytes};
 use super::request::{lists_type, number_type, table_type, value_type};

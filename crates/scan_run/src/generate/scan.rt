@@ -1,7 +1,7 @@
 //! A scan of generated files.
 ghost use Rattle.std.specs.Prelude.{◌≡◌, ◌≤◌, ◌+◌, IfOk, All, length};
 ghost use Rattle.scan_segments.specs.Cache.{empty_cache};
-ghost use Rattle.scan_segments.specs.Bounded.{keyed_state};
+ghost use Rattle.scan_caches.specs.Bounded.{keyed_state};
 ghost use Rattle.scan_segments.specs.MemorySource.{source_state};
 ghost use Rattle.scan_multi.specs.Lawful.{IsIdle};
 ghost use Rattle.scan_multi.specs.Scans.{IsScan, ScanMoves};
@@ -14,12 +14,13 @@ ghost use Rattle.scan_run.specs.Totals.{no_totals, with_chunks, totals_line};
 use super::files::make_files;
 use super::request::{generated_request, table_type};
 use super::totals::{push_totals, totals_of};
+use scan_caches::{MokaSegmentCache, SegmentEviction};
 use scan_drive::ScanFile;
 use scan_expr::ScanRequest;
 use scan_layout::Spelling;
 use scan_multi::{Gate, ScanOutput, scan_files};
 use scan_opener::MemoryOpener;
-use scan_segments::{MemorySource, MokaSegmentCache, SegmentEviction};
+use scan_segments::MemorySource;
 use scan_values::{DType, NoMemory};
 use std::alloc::Global;
 use std::thread::Threads;

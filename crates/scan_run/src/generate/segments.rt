@@ -1,8 +1,8 @@
 //! A column in segments of a thousand rows, the last one shorter.
 ghost use Rattle.std.specs.Prelude.{◌≡◌, ◌≤◌, ◌+◌, ◌*◌, ◌++◌, [], ◌∷◌, min, List, Some, IfOk, OnOk, length, map};
 ghost use Rattle.scan_values.specs.Val.{Val};
-ghost use Rattle.scan_layout.specs.Spelling.{decode};
-ghost use Rattle.scan_layout.specs.Written.{spelled};
+ghost use Rattle.scan_spelling.specs.Spelling.{decode};
+ghost use Rattle.scan_spelling.specs.Written.{spelled};
 ghost use Rattle.scan_run.specs.Generated.{piece_count, pieces, piece_rows, value_type, values, column_segments, numbered};
 ghost use Rattle.scan_run.specs.GeneratedBytes.{cut_bytes};
 

@@ -1,7 +1,7 @@
 //! The words that ask for generated files.
 ghost use Rattle.std.specs.Prelude.{◌≡◌, ℕ, IfSome, None, bytes_eq, map, string_bytes};
 ghost use Rattle.std.specs.Fmt.{decimal};
-ghost use Rattle.scan_layout.specs.declared.spelling.Spelling.{Spelling};
+ghost use Rattle.scan_spelling.specs.declared.spelling.Spelling.{Spelling};
 ghost use Rattle.scan_run.specs.Words.{IsRows, spelling_word, IsAsking, IsGenerate};
 
 use itoa::Buffer;

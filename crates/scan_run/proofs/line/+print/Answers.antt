@@ -5,7 +5,7 @@ use Rattle.scan_values.specs.Val.{vals_of}
 use Rattle.scan_values.specs.Values.{val_of}
 use Rattle.scan_run.specs.Line.{comma, quoted, value_text, elements_text, fields_text, element_in, fields_in, AppendsFront}
 use Rattle.scan_run.proofs.Printing.{one_size, elements_step, elements_more, fields_step, fields_past, fields_more, no_fields_text, nothing_more, list_is, struct_is}
-use Rattle.scan_run.proofs.Fronts.{on_err, front_none, front_first, front_then, front_next, front_kept, err_none, err_first, err_then}
+use Rattle.scan_run.proofs.Fronts.{on_err, front_none, front_first, front_then, front_next, front_kept, err_none, err_then}
 use Rattle.scan_run.proofs.line.+print.Goals as goal
 
 pub push_value-returns-in-Null-clause-front : goal.push_value-returns-in-Null-clause-front

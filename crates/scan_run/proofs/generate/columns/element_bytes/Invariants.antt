@@ -1,7 +1,7 @@
 use Rattle.std.proofs.Common.{◌≡◌, ◌++◌}
 use Rattle.std.specs.List.{flat_map}
 use Rattle.scan_values.specs.Selections.{numbers}
-use Rattle.scan_layout.specs.Written.{slots}
+use Rattle.scan_spelling.specs.Written.{slots}
 use Rattle.scan_run.specs.Generated.{elements_of, elements}
 use Rattle.scan_run.specs.GeneratedBytes.{bytes_only}
 use Rattle.scan_run.proofs.generate.columns.element_bytes.Given as goal

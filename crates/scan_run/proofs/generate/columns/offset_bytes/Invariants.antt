@@ -1,6 +1,6 @@
 use Rattle.std.proofs.Common.{◌≡◌, ◌≤◌, ◌+◌, ◌*◌, ◌%◌, ◌++◌, map}
 use Rattle.scan_values.specs.Selections.{numbers}
-use Rattle.scan_layout.specs.Written.{slots}
+use Rattle.scan_spelling.specs.Written.{slots}
 use Rattle.scan_run.specs.Generated.{id_of, offsets_from, offsets}
 use Rattle.scan_run.specs.GeneratedBytes.{longs}
 use Rattle.scan_run.proofs.generate.columns.offset_bytes.Given as goal

@@ -1,5 +1,5 @@
 use Rattle.std.proofs.Common.{◌≡◌, ◌++◌, rules}
-use Rattle.scan_layout.specs.Written.{slot_bytes}
+use Rattle.scan_spelling.specs.Written.{slot_bytes}
 use Rattle.scan_run.specs.Generated.{element_of}
 use Rattle.scan_run.specs.GeneratedBytes.{bytes_only}
 use Rattle.scan_run.proofs.Numbers.{carry, carried, slots_step, slots_none}

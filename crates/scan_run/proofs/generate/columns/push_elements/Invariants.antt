@@ -1,6 +1,6 @@
 use Rattle.std.proofs.Common.{◌≡◌, ◌++◌, map}
 use Rattle.scan_values.specs.Selections.{numbers}
-use Rattle.scan_layout.specs.Written.{slots}
+use Rattle.scan_spelling.specs.Written.{slots}
 use Rattle.scan_run.specs.Generated.{element_of, elements_of}
 use Rattle.scan_run.specs.GeneratedBytes.{bytes_only}
 use Rattle.scan_run.proofs.generate.columns.push_elements.Given as goal

@@ -1,5 +1,5 @@
 use Rattle.std.proofs.Common.{arith}
-use Rattle.scan_layout.proofs.Bytes.{small_items}
+use Rattle.scan_spelling.proofs.Bytes.{small_items}
 use Rattle.scan_run.specs.Generated.{value_of}
 use Rattle.scan_run.specs.GeneratedBytes.{signs}
 use Rattle.scan_run.proofs.Numbers.{carry, carried, slots_step, slots_none}

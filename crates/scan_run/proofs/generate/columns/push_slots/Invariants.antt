@@ -1,6 +1,6 @@
 use Rattle.std.proofs.Common.{◌≡◌, ◌++◌, map}
 use Rattle.scan_values.specs.Selections.{numbers}
-use Rattle.scan_layout.specs.Written.{slots}
+use Rattle.scan_spelling.specs.Written.{slots}
 use Rattle.scan_run.specs.Generated.{value_of, values}
 use Rattle.scan_run.specs.GeneratedBytes.{signs}
 use Rattle.scan_run.proofs.generate.columns.push_slots.Given as goal

@@ -1,5 +1,5 @@
 use Rattle.std.proofs.Common.{◌≡◌, ◌∷◌, ◌++◌, [], rules}
-use Rattle.scan_layout.specs.Written.{flag_of}
+use Rattle.scan_spelling.specs.Written.{flag_of}
 use Rattle.scan_run.specs.Generated.{value_of}
 use Rattle.scan_run.proofs.Numbers.{carry, carried, flags_step, flags_none}
 use Rattle.scan_run.proofs.generate.columns.value_flags.Goals as goal

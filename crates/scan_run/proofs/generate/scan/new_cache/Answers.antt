@@ -1,6 +1,6 @@
 use Rattle.std.proofs.Common.{ap}
 use Rattle.std.proofs.lemmas.Result.{IfOk-weaker}
-use Rattle.scan_segments.specs.Bounded.{keyed_state}
+use Rattle.scan_caches.specs.Bounded.{keyed_state}
 use Rattle.scan_run.proofs.generate.scan.new_cache.Goals as goal
 
 pub returns : goal.returns

@@ -1,6 +1,6 @@
 use Rattle.std.proofs.Common.{subst}
 use Rattle.scan_segments.specs.Cache.{CacheState}
-use Rattle.scan_segments.specs.Bounded.{keyed_state}
+use Rattle.scan_caches.specs.Bounded.{keyed_state}
 use Rattle.scan_segments.specs.MemorySource.{source_state}
 use Rattle.scan_segments.specs.declared.segment.SegmentKey.{SegmentKey}
 use Rattle.scan_multi.specs.Scans.{IsScan, ScanMoves}

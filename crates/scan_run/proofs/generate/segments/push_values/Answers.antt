@@ -1,7 +1,7 @@
 use Rattle.std.proofs.Common.{◌≡◌, ◌≤◌, ◌+◌, ◌-◌, ◌*◌, ◌++◌, ◌∷◌, [], ap, sym, ◌∙◌, map, arith}
 use Rattle.std.specs.Prelude.{slice_range}
 use Rattle.scan_values.specs.Selections.{numbers}
-use Rattle.scan_layout.specs.Written.{spelled}
+use Rattle.scan_spelling.specs.Written.{spelled}
 use Rattle.scan_run.specs.Generated.{piece_at, pieces, value_of, value_type, values, spelled_piece}
 use Rattle.scan_run.proofs.Numbers.{carry, map_step, count_numbers}
 use Rattle.scan_run.proofs.Valuing.{part_of_rows}
