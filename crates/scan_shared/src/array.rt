@@ -1,12 +1,13 @@
 //! The shared array: a source, and the first answer that was computed from it.
-ghost use Rattle.std.specs.Prelude.{◌≡◌, Some, None, IfOk, IsOk, OnErr, option_map};
+ghost use Rattle.std.specs.Prelude.{◌≡◌, Some, None, IfOk, IfSome, IsOk, OnErr, Result, option_map};
 ghost use Rattle.std.specs.Fn.{FnOnceReturnsAt};
-ghost use Rattle.scan_shared.specs.Shared.{array_of, answer_of, Remembers, Polls, Gave};
+ghost use Rattle.scan_values.specs.Arrays.{ArrayData};
+ghost use Rattle.scan_shared.specs.Shared.{array_of, answer_of, Remembers, Polls, Gave, IfDone};
 
 use once_cell::race::OnceBox;
 use scan_values::{Array, NoMemory};
 use std::alloc::Global;
-use std::marker::Model;
+use std::marker::{Brand, Model, PhantomData};
 
 /// The slots of a shared array.
 #[derive(Drop)]
@@ -18,23 +19,87 @@ impl SharedSlots {
 }
 
 /// Makes shared arrays.
-#[derive(Drop)]
+#[derive(Clone, Copy, Debug)]
 pub struct Shared;
+
+/// A law of answers: what each closure that computes an array has to give, and so what holds of each answer, whichever
+/// thread computed it.
+pub trait Law<E> {
+    ghost use Rattle.std.specs.Prelude.{Result};
+    ghost use Rattle.scan_values.specs.Arrays.{ArrayData};
+
+    ghost holds: { Result ArrayData E → Type 0 };
+}
+
+/// No law: an answer may be any. A function over a law that is called at `Brand` may be given one that speaks of what is
+/// at hand there, as of the source.
+impl<E> Law<E> for Brand {
+    ghost holds = { λ r. Unit {0} };
+}
+
+/// An answer of which the law holds.
+#[derive(Drop)]
+pub struct Answer<E: Drop, C: Law<E>> {
+    value: Result<Array, E>,
+    law: PhantomData<C>,
+}
+
+impl<E: Drop, C: Law<E>> Model for Answer<E, C> {
+    ghost use Rattle.std.specs.Prelude.{Result};
+    ghost use Rattle.scan_values.specs.Arrays.{ArrayData};
+    ghost use Rattle.scan_shared.specs.Shared.{answer_code};
+
+    ghost Value = { Result ArrayData E };
+
+    ghost coded = { answer_code E.code };
+
+    ghost view = { λ a. a.value };
+
+    ghost invariant = { λ a. C.holds a.value };
+}
+
+impl<E: Drop, C: Law<E>> Answer<E, C> {
+    fn new(value: Result<Array, E>) -> Answer<E, C>
+        requires { C.holds value }
+        ensures { result ≡ value }
+    {
+        Answer {
+            value,
+            law: PhantomData,
+        }
+    }
+
+    // An answer in a box.
+    fn boxed(alloc: Global, value: Result<Array, E>) -> Result<Box<Answer<E, C>>, NoMemory>
+        requires { C.holds value }
+        ensures { IfOk result (λ b. b.value ≡ value) }
+    {
+        Ok(Box::new(alloc, Answer::new(value))?)
+    }
+
+    fn lent<'a>(&'a self) -> Result<&'a Array, &'a E>
+        ensures value { answer_of result ≡ self.entry.now }
+        ensures holds { C.holds (answer_of result) }
+    {
+        self.value.as_ref()
+    }
+}
 
 /// What a caller knows of one shared array: which it is, and the answer that is kept, once it was seen. Each caller has
 /// its own. Two of one array may be compared: where both know an answer, it is the same one. A note takes no bytes.
-pub type Note<E> = once_cell::race::Note<Result<Array, E>>;
+pub type Note<E, C = Brand> = once_cell::race::Note<Answer<E, C>>;
 
 /// An array that is computed once from its source, and shared by reference. It keeps the first answer, a fault
-/// included. Contracts see the source, and which array it is.
+/// included. Each answer is one that a closure gave: the law `C`, which each closure has to keep, holds of it. Contracts
+/// see the source, and which array it is.
 #[derive(Drop)]
-pub struct SharedArray<E: Drop> {
+pub struct SharedArray<E: Drop, C: Law<E> = Brand> {
     source: Array,
-    cell: OnceBox<Result<Array, E>>,
+    cell: OnceBox<Answer<E, C>>,
     alloc: Global,
 }
 
-impl<E: Drop> Model for SharedArray<E> {
+impl<E: Drop, C: Law<E>> Model for SharedArray<E, C> {
     ghost use Rattle.scan_shared.specs.Shared.{SharedData, shared_data_code};
     ghost use Rattle.once_cell.specs.Once.{cell_name};
 
@@ -54,7 +119,10 @@ pub enum SharedPoll<'a, E> {
 
 impl Shared {
     /// An array that is to be computed from its source. It takes no memory, so it never refuses.
-    pub fn new<E: Drop>(alloc: Global, source: Array) -> Result<SharedArray<E>, NoMemory>
+    pub fn new<E: Drop, C: Law<E>>(
+        alloc: Global,
+        source: Array,
+    ) -> Result<SharedArray<E, C>, NoMemory>
         ensures made { IsOk result }
         ensures source { IfOk result (λ s. s.source ≡ source) }
     {
@@ -66,7 +134,7 @@ impl Shared {
     }
 }
 
-impl<E: Drop> SharedArray<E> {
+impl<E: Drop, C: Law<E>> SharedArray<E, C> {
     /// What the array is computed from.
     pub fn source(&self) -> &Array
         ensures { result.now ≡ self.now.source }
@@ -75,17 +143,18 @@ impl<E: Drop> SharedArray<E> {
     }
 
     /// A note of this array, which knows no answer yet.
-    pub fn note(&self) -> Note<E>
+    pub fn note(&self) -> Note<E, C>
         ensures { (result.cell ≡ self.now.cell) × (result.known ≡ None) }
     {
         self.cell.note()
     }
 
     /// The computed array, or the source while nothing or a fault is kept. The note knows what was kept from then on.
-    pub fn current_array_ref<'a>(&'a self, n: &mut Note<E>) -> &'a Array
+    pub fn current_array_ref<'a>(&'a self, n: &mut Note<E, C>) -> &'a Array
         requires { n.old.cell ≡ self.now.cell }
         ensures note { (n.new.cell ≡ n.old.cell) × Remembers n.old.known n.new.known }
         ensures array { result.now ≡ array_of self.now.source n.new.known }
+        ensures holds { IfSome n.new.known C.holds }
     {
         match self.kept(n) {
             Some(Ok(array)) => array,
@@ -94,36 +163,32 @@ impl<E: Drop> SharedArray<E> {
     }
 
     // The answer that is kept, if the note or the array has one.
-    fn kept<'a>(&'a self, n: &mut Note<E>) -> Option<Result<&'a Array, &'a E>>
+    fn kept<'a>(&'a self, n: &mut Note<E, C>) -> Option<Result<&'a Array, &'a E>>
         requires { n.old.cell ≡ self.now.cell }
         ensures cell { n.new.cell ≡ n.old.cell }
         ensures known { Remembers n.old.known n.new.known }
         ensures answer { option_map answer_of result ≡ n.new.known }
+        ensures holds { IfSome result (λ r. C.holds (answer_of r)) }
     {
         match self.cell.get_as(n) {
-            Some(answer) => Some(answer.as_ref()),
+            Some(answer) => Some(answer.lent()),
             None => None,
         }
     }
 
     // Keeps the answer, or drops it where another was kept first, and gives the one that is kept.
-    fn keep<'a>(
-        &'a self,
-        n: &mut Note<E>,
-        answer: Result<Array, E>,
-    ) -> Result<Result<&'a Array, &'a E>, NoMemory>
+    fn keep<'a>(&'a self, n: &mut Note<E, C>, answer: Box<Answer<E, C>>) -> Result<&'a Array, &'a E>
         requires { n.old.cell ≡ self.now.cell }
         ensures cell { n.new.cell ≡ n.old.cell }
         ensures known { Remembers n.old.known n.new.known }
-        ensures answer { IfOk result (λ r. n.new.known ≡ Some (answer_of r)) }
-        ensures refused { OnErr result (n.new.known ≡ n.old.known) }
+        ensures answer { n.new.known ≡ Some (answer_of result) }
+        ensures holds { C.holds (answer_of result) }
     {
-        let answer = Box::new(self.alloc, answer)?;
         if let Err(second) = self.cell.set_as(answer, n) {
             drop(second);
         }
         match self.kept(n) {
-            Some(kept) => Ok(kept),
+            Some(kept) => kept,
             None => unreachable!(),
         }
     }
@@ -132,31 +197,38 @@ impl<E: Drop> SharedArray<E> {
     /// are computed at once the first to finish is kept, and all get that one.
     pub fn get_or_compute<'a, F: FnOnce(&Array) -> Result<Array, E> + Drop>(
         &'a self,
-        n: &mut Note<E>,
+        n: &mut Note<E, C>,
         f: F,
     ) -> Result<Result<&'a Array, &'a E>, NoMemory>
         requires note { n.old.cell ≡ self.now.cell }
         requires callable { F.IsAlwaysCallable f }
+        requires lawful { (a : Result ArrayData E) → FnOnceReturnsAt F.FnOnce f self.now.source a → C.holds a }
         ensures note { (n.new.cell ≡ n.old.cell) × Remembers n.old.known n.new.known }
         ensures answer { IfOk result (λ r. n.new.known ≡ Some (answer_of r)) }
+        ensures holds { IfOk result (λ r. C.holds (answer_of r)) }
         ensures refused { OnErr result ((n.old.known ≡ None) × (n.new.known ≡ None)) }
         ensures computed { OnErr result (Gave (FnOnceReturnsAt F.FnOnce f self.now.source)) }
     {
         match self.kept(n) {
             Some(kept) => Ok(kept),
-            None => self.keep(n, f(&self.source)),
+            None => {
+                let answer = Answer::boxed(self.alloc, f(&self.source))?;
+                Ok(self.keep(n, answer))
+            }
         }
     }
 
     /// As `get_or_compute`, for an `f` that may have no answer yet: `Pending` where `f` ran and gave None.
     pub fn get_or_poll<'a, F: FnOnce(&Array) -> Option<Result<Array, E>> + Drop>(
         &'a self,
-        n: &mut Note<E>,
+        n: &mut Note<E, C>,
         f: F,
     ) -> Result<SharedPoll<'a, E>, NoMemory>
         requires note { n.old.cell ≡ self.now.cell }
         requires callable { F.IsAlwaysCallable f }
+        requires lawful { (a : Result ArrayData E) → FnOnceReturnsAt F.FnOnce f self.now.source (Some a) → C.holds a }
         ensures note { (n.new.cell ≡ n.old.cell) × Remembers n.old.known n.new.known }
+        ensures holds { IfOk result (IfDone C.holds) }
         ensures poll { IfOk result (Polls n.old.known n.new.known (FnOnceReturnsAt F.FnOnce f self.now.source None)) }
         ensures refused { OnErr result ((n.old.known ≡ None) × (n.new.known ≡ None)) }
         ensures computed { OnErr result (Gave (λ a. FnOnceReturnsAt F.FnOnce f self.now.source (Some a))) }
@@ -165,7 +237,10 @@ impl<E: Drop> SharedArray<E> {
             return Ok(SharedPoll::Done(kept));
         }
         match f(&self.source) {
-            Some(answer) => Ok(SharedPoll::Done(self.keep(n, answer)?)),
+            Some(answer) => {
+                let answer = Answer::boxed(self.alloc, answer)?;
+                Ok(SharedPoll::Done(self.keep(n, answer)))
+            }
             None => Ok(SharedPoll::Pending),
         }
     }

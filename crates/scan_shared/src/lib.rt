@@ -4,5 +4,5 @@
 mod array;
 mod vtable;
 
-pub use array::{Note, Shared, SharedArray, SharedPoll, SharedSlots};
+pub use array::{Answer, Law, Note, Shared, SharedArray, SharedPoll, SharedSlots};
 pub use vtable::SharedProbeState;

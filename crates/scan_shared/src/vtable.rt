@@ -3,7 +3,7 @@ ghost use Rattle.std.specs.Prelude.{◌≡◌, option_map, slice_get};
 ghost use Rattle.scan_values.specs.Values.{val_of};
 ghost use Rattle.scan_shared.specs.Shared.{array_of, Remembers};
 
-use crate::array::{Note, SharedArray};
+use crate::array::{Law, Note, SharedArray};
 use scan_values::Value;
 
 /// What is kept between reads of single items: nothing, since an array's items are read by their place.
@@ -17,10 +17,10 @@ impl SharedProbeState {
     }
 
     /// The item at a place of the array that `current_array_ref` gives, or None past its end.
-    pub fn probe<'a, E: Drop>(
+    pub fn probe<'a, E: Drop, C: Law<E>>(
         &mut self,
-        s: &'a SharedArray<E>,
-        n: &mut Note<E>,
+        s: &'a SharedArray<E, C>,
+        n: &mut Note<E, C>,
         i: usize,
     ) -> Option<&'a Value>
         requires { n.old.cell ≡ s.now.cell }
