@@ -10,6 +10,7 @@ use scan_run::run::run;
 use scan_run::{MemoryInput, MemoryOutput, NoGate};
 use scan_values::NoMemory;
 use std::alloc::Global;
+use std::hash::BuildHasher;
 use std::thread::Threads;
 
 /// The words with which the program is called.
@@ -22,9 +23,14 @@ fn scan_words(alloc: Global) -> Result<Vec<String>, NoMemory>
 }
 
 /// The lines that the program writes for the bytes of a manifest, or its status. Lines are those of an output that the
-/// manifest admits; a status of 2 means that the bytes are no manifest.
+/// manifest admits; a status of 2 means that the bytes are no manifest. The cache hashes the manifest's names by `hasher`.
 #[tactic(none)]
-pub fn lines_of<R: Threads + Sync>(rt: &R, alloc: Global, manifest: Vec<u8>) -> Result<Vec<u8>, u8>
+pub fn lines_of<R: Threads + Sync, S: BuildHasher + Copy + Drop>(
+    rt: &R,
+    alloc: Global,
+    manifest: Vec<u8>,
+    hasher: S,
+) -> Result<Vec<u8>, u8>
     ensures lines { IfOk result (λ lines. AreLinesOf manifest.items lines.items) }
     ensures refused { result ≡ Err 2 → (m : Manifest) → ¬ IsManifest manifest.items m }
 {
@@ -40,6 +46,7 @@ pub fn lines_of<R: Threads + Sync>(rt: &R, alloc: Global, manifest: Vec<u8>) -> 
         &mut input,
         &mut output,
         &NoGate::new(),
+        hasher,
     );
     if status == 0 {
         return Ok(output.bytes);
