@@ -1,0 +1,9 @@
+pub mod Permuting
+pub mod Sums
+pub mod Regrouping
+pub mod Extremes
+pub mod Totalling
+pub mod Exact
+pub mod Entries
+pub mod Grouping
+pub mod Whole

@@ -1,0 +1,51 @@
+-- Lists of the same elements in another order.
+use Rattle.std.proofs.Common.{ℕ, zero, suc, ◌<◌, Bool, true, false, List, [], ◌∷◌, filter, length, get_or, set, swap, arith, IsPermutation}
+use Rattle.std.specs.Prelude.{cond}
+use Rattle.std.proofs.lemmas.List.Sorted.{IsPermutation-refl, IsPermutation-cons, IsPermutation-keeps, IsPermutation-trans, IsPermutation-append_left, IsPermutation-append_comm}
+
+-- ---- what goes under a first element, over an exchange of two, and one after the other, goes along each permutation
+module _ {X : Type 0} (R : List X → List X → Type 0) (same : (xs : List X) → R xs xs) (skip : (x : X) (xs ys : List X) → R xs ys → R (x ∷ xs) (x ∷ ys))
+    (turn : (x y : X) (xs : List X) → R (x ∷ y ∷ xs) (y ∷ x ∷ xs)) (chain : (xs ys zs : List X) → R xs ys → R ys zs → R xs zs) where
+  to_front : (l : List X) (j : ℕ) (x d : X) → j < length l → R (x ∷ l) (get_or l j d ∷ set l j x)
+  to_front [] j x d h = absurd (omega arith)
+  to_front (y ∷ l) zero x d h = turn x y l
+  to_front (y ∷ l) (suc j) x d h =
+      chain (x ∷ y ∷ l) (y ∷ x ∷ l) (get_or l j d ∷ y ∷ set l j x) (turn x y l)
+      (chain (y ∷ x ∷ l) (y ∷ get_or l j d ∷ set l j x) (get_or l j d ∷ y ∷ set l j x) (skip y (x ∷ l) (get_or l j d ∷ set l j x) (to_front l j x d (omega arith))) (turn y (get_or l j d) (set l j x)))
+
+  set_twice : (l : List X) (i j : ℕ) (d : X) → i < length l → j < length l → R l (set (set l i (get_or l j d)) j (get_or l i d))
+  set_twice [] i j d p q = absurd (omega arith)
+  set_twice (x ∷ l) zero zero d p q = same (x ∷ l)
+  set_twice (x ∷ l) zero (suc j) d p q = to_front l j x d (omega arith)
+  set_twice (x ∷ l) (suc i) zero d p q = to_front l i x d (omega arith)
+  set_twice (x ∷ l) (suc i) (suc j) d p q = skip x l (set (set l i (get_or l j d)) j (get_or l i d)) (set_twice l i j d (omega arith) (omega arith))
+
+  swapped : (l : List X) (i j : ℕ) → i < length l → j < length l → R l (swap l i j)
+  swapped [] i j p q = absurd (omega arith)
+  swapped (x ∷ l) i j p q = set_twice (x ∷ l) i j x p q
+
+  pub along_permutation : (xs ys : List X) → IsPermutation xs ys → R xs ys
+  along_permutation xs = IsPermutation-keeps xs (R xs) (same xs) (λ l i j p q h. chain xs l (swap l i j) h (swapped l i j p q))
+
+-- those that pass a test
+pub passed_alike : {A : Type 0} (p : A → Bool) (xs ys : List A) → IsPermutation xs ys → IsPermutation (filter p xs) (filter p ys)
+passed_alike {A} p = along_permutation (λ xs ys. IsPermutation (filter p xs) (filter p ys)) (λ xs. IsPermutation-refl (filter p xs)) under over (λ xs ys zs. IsPermutation-trans (filter p xs) (filter p ys) (filter p zs))
+  where
+    under : (x : A) (xs ys : List A) → IsPermutation (filter p xs) (filter p ys) → IsPermutation (filter p (x ∷ xs)) (filter p (x ∷ ys))
+    under x xs ys h = go (p x)
+      where
+        go : (b : Bool) → IsPermutation (cond b (x ∷ filter p xs) (filter p xs)) (cond b (x ∷ filter p ys) (filter p ys))
+        go true = IsPermutation-cons x (filter p xs) (filter p ys) h
+        go false = h
+
+    over : (x y : A) (xs : List A) → IsPermutation (filter p (x ∷ y ∷ xs)) (filter p (y ∷ x ∷ xs))
+    over x y xs = go (p x) (p y)
+      where
+        two : IsPermutation (x ∷ y ∷ filter p xs) (y ∷ x ∷ filter p xs)
+        two = IsPermutation-append_left (filter p xs) (x ∷ y ∷ []) (y ∷ x ∷ []) (IsPermutation-append_comm (x ∷ []) (y ∷ []))
+
+        go : (a b : Bool) → IsPermutation (cond a (x ∷ cond b (y ∷ filter p xs) (filter p xs)) (cond b (y ∷ filter p xs) (filter p xs))) (cond b (y ∷ cond a (x ∷ filter p xs) (filter p xs)) (cond a (x ∷ filter p xs) (filter p xs)))
+        go true true = two
+        go true false = IsPermutation-refl (x ∷ filter p xs)
+        go false true = IsPermutation-refl (y ∷ filter p xs)
+        go false false = IsPermutation-refl (filter p xs)
