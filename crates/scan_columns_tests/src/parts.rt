@@ -1,7 +1,7 @@
 //! Columns of lists and of structs, and columns from a leaf's segment.
 use scan_columns::Column;
-use scan_layout::{LeafColumn, Spelling};
 use scan_segments::ByteBuffer;
+use scan_spelling::{LeafColumn, Spelling};
 use scan_values::{Array, DType, Mask, Nullability, PType, Value};
 use std::alloc::Global;
 use std::sync::Arc;

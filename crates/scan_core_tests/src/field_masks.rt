@@ -125,6 +125,18 @@ fn bound(alloc: Global, case: Case) -> Result<BoundExpression, Fail> {
     Ok(expression(alloc, case)?.bind(alloc, &dtype)?)
 }
 
+/// The struct of the numbers `a` and `b`.
+fn pair(alloc: Global) -> Result<DType, Fail> {
+    let names = two(alloc, "a", "b")?;
+    let mut dtypes = Vec::new(alloc);
+    dtypes.push(number())?;
+    dtypes.push(number())?;
+    if names.len() != dtypes.len() {
+        return Err(Fail::from("uneven"));
+    }
+    Ok(DType::struct_(StructFields::new(names, dtypes), Nullability::NonNullable)?)
+}
+
 /// Masks as texts, `$` for all.
 fn spelled(alloc: Global, masks: &[FieldMask]) -> Result<String, Fail> {
     let mut text = String::new(alloc);
@@ -160,6 +172,20 @@ fn masks_are_the_paths_of_what_is_used(rt: HostRuntime) -> Result<(), Fail> {
         let text = spelled(alloc, &masks)?;
         assert_eq!(rt; text.as_str(), wanted);
     }
+    Ok(())
+}
+
+#[test]
+fn a_field_and_the_field_of_a_filter_are_two_paths(rt: HostRuntime) -> Result<(), Fail> {
+    let alloc = rt.alloc();
+    let dtype = pair(alloc)?;
+    let projection = field(alloc, "a", Expression::root())?.bind(alloc, &dtype)?;
+    let b = field(alloc, "b", Expression::root())?;
+    let one = Expression::lit(number(), Value::Int(1));
+    let filter = Expression::eq(alloc, b, one)?.bind(alloc, &dtype)?;
+    let masks = referenced_field_masks(alloc, &projection, Some(&filter))?;
+    let text = spelled(alloc, &masks)?;
+    assert_eq!(rt; text.as_str(), "$.a$.b");
     Ok(())
 }
 

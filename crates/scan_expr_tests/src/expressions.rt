@@ -3,7 +3,7 @@ ghost use Rattle.std.specs.Prelude.{◌≡◌, false, IfOk};
 ghost use Rattle.scan_expr.specs.Expr.{uses_row_index};
 
 use scan_expr::{Binary, BindFault, BoundExpression, Expression, ScanRequest};
-use scan_values::{Array, DType, FieldName, Nullability, PType, StructFields, Value, Values};
+use scan_values::{Array, DType, FieldName, Nullability, PType, StructFields, Value};
 use std::alloc::Global;
 use std::test::Fail;
 use std::thread::join;
@@ -75,6 +75,14 @@ fn is_null(alloc: Global) -> Result<Expression, Fail>
     ensures { IfOk result (λ e. uses_row_index e ≡ false) }
 {
     Ok(Expression::is_null(alloc, Expression::root())?)
+}
+
+/// `not(is_null($))`.
+fn is_no_null(alloc: Global) -> Result<Expression, Fail>
+    ensures { IfOk result (λ e. uses_row_index e ≡ false) }
+{
+    let null = is_null(alloc)?;
+    Ok(Expression::not(alloc, null)?)
 }
 
 fn is_here(alloc: Global) -> Result<Expression, Fail> {
@@ -266,119 +274,6 @@ fn comparisons_are_evaluated_on_null_and_on_a_value(rt: HostRuntime) -> Result<(
     Ok(())
 }
 
-/// Whether it equals 1, with or without that it is below 1.
-fn logic(alloc: Global, is_and: bool) -> Result<Expression, Fail> {
-    let equal = comparison(alloc, Binary::Equal)?;
-    let below = comparison(alloc, Binary::Less)?;
-    if is_and {
-        Ok(Expression::and(alloc, equal, below)?)
-    } else {
-        Ok(Expression::or(alloc, equal, below)?)
-    }
-}
-
-#[test]
-fn logic_is_evaluated_on_null_and_on_a_value(rt: HostRuntime) -> Result<(), Fail> {
-    let alloc = rt.alloc();
-    for (is_and, of_one) in [(true, false), (false, true)] {
-        let e = logic(alloc, is_and)?;
-        assert!(rt; gives(alloc, e, Want::Null, Want::Truth(of_one))?);
-    }
-    Ok(())
-}
-
-/// The struct of 1 and 2.
-fn one_and_two(alloc: Global) -> Result<Value, Fail> {
-    let mut items = Vec::new(alloc);
-    items.push(Value::Int(1))?;
-    items.push(Value::Int(2))?;
-    Ok(Value::Struct(Values::new(items)))
-}
-
-fn over_the_nullable_table(alloc: Global, e: Expression) -> Result<BoundExpression, Fail> {
-    let scope = table(alloc, Nullability::Nullable)?;
-    Ok(e.bind(alloc, &scope)?)
-}
-
-/// Whether an expression over a struct of 1 and 2 gives a struct of these numbers.
-fn gives_fields(alloc: Global, e: Expression, wanted: &[i128]) -> Result<bool, Fail> {
-    let bound = over_the_nullable_table(alloc, e)?;
-    let row = one_and_two(alloc)?;
-    let value = bound.value_at(alloc, &row, 0)?;
-    Ok(are_numbers(&value, wanted))
-}
-
-fn are_numbers(value: &Value, wanted: &[i128]) -> bool {
-    let Value::Struct(values) = value else {
-        return false;
-    };
-    let items = values.as_slice();
-    if items.len() != wanted.len() {
-        return false;
-    }
-    for (i, item) in items.iter().enumerate() {
-        if !is(item, Want::Number(wanted[i])) {
-            return false;
-        }
-    }
-    true
-}
-
-/// Structs of fields of the table.
-#[derive(Clone, Copy)]
-enum Struct {
-    Turned,
-    WithoutA,
-    Packed,
-}
-
-fn choice(alloc: Global, kind: Struct) -> Result<Expression, Fail> {
-    match kind {
-        Struct::Turned => select(alloc, &["b", "a"]),
-        Struct::WithoutA => exclude(alloc, &["a"]),
-        Struct::Packed => packed(alloc, "x", number(PType::I32, 5)),
-    }
-}
-
-#[test]
-fn fields_are_chosen_in_the_order_written(rt: HostRuntime) -> Result<(), Fail> {
-    let alloc = rt.alloc();
-    for (kind, wanted) in [
-        (Struct::Turned, [2, 1].as_slice()),
-        (Struct::WithoutA, [2].as_slice()),
-        (Struct::Packed, [5, 2].as_slice()),
-    ] {
-        let e = choice(alloc, kind)?;
-        assert!(rt; gives_fields(alloc, e, wanted)?);
-    }
-    Ok(())
-}
-
-/// The length of a nullable list.
-fn length(alloc: Global) -> Result<BoundExpression, Fail> {
-    let scope = DType::list(alloc, i32_of(Nullability::Nullable), Nullability::Nullable)?;
-    let length = Expression::list_length(alloc, Expression::root())?;
-    Ok(length.bind(alloc, &scope)?)
-}
-
-/// The list of 5 and null.
-fn five_and_null(alloc: Global) -> Result<Value, Fail> {
-    let mut items = Vec::new(alloc);
-    items.push(Value::Int(5))?;
-    items.push(Value::Null)?;
-    Ok(Value::List(Values::new(items)))
-}
-
-#[test]
-fn a_list_has_a_length_and_null_has_none(rt: HostRuntime) -> Result<(), Fail> {
-    let alloc = rt.alloc();
-    let length = length(alloc)?;
-    let list = five_and_null(alloc)?;
-    assert!(rt; value_is(alloc, &length, &list, Want::Number(2))?);
-    assert!(rt; value_is(alloc, &length, &Value::Null, Want::Null)?);
-    Ok(())
-}
-
 /// The values of an expression in which no row number stands, on the items of an array.
 fn applied(alloc: Global, e: &Expression, array: &Array) -> Result<Array, Fail>
     requires { uses_row_index e.now ≡ false }
@@ -397,7 +292,7 @@ fn null_and_one(alloc: Global) -> Result<Array, Fail> {
 
 fn null_tests(alloc: Global) -> Result<Array, Fail> {
     let array = null_and_one(alloc)?;
-    let e = is_null(alloc)?;
+    let e = is_no_null(alloc)?;
     applied(alloc, &e, &array)
 }
 
@@ -405,8 +300,8 @@ fn null_tests(alloc: Global) -> Result<Array, Fail> {
 fn an_expression_is_applied_to_an_array(rt: HostRuntime) -> Result<(), Fail> {
     let found = null_tests(rt.alloc())?;
     assert_eq!(rt; found.len(), 2);
-    assert!(rt; is(found.get(0), Want::Truth(true)));
-    assert!(rt; is(found.get(1), Want::Truth(false)));
+    assert!(rt; is(found.get(0), Want::Truth(false)));
+    assert!(rt; is(found.get(1), Want::Truth(true)));
     Ok(())
 }
 

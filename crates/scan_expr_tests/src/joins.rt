@@ -2,11 +2,11 @@
 ghost use Rattle.std.specs.Prelude.{◌≡◌, IfOk, length};
 ghost use Rattle.scan_expr.specs.Infer.{infer};
 ghost use Rattle.scan_partition.specs.Conditions.{IsStruct};
-ghost use Rattle.scan_partition.specs.Items.{IsExpanded};
+ghost use Rattle.scan_partition.specs.Partable.{CanPart};
 
 use crate::fixtures::{int, name};
 use scan_expr::{BoundExpression, Expression};
-use scan_partition::{PartitionedExpr, partition};
+use scan_partition::{PartitionedExpr, expand_struct_root, partition};
 use scan_values::{Array, DType, Nullability, StructFields, Value};
 use std::alloc::Global;
 use std::test::Fail;
@@ -22,21 +22,20 @@ fn nullable(alloc: Global) -> Result<DType, Fail>
     Ok(DType::struct_(StructFields::new(names, dtypes), Nullability::Nullable)?)
 }
 
-/// `mask($.a, is_not_null($))`.
-fn masked_field(alloc: Global) -> Result<Expression, Fail>
-    ensures { IfOk result (λ e. IsExpanded e) }
+/// `$.a`, expanded: `mask($.a, is_not_null($))`.
+fn masked_field(alloc: Global) -> Result<BoundExpression, Fail>
+    ensures { IfOk result (λ b. CanPart b) }
 {
+    let scope = nullable(alloc)?;
     let field = Expression::get_item(alloc, name(alloc, "a")?, Expression::root())?;
-    let here = Expression::is_not_null(alloc, Expression::root())?;
-    Ok(Expression::mask(alloc, field, here)?)
+    let bound = field.bind(alloc, &scope)?;
+    Ok(expand_struct_root(alloc, &bound)?)
 }
 
 /// The masked field, by its items.
 fn masked_parts(alloc: Global) -> Result<PartitionedExpr, Fail> {
-    let scope = nullable(alloc)?;
-    let expr = masked_field(alloc)?;
-    let bound = expr.bind(alloc, &scope)?;
-    Ok(partition(alloc, &bound)?)
+    let expanded = masked_field(alloc)?;
+    Ok(partition(alloc, &expanded)?)
 }
 
 /// Three numbers.

@@ -51,6 +51,14 @@ fn masks_made_of_a_mask(rt: HostRuntime) -> Result<(), Fail> {
 }
 
 #[test]
+fn a_mask_tells_its_true_rows(rt: HostRuntime) -> Result<(), Fail> {
+    let mask = mask(rt.alloc(), &[true, false, true, false])?;
+    assert_eq!(rt; mask.true_count(), 2);
+    assert_eq!(rt; (mask.first(), mask.last()), (Some(0), Some(2)));
+    Ok(())
+}
+
+#[test]
 fn masks_of_one_value(rt: HostRuntime) -> Result<(), Fail> {
     let alloc = rt.alloc();
     for (len, all_false) in [(2, false), (0, true)] {

@@ -8,9 +8,8 @@ use scan_expr::{BoundExpression, Expression};
 use scan_partition::{
     Item, ListChildrenNeeded, Partitioning, necessary_children, partition_row_idx,
 };
-use scan_values::{Array, DType, FieldName, Nullability, PType, StructFields, Value};
+use scan_values::{Array, DType, Nullability, PType, StructFields, Value};
 use std::alloc::Global;
-use std::string::String;
 use std::test::Fail;
 
 /// Expressions over a list.
@@ -49,15 +48,6 @@ fn a_list_is_read_by_what_an_expression_needs(rt: HostRuntime) -> Result<(), Fai
         let e = reading(alloc, kind)?;
         assert_eq!(rt; needed(alloc, &e)?, wanted);
     }
-    Ok(())
-}
-
-#[test]
-fn items_have_names(rt: HostRuntime) -> Result<(), Fail> {
-    let alloc = rt.alloc();
-    let item = Item::Field(name(alloc, "a")?);
-    assert_eq!(rt; item.name(), "a");
-    assert_eq!(rt; Item::Validity.name(), "#validity");
     Ok(())
 }
 
@@ -147,26 +137,6 @@ fn reads_neither(found: &Partitioning) -> bool {
 fn a_literal_reads_neither(rt: HostRuntime) -> Result<(), Fail> {
     let found = by_rows(rt.alloc(), &one(), &int())?;
     assert!(rt; reads_neither(&found));
-    Ok(())
-}
-
-/// Whether it is joined of the row number as it stands, and of the child.
-fn reads_both(found: &Partitioning) -> bool {
-    match found {
-        Partitioning::Both(parts) => match parts.items() {
-            [a, b] => a.name() == "row_idx" && b.name() == "child" && parts.part(0).is_root(),
-            _ => false,
-        },
-        _ => false,
-    }
-}
-
-#[test]
-fn the_row_number_beside_the_child(rt: HostRuntime) -> Result<(), Fail> {
-    let alloc = rt.alloc();
-    let expr = Expression::lt(alloc, Expression::row_idx(), Expression::root())?;
-    let found = by_rows(alloc, &expr, &number())?;
-    assert!(rt; reads_both(&found));
     Ok(())
 }
 

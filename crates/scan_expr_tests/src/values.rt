@@ -1,7 +1,7 @@
 //! Dtypes, values and arrays.
 use crate::fixtures::{int, name};
 use scan_values::{
-    Array, ArrayFault, DType, DTypeFault, FieldName, Mask, NameFault, Names, Nullability,
+    Array, ArrayFault, DType, DTypeFault, FieldName, Mask, NameFault, Names, Nullability, PType,
     StructFields, Text, Value, Values, names_fault,
 };
 use std::alloc::Global;
@@ -37,23 +37,30 @@ fn array(alloc: Global, numbers: &[i128]) -> Result<Array, Fail> {
     Ok(Array::try_new(int(), integers(alloc, numbers)?)?)
 }
 
-/// How a null is written among numbers.
-const NULL: i128 = -1;
+/// Whether a value is a number, or Null where none is wanted.
+fn is_number(value: &Value, wanted: Option<i128>) -> bool {
+    match (value, wanted) {
+        (Value::Int(number), Some(other)) => *number == other,
+        (Value::Null, None) => true,
+        _ => false,
+    }
+}
 
-fn are_numbers(values: &[Value], numbers: &[i128]) -> bool {
-    if values.len() != numbers.len() {
+fn are_numbers(values: &[Value], wanted: &[Option<i128>]) -> bool {
+    if values.len() != wanted.len() {
         return false;
     }
     for (i, value) in values.iter().enumerate() {
-        let number = match value {
-            Value::Int(number) => *number,
-            _ => NULL,
-        };
-        if number != numbers[i] {
+        if !is_number(value, wanted[i]) {
             return false;
         }
     }
     true
+}
+
+/// Whether an array is of numbers of i32 of this nullability, these.
+fn is_array(array: &Array, n: Nullability, wanted: &[Option<i128>]) -> bool {
+    *array.dtype() == DType::primitive(PType::I32, n) && are_numbers(array.as_slice(), wanted)
 }
 
 // ---- dtypes
@@ -78,20 +85,6 @@ fn twice_a(alloc: Global) -> Result<StructFields, Fail> {
         return Err(Fail::from("uneven"));
     }
     Ok(StructFields::new(names, dtypes))
-}
-
-fn place(alloc: Global, fields: &StructFields, text: &str) -> Result<Option<usize>, Fail> {
-    let name = name(alloc, text)?;
-    Ok(fields.find(&name))
-}
-
-#[test]
-fn structs_find_the_first_field_of_a_name(rt: HostRuntime) -> Result<(), Fail> {
-    let alloc = rt.alloc();
-    let fields = twice_a(alloc)?;
-    assert_eq!(rt; place(alloc, &fields, "a")?, Some(0));
-    assert_eq!(rt; place(alloc, &fields, "c")?, None);
-    Ok(())
 }
 
 fn is_copied(alloc: Global, dtype: &DType) -> Result<bool, Fail> {
@@ -123,41 +116,51 @@ fn names_are_looked_at_in_turn(rt: HostRuntime) -> Result<(), Fail> {
 }
 
 // ---- arrays
-fn is_slice(alloc: Global, array: &Array, wanted: &[i128]) -> Result<bool, Fail> {
+fn is_slice(alloc: Global, array: &Array, wanted: &[Option<i128>]) -> Result<bool, Fail> {
     if array.len() != 3 {
         return Ok(false);
     }
     let part = array.slice(alloc, 1..3)?;
-    Ok(are_numbers(part.as_slice(), wanted))
+    Ok(is_array(&part, Nullability::NonNullable, wanted))
 }
 
-fn is_filtered(alloc: Global, array: &Array, rows: &Mask, wanted: &[i128]) -> Result<bool, Fail> {
+fn is_filtered(
+    alloc: Global,
+    array: &Array,
+    rows: &Mask,
+    wanted: &[Option<i128>],
+) -> Result<bool, Fail> {
     if array.len() != rows.len() {
         return Ok(false);
     }
     let kept = array.filter(alloc, rows)?;
-    Ok(are_numbers(kept.as_slice(), wanted))
+    Ok(is_array(&kept, Nullability::NonNullable, wanted))
 }
 
-fn is_masked(alloc: Global, array: &Array, rows: &Mask, wanted: &[i128]) -> Result<bool, Fail> {
+fn is_masked(
+    alloc: Global,
+    array: &Array,
+    rows: &Mask,
+    wanted: &[Option<i128>],
+) -> Result<bool, Fail> {
     if array.len() != rows.len() {
         return Ok(false);
     }
     let masked = array.mask(alloc, rows)?;
-    Ok(are_numbers(masked.as_slice(), wanted))
+    Ok(is_array(&masked, Nullability::Nullable, wanted))
 }
 
-fn is_array_copied(alloc: Global, array: &Array, wanted: &[i128]) -> Result<bool, Fail> {
+fn is_array_copied(alloc: Global, array: &Array, wanted: &[Option<i128>]) -> Result<bool, Fail> {
     let copy = array.try_clone(alloc)?;
-    Ok(are_numbers(copy.as_slice(), wanted))
+    Ok(is_array(&copy, Nullability::NonNullable, wanted))
 }
 
 #[test]
 fn rows_of_an_array(rt: HostRuntime) -> Result<(), Fail> {
     let alloc = rt.alloc();
     let array = array(alloc, &[1, 2, 3])?;
-    assert!(rt; is_slice(alloc, &array, &[2, 3])?);
-    assert!(rt; is_array_copied(alloc, &array, &[1, 2, 3])?);
+    assert!(rt; is_slice(alloc, &array, &[Some(2), Some(3)])?);
+    assert!(rt; is_array_copied(alloc, &array, &[Some(1), Some(2), Some(3)])?);
     Ok(())
 }
 
@@ -171,8 +174,8 @@ fn rows_of_an_array_under_a_mask(rt: HostRuntime) -> Result<(), Fail> {
     let alloc = rt.alloc();
     let array = array(alloc, &[1, 2, 3])?;
     let rows = first_and_third(alloc)?;
-    assert!(rt; is_filtered(alloc, &array, &rows, &[1, 3])?);
-    assert!(rt; is_masked(alloc, &array, &rows, &[1, NULL, 3])?);
+    assert!(rt; is_filtered(alloc, &array, &rows, &[Some(1), Some(3)])?);
+    assert!(rt; is_masked(alloc, &array, &rows, &[Some(1), None, Some(3)])?);
     Ok(())
 }
 
@@ -249,8 +252,8 @@ fn arrays_and_values_pass_through_a_thread(rt: HostRuntime) -> Result<(), Fail> 
     let array = array(alloc, &[1, 2])?;
     let values = integers(alloc, &[3])?;
     let (array, values) = join(&rt, move || array, move || values);
-    assert!(rt; are_numbers(array.as_slice(), &[1, 2]));
-    assert!(rt; are_numbers(values.as_slice(), &[3]));
+    assert!(rt; are_numbers(array.as_slice(), &[Some(1), Some(2)]));
+    assert!(rt; are_numbers(values.as_slice(), &[Some(3)]));
     Ok(())
 }
 

@@ -96,8 +96,12 @@ fn deliver(alloc: Global, inbox: &mut Inbox, id: u32, bytes: &[u8]) -> Result<()
     Ok(inbox.deliver(id, Arrival::Bytes(bytes))?)
 }
 
-fn is_row(rows: &FileRows, number: u64, value: i128) -> bool {
-    match (rows.numbers(), rows.values().as_slice()) {
+fn is_row(alloc: Global, rows: FileRows, number: u64, value: i128) -> bool {
+    let (numbers, column) = rows.into_parts();
+    let Ok(values) = column.to_array(alloc) else {
+        return false;
+    };
+    match (numbers.as_slice(), values.as_slice()) {
         ([row], [Value::Int(found)]) => *row == number && *found == value,
         _ => false,
     }
@@ -113,7 +117,7 @@ fn gives_row(
 ) -> bool {
     match splits.pop_front() {
         Some(mut split) => match split.poll(alloc, inbox) {
-            Poll::Ready(rows) => is_row(&rows, number, value),
+            Poll::Ready(rows) => is_row(alloc, rows, number, value),
             _ => false,
         },
         None => false,

@@ -1,9 +1,7 @@
 //! Caches of segments.
 use crate::segments::{bytes, key, sorted, source_id};
-use scan_segments::{
-    ByteBuffer, CacheGet, CachePut, InstrumentedSegmentCache, KeyedSegmentCache, MemoryCache,
-    MokaSegmentCache, NoOpSegmentCache, SegmentCache, SegmentEviction, SegmentId,
-};
+use scan_caches::{InstrumentedSegmentCache, MemoryCache, MokaSegmentCache, SegmentEviction};
+use scan_segments::{ByteBuffer, CacheGet, CachePut, KeyedSegmentCache, SegmentCache, SegmentId};
 use std::alloc::Global;
 use std::test::Fail;
 
@@ -124,15 +122,6 @@ fn a_cache_in_memory_fails_and_waits_by_number(rt: HostRuntime) -> Result<(), Fa
     }
     assert_eq!(rt; cache.ended().len(), 5);
     assert_eq!(rt; cache.short(), 0);
-    Ok(())
-}
-
-#[test]
-fn a_cache_of_nothing_finds_nothing(rt: HostRuntime) -> Result<(), Fail> {
-    let alloc = rt.alloc();
-    let mut cache = NoOpSegmentCache::new();
-    let found = look_up(alloc, &mut cache, "a", 1)?;
-    assert!(rt; found == Found::Nothing);
     Ok(())
 }
 

@@ -74,64 +74,6 @@ fn a_null_is_spelled_with_zeros(rt: HostRuntime) -> Result<(), Fail> {
     Ok(())
 }
 
-// Whether the bytes are read as the items.
-fn is_spelling(alloc: Global, array: &Array, bytes: &[u8]) -> bool {
-    if !array.dtype().is_scalar() {
-        return false;
-    }
-    match decode_segment(alloc, Spelling::One, array.dtype(), 2, bytes) {
-        Ok(read) => read.as_slice() == array.as_slice(),
-        Err(_) => false,
-    }
-}
-
-// The same, and whether it is not read from one byte more.
-fn is_spelling_alone(alloc: Global, array: &Array, mut bytes: Vec<u8>) -> Result<bool, Fail> {
-    if !is_spelling(alloc, array, &bytes) {
-        return Ok(false);
-    }
-    bytes.push(0)?;
-    Ok(!is_spelling(alloc, array, &bytes))
-}
-
-// Whether a value and a null are written and read back from these bytes, and not from one more.
-fn is_read_back(alloc: Global, dtype: DType, value: Value) -> Result<bool, Fail> {
-    let array = value_and_null(alloc, dtype, value)?;
-    let bytes = spelled(alloc, &array)?;
-    is_spelling_alone(alloc, &array, bytes)
-}
-
-#[test]
-fn every_integer_is_read_back(rt: HostRuntime) -> Result<(), Fail> {
-    let alloc = rt.alloc();
-    let table = [
-        (PType::U8, 255),
-        (PType::U16, 65535),
-        (PType::U32, 4294967295),
-        (PType::U64, 18446744073709551615),
-        (PType::I8, -128),
-        (PType::I16, -32768),
-        (PType::I32, -2147483648),
-        (PType::I64, -9223372036854775808),
-    ];
-    for (ptype, number) in &table {
-        let dtype = DType::primitive(*ptype, Nullability::Nullable);
-        assert!(rt; is_read_back(alloc, dtype, Value::Int(*number))?);
-    }
-    Ok(())
-}
-
-#[test]
-fn a_bool_and_a_text_are_read_back(rt: HostRuntime) -> Result<(), Fail> {
-    let alloc = rt.alloc();
-    let dtype = DType::bool(Nullability::Nullable);
-    assert!(rt; is_read_back(alloc, dtype, Value::Bool(true))?);
-    let text = Text::new(String::from_str(alloc, "Ada")?);
-    let dtype = DType::utf8(Nullability::Nullable);
-    assert!(rt; is_read_back(alloc, dtype, Value::Text(text))?);
-    Ok(())
-}
-
 // A leaf of i32 of one segment.
 fn leaf(alloc: Global, id: u32, rows: u64) -> Result<LayoutRef, Fail> {
     let dtype = DType::primitive(PType::I32, Nullability::NonNullable);

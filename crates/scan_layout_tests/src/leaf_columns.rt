@@ -1,6 +1,6 @@
 //! Segments that are read in place.
 use crate::segments::bytes;
-use scan_layout::{DecodeFault, LeafColumn, Spelling};
+use scan_layout::{LeafColumn, Spelling};
 use scan_values::{DType, Mask, Nullability, PType, Value};
 use std::alloc::Global;
 use std::test::Fail;
@@ -76,39 +76,6 @@ fn a_number_is_read_where_it_stands(rt: HostRuntime) -> Result<(), Fail> {
     Ok(())
 }
 
-// Whether so many rows of a dtype are refused.
-fn is_refused(
-    alloc: Global,
-    spelling: Spelling,
-    dtype: &DType,
-    spelled: &[u8],
-) -> Result<bool, Fail> {
-    if !dtype.is_scalar() {
-        return Err(Fail::from("not a scalar dtype"));
-    }
-    let read = LeafColumn::read(alloc, spelling, dtype, 2, bytes(alloc, spelled)?);
-    Ok(read.err() == Some(DecodeFault::Spelling))
-}
-
-#[test]
-fn what_spells_nothing_is_refused(rt: HostRuntime) -> Result<(), Fail> {
-    let alloc = rt.alloc();
-    let small = DType::primitive(PType::U8, Nullability::Nullable);
-    assert!(rt; !is_refused(alloc, Spelling::One, &small, &[1, 0, 7, 7])?);
-    assert!(rt; is_refused(alloc, Spelling::One, &small, &[1, 2, 7, 7])?);
-    assert!(rt; is_refused(alloc, Spelling::One, &small, &[1, 0, 7])?);
-    assert!(rt; !is_refused(alloc, Spelling::Two, &small, &[1, 7, 7])?);
-    assert!(rt; is_refused(alloc, Spelling::Two, &small, &[4, 7, 7])?);
-    let truth = DType::bool(Nullability::NonNullable);
-    assert!(rt; !is_refused(alloc, Spelling::One, &truth, &[1, 0])?);
-    assert!(rt; is_refused(alloc, Spelling::One, &truth, &[1, 2])?);
-    assert!(rt; is_refused(alloc, Spelling::Two, &truth, &[4])?);
-    let texts = DType::utf8(Nullability::NonNullable);
-    assert!(rt; !is_refused(alloc, Spelling::One, &texts, &[1, 0, 0, 0, 97, 0, 0, 0, 0])?);
-    assert!(rt; is_refused(alloc, Spelling::One, &texts, &[1, 0, 0, 0, 255, 0, 0, 0, 0])?);
-    Ok(())
-}
-
 // Which of three nullable Bools are true, and which are there.
 fn truths(alloc: Global, spelling: Spelling, spelled: &[u8]) -> Result<(Mask, Mask), Fail> {
     let dtype = DType::bool(Nullability::Nullable);
@@ -143,144 +110,6 @@ fn the_values_of_a_masks_rows_are_made(rt: HostRuntime) -> Result<(), Fail> {
     assert_eq!(rt; picked.len(), 2);
     assert!(rt; is_int(&picked[0], 1));
     assert!(rt; is_int(&picked[1], 3));
-    Ok(())
-}
-
-fn is_text(value: &Value, wanted: &str) -> bool {
-    match value {
-        Value::Text(text) => text.as_str() == wanted,
-        _ => false,
-    }
-}
-
-const A_NULL_BC: [u8; 18] = [1, 0, 1, 1, 0, 0, 0, 97, 0, 0, 0, 0, 2, 0, 0, 0, 98, 99];
-
-const A_NULL_BC_BY_BITS: [u8; 16] = [5, 1, 0, 0, 0, 97, 0, 0, 0, 0, 2, 0, 0, 0, 98, 99];
-
-// Whether a row of three nullable texts is this one.
-fn has_text(
-    alloc: Global,
-    spelling: Spelling,
-    spelled: &[u8],
-    i: usize,
-    wanted: &str,
-) -> Result<bool, Fail> {
-    let dtype = DType::utf8(Nullability::Nullable);
-    let column = column(alloc, spelling, &dtype, 3, spelled)?;
-    let found = value(alloc, &column, i)?;
-    Ok(is_text(&found, wanted))
-}
-
-#[test]
-fn a_text_is_read_where_it_stands(rt: HostRuntime) -> Result<(), Fail> {
-    let alloc = rt.alloc();
-    assert!(rt; has_text(alloc, Spelling::One, &A_NULL_BC, 0, "a")?);
-    assert!(rt; !has_text(alloc, Spelling::One, &A_NULL_BC, 1, "")?);
-    assert!(rt; has_text(alloc, Spelling::One, &A_NULL_BC, 2, "bc")?);
-    assert!(rt; has_text(alloc, Spelling::Two, &A_NULL_BC_BY_BITS, 0, "a")?);
-    assert!(rt; has_text(alloc, Spelling::Two, &A_NULL_BC_BY_BITS, 2, "bc")?);
-    Ok(())
-}
-
-// Whether a row of three nullable texts is there.
-fn is_there(alloc: Global, spelling: Spelling, spelled: &[u8], i: usize) -> Result<bool, Fail> {
-    let dtype = DType::utf8(Nullability::Nullable);
-    let column = column(alloc, spelling, &dtype, 3, spelled)?;
-    if i >= column.len() {
-        return Err(Fail::from("no such row"));
-    }
-    Ok(column.is_valid(i))
-}
-
-#[test]
-fn a_null_is_known_by_its_flag(rt: HostRuntime) -> Result<(), Fail> {
-    let alloc = rt.alloc();
-    assert!(rt; is_there(alloc, Spelling::One, &A_NULL_BC, 0)?);
-    assert!(rt; !is_there(alloc, Spelling::One, &A_NULL_BC, 1)?);
-    assert!(rt; !is_there(alloc, Spelling::Two, &A_NULL_BC_BY_BITS, 1)?);
-    assert!(rt; is_there(alloc, Spelling::Two, &A_NULL_BC_BY_BITS, 2)?);
-    Ok(())
-}
-
-// The number of a row of three nullable ones.
-fn int_at(
-    alloc: Global,
-    spelling: Spelling,
-    spelled: &[u8],
-    i: usize,
-) -> Result<Option<i128>, Fail> {
-    let dtype = DType::primitive(PType::I32, Nullability::Nullable);
-    let column = column(alloc, spelling, &dtype, 3, spelled)?;
-    if column.dtype().as_ptype_opt().is_none() || i >= column.len() {
-        return Err(Fail::from("no such number"));
-    }
-    Ok(column.int_at(i))
-}
-
-#[test]
-fn a_number_is_had_without_a_value(rt: HostRuntime) -> Result<(), Fail> {
-    let alloc = rt.alloc();
-    assert_eq!(rt; int_at(alloc, Spelling::One, &ONE_NULL_THREE, 1)?, None);
-    assert_eq!(rt; int_at(alloc, Spelling::One, &ONE_NULL_THREE, 2)?, Some(3));
-    assert_eq!(rt;
-        int_at(alloc, Spelling::Two, &ONE_NULL_THREE_BY_BITS, 2)?,
-        Some(3)
-    );
-    Ok(())
-}
-
-// The truth value of a row of three nullable ones.
-fn bool_at(
-    alloc: Global,
-    spelling: Spelling,
-    spelled: &[u8],
-    i: usize,
-) -> Result<Option<bool>, Fail> {
-    let dtype = DType::bool(Nullability::Nullable);
-    let column = column(alloc, spelling, &dtype, 3, spelled)?;
-    if !column.dtype().is_bool() || i >= column.len() {
-        return Err(Fail::from("no such truth value"));
-    }
-    Ok(column.bool_at(i))
-}
-
-#[test]
-fn a_truth_value_is_had_without_a_value(rt: HostRuntime) -> Result<(), Fail> {
-    let alloc = rt.alloc();
-    assert_eq!(rt;
-        bool_at(alloc, Spelling::One, &[1, 0, 1, 1, 1, 0], 0)?,
-        Some(true)
-    );
-    assert_eq!(rt;
-        bool_at(alloc, Spelling::One, &[1, 0, 1, 1, 1, 0], 1)?,
-        None
-    );
-    assert_eq!(rt; bool_at(alloc, Spelling::Two, &[5, 3], 2)?, Some(false));
-    Ok(())
-}
-
-// Whether a row of three nullable texts is this one, or null.
-fn is_text_at(
-    alloc: Global,
-    spelling: Spelling,
-    spelled: &[u8],
-    i: usize,
-    wanted: Option<&str>,
-) -> Result<bool, Fail> {
-    let dtype = DType::utf8(Nullability::Nullable);
-    let column = column(alloc, spelling, &dtype, 3, spelled)?;
-    if !column.dtype().is_utf8() || i >= column.len() {
-        return Err(Fail::from("no such text"));
-    }
-    Ok(column.text_at(i) == wanted)
-}
-
-#[test]
-fn a_text_is_lent(rt: HostRuntime) -> Result<(), Fail> {
-    let alloc = rt.alloc();
-    assert!(rt; is_text_at(alloc, Spelling::One, &A_NULL_BC, 0, Some("a"))?);
-    assert!(rt; is_text_at(alloc, Spelling::One, &A_NULL_BC, 1, None)?);
-    assert!(rt; is_text_at(alloc, Spelling::Two, &A_NULL_BC_BY_BITS, 2, Some("bc"))?);
     Ok(())
 }
 

@@ -15,3 +15,5 @@ mod sharing;
 mod spellings;
 #[cfg(test)]
 mod use_counts;
+#[cfg(test)]
+mod waiting;

@@ -1,13 +1,15 @@
 //! Ids, sources, an adapter and shared requests.
-ghost use Rattle.std.specs.Prelude.{◌≡◌, [], false, IfOk};
+ghost use Rattle.std.specs.Prelude.{◌≡◌, [], true, false, IfOk};
 ghost use Rattle.scan_segments.specs.MemorySource.{source_state};
-ghost use Rattle.scan_segments.specs.Sharing.{Agree, entry_at};
+ghost use Rattle.scan_sharing.specs.Sharing.{Agree, entry_at};
 
 use crate::caches::bounded;
+use scan_caches::SegmentCacheSourceAdapter;
 use scan_segments::{
-    BoxedSource, ByteBuffer, MemorySource, Polled, SegmentCache, SegmentCacheSourceAdapter,
-    SegmentFault, SegmentId, SegmentKey, SegmentSource, SegmentSourceId, SharedPolled, SharedTable,
+    ByteBuffer, MemorySource, Polled, SegmentCache, SegmentFault, SegmentId, SegmentKey,
+    SegmentSource, SegmentSourceId,
 };
+use scan_sharing::{SharedPolled, SharedTable};
 use scan_values::{NoMemory, StrictSorted};
 use std::alloc::Global;
 use std::collections::BTreeMap;
@@ -52,7 +54,7 @@ fn two_segments(alloc: Global) -> Result<BTreeMap<SegmentId, ByteBuffer>, Fail> 
 }
 
 // A source of the segments 0 and 5, whose polls of these numbers fail and are pending.
-fn source(alloc: Global, failing: &[u64], pending: &[u64]) -> Result<MemorySource, Fail>
+pub(crate) fn source(alloc: Global, failing: &[u64], pending: &[u64]) -> Result<MemorySource, Fail>
     ensures { IfOk result (λ s. s.live ≡ []) }
 {
     let failing = sorted(alloc, failing)?;
@@ -61,29 +63,41 @@ fn source(alloc: Global, failing: &[u64], pending: &[u64]) -> Result<MemorySourc
     Ok(MemorySource::new(alloc, segments, failing, pending))
 }
 
+// Polls a request once, and lets it go.
+pub(crate) fn end<S: SegmentSource>(alloc: Global, source: &mut S, id: SegmentId) -> Polled
+    requires { (S.state source.old).live id ≡ true }
+    ensures { (S.state source.new).live id ≡ false }
+{
+    match source.poll_segment(alloc, id) {
+        Polled::Pending => {
+            source.drop_request(id);
+            Polled::Pending
+        }
+        Polled::NoMemory => {
+            source.drop_request(id);
+            Polled::NoMemory
+        }
+        Polled::Bytes(bytes) => Polled::Bytes(bytes),
+        Polled::Missing => Polled::Missing,
+        Polled::Failed => Polled::Failed,
+    }
+}
+
 // Requests a segment, polls it once, and lets it go.
-fn fetch<S: SegmentSource>(alloc: Global, source: &mut S, id: u32) -> Result<Polled, NoMemory>
+pub(crate) fn fetch<S: SegmentSource>(
+    alloc: Global,
+    source: &mut S,
+    id: u32,
+) -> Result<Polled, NoMemory>
     requires { (S.state source.old).live id ≡ false }
     ensures { (S.state source.new).live id ≡ false }
 {
     let id = SegmentId::from(id);
     source.request(alloc, id)?;
-    match source.poll_segment(alloc, id) {
-        Polled::Pending => {
-            source.drop_request(id);
-            Ok(Polled::Pending)
-        }
-        Polled::NoMemory => {
-            source.drop_request(id);
-            Ok(Polled::NoMemory)
-        }
-        Polled::Bytes(bytes) => Ok(Polled::Bytes(bytes)),
-        Polled::Missing => Ok(Polled::Missing),
-        Polled::Failed => Ok(Polled::Failed),
-    }
+    Ok(end(alloc, source, id))
 }
 
-fn gives(polled: &Polled, items: &[u8]) -> bool {
+pub(crate) fn gives(polled: &Polled, items: &[u8]) -> bool {
     match polled {
         Polled::Bytes(bytes) => bytes.as_slice() == items,
         _ => false,
@@ -106,35 +120,13 @@ fn a_number_past_u32_is_no_segment(rt: HostRuntime) -> Result<(), Fail> {
     Ok(())
 }
 
-fn fetches<S: SegmentSource>(
-    alloc: Global,
-    source: &mut S,
-    id: u32,
-    wanted: &[u8],
-) -> Result<bool, NoMemory>
-    requires { (S.state source.old).live id ≡ false }
-    ensures { (S.state source.new).live id ≡ false }
-{
-    let polled = fetch(alloc, source, id)?;
-    Ok(gives(&polled, wanted))
+// Whether an adapter has asked its source for the segment 0, once, and for no other.
+fn has_asked<C: SegmentCache>(adapter: &SegmentCacheSourceAdapter<C, MemorySource>) -> bool {
+    adapter.source().asked() == [SegmentId::from(0)].as_slice()
 }
 
-// The same twice.
-fn fetches_twice<S: SegmentSource>(
-    alloc: Global,
-    source: &mut S,
-    id: u32,
-    wanted: &[u8],
-) -> Result<bool, NoMemory>
-    requires { (S.state source.old).live id ≡ false }
-    ensures { (S.state source.new).live id ≡ false }
-{
-    let first = fetches(alloc, source, id, wanted)?;
-    let second = fetches(alloc, source, id, wanted)?;
-    Ok(first && second)
-}
-
-// Whether two fetches through an adapter ask the source once.
+// Whether a request through an adapter asks the source at once, its poll gives the bytes, and a second request and its
+// poll give them without asking again.
 fn asks_once<C: SegmentCache + Drop>(
     alloc: Global,
     cache: C,
@@ -142,15 +134,17 @@ fn asks_once<C: SegmentCache + Drop>(
 ) -> Result<bool, Fail>
     requires { source.live ≡ [] }
 {
+    let id = SegmentId::from(0);
     let mut adapter = SegmentCacheSourceAdapter::new(alloc, cache, source);
-    if !fetches_twice(alloc, &mut adapter, 0, &[1, 2])? {
-        return Ok(false);
-    }
-    Ok(adapter.source().asked() == [SegmentId::from(0)].as_slice())
+    adapter.request(alloc, id)?;
+    let at_once = has_asked(&adapter);
+    let first = end(alloc, &mut adapter, id);
+    let second = fetch(alloc, &mut adapter, 0)?;
+    Ok(at_once && has_asked(&adapter) && gives(&first, &[1, 2]) && gives(&second, &[1, 2]))
 }
 
 #[test]
-fn an_adapter_asks_once(rt: HostRuntime) -> Result<(), Fail> {
+fn an_adapter_asks_at_once_and_once(rt: HostRuntime) -> Result<(), Fail> {
     let alloc = rt.alloc();
     let source = source(alloc, &[], &[])?;
     let source_id = source_id(alloc, "a")?;
@@ -158,23 +152,6 @@ fn an_adapter_asks_once(rt: HostRuntime) -> Result<(), Fail> {
     let file = cache.for_file(source_id);
     assert!(rt; asks_once(alloc, file, source)?);
     Ok(())
-}
-
-fn faults<S: SegmentSource>(source: &S) -> u64 {
-    source.fault_count()
-}
-
-// The same through a box.
-fn fetch_boxed(
-    alloc: Global,
-    inner: Box<dyn SegmentSource + Drop>,
-    id: u32,
-) -> Result<(Polled, u64), NoMemory>
-    requires { (state inner).live id ≡ false }
-{
-    let mut boxed = BoxedSource(inner);
-    let polled = fetch(alloc, &mut boxed, id)?;
-    Ok((polled, faults(&boxed)))
 }
 
 #[test]
@@ -185,24 +162,6 @@ fn keys_and_bytes_are_copied(rt: HostRuntime) -> Result<(), Fail> {
     assert!(rt; copy == one);
     let buffer = bytes(alloc, &[4, 5])?.try_clone()?;
     assert!(rt; buffer.as_slice() == [4, 5].as_slice());
-    Ok(())
-}
-
-/// A fetch through a box, and the faults after it, of a source whose polls of these numbers fail.
-fn of_boxed(alloc: Global, failing: &[u64]) -> Result<(Polled, u64), Fail> {
-    let made = source(alloc, failing, &[])?;
-    Ok(fetch_boxed(alloc, Box::new(alloc, made)?, 0)?)
-}
-
-#[test]
-fn a_boxed_source_is_a_source(rt: HostRuntime) -> Result<(), Fail> {
-    let alloc = rt.alloc();
-    let (polled, faults) = of_boxed(alloc, &[])?;
-    assert!(rt; gives(&polled, &[1, 2]));
-    assert_eq!(rt; faults, 0);
-    let (polled, faults) = of_boxed(alloc, &[0])?;
-    assert!(rt; matches!(polled, Polled::Failed));
-    assert_eq!(rt; faults, 1);
     Ok(())
 }
 
@@ -237,33 +196,36 @@ fn share(
     Ok((one, two))
 }
 
-/// What both holders get.
+/// What a holder gets.
 #[derive(Clone, Copy)]
 enum Shared {
+    Pending,
     Three,
     FailedOnce,
 }
 
 fn is(polled: &SharedPolled, wanted: Shared) -> bool {
     match (polled, wanted) {
+        (SharedPolled::Pending, Shared::Pending) => true,
         (SharedPolled::Bytes(bytes), Shared::Three) => bytes.as_slice() == [3].as_slice(),
         (SharedPolled::Failed(faults), Shared::FailedOnce) => *faults == 1,
         _ => false,
     }
 }
 
-fn both_get(
+// Whether two holders of the segment get these, in turn.
+fn get(
     alloc: Global,
     table: &mut SharedTable,
     source: &mut MemorySource,
     id: SegmentId,
-    wanted: Shared,
+    wanted: (Shared, Shared),
 ) -> Result<bool, Fail>
     requires { Agree (source_state source.old).live (entry_at table.old) }
     ensures { Agree (source_state source.new).live (entry_at table.new) }
 {
     let (one, two) = share(alloc, table, source, id)?;
-    Ok(is(&one, wanted) && is(&two, wanted))
+    Ok(is(&one, wanted.0) && is(&two, wanted.1))
 }
 
 #[test]
@@ -272,11 +234,52 @@ fn holders_share_one_request(rt: HostRuntime) -> Result<(), Fail> {
     let mut source = source(alloc, &[1], &[])?;
     let mut table = SharedTable::new(alloc);
     let id = SegmentId::from(5);
-    assert!(rt; both_get(alloc, &mut table, &mut source, id, Shared::Three)?);
+    assert!(rt;
+        get(
+            alloc,
+            &mut table,
+            &mut source,
+            id,
+            (Shared::Three, Shared::Three)
+        )?
+    );
     assert_eq!(rt; source.asked(), [id].as_slice());
-    assert!(rt; both_get(alloc, &mut table, &mut source, id, Shared::FailedOnce)?);
+    let failures = (Shared::FailedOnce, Shared::FailedOnce);
+    assert!(rt; get(alloc, &mut table, &mut source, id, failures)?);
     assert_eq!(rt; source.asked(), [id, id].as_slice());
     assert!(rt; !table.contains(id));
+    Ok(())
+}
+
+#[test]
+fn the_failure_of_the_first_poll_is_that_of_each_holder(rt: HostRuntime) -> Result<(), Fail> {
+    let alloc = rt.alloc();
+    let mut source = source(alloc, &[0], &[])?;
+    let mut table = SharedTable::new(alloc);
+    let id = SegmentId::from(5);
+    let failures = (Shared::FailedOnce, Shared::FailedOnce);
+    assert!(rt; get(alloc, &mut table, &mut source, id, failures)?);
+    Ok(())
+}
+
+// The polls 0, 1 and 2 of the source are one for each of a holder that waits, of the next, and of a third one later.
+#[test]
+fn a_poll_of_a_holder_polls_a_source_that_waits_once(rt: HostRuntime) -> Result<(), Fail> {
+    let alloc = rt.alloc();
+    let mut source = source(alloc, &[2], &[0])?;
+    let mut table = SharedTable::new(alloc);
+    let id = SegmentId::from(5);
+    assert!(rt;
+        get(
+            alloc,
+            &mut table,
+            &mut source,
+            id,
+            (Shared::Pending, Shared::Three)
+        )?
+    );
+    let failures = (Shared::FailedOnce, Shared::FailedOnce);
+    assert!(rt; get(alloc, &mut table, &mut source, id, failures)?);
     Ok(())
 }
 

@@ -32,28 +32,6 @@ fn flags_and_bools_are_bits_and_unused_bits_are_refused(rt: HostRuntime) {
     }
 }
 
-// How many of nine Bools that are all there are true.
-fn trues_of_nine(alloc: Global, bytes: &[u8]) -> Result<usize, DecodeFault> {
-    let dtype = DType::bool(Nullability::NonNullable);
-    let array = decode_segment(alloc, Spelling::Two, &dtype, 9, bytes)?;
-    let mut count: usize = 0;
-    for value in array.as_slice() {
-        if matches!(value, Value::Bool(true)) {
-            count = count.saturating_add(1);
-        }
-    }
-    Ok(count)
-}
-
-#[test]
-fn nine_bools_have_two_bytes(rt: HostRuntime) {
-    let bytes = [0x81, 0x01, 0x00];
-    assert!(rt; trues_of_nine(rt.alloc(), &bytes[..2]) == Ok(3));
-    assert!(rt; trues_of_nine(rt.alloc(), &bytes[..1]) == Err(DecodeFault::Spelling));
-    assert!(rt; trues_of_nine(rt.alloc(), &bytes) == Err(DecodeFault::Spelling));
-    assert!(rt; trues_of_nine(rt.alloc(), &[0x81, 0x03]) == Err(DecodeFault::Spelling));
-}
-
 // True and null.
 fn true_and_null(alloc: Global) -> Result<Array, Fail> {
     let mut items = Vec::new(alloc);
@@ -102,36 +80,20 @@ fn a_segment_is_moved_to_the_other_spelling(rt: HostRuntime) -> Result<(), Fail>
 }
 
 #[test]
-fn and_back(rt: HostRuntime) -> Result<(), Fail> {
-    let bytes = recoded(
-        rt.alloc(),
-        Spelling::Two,
-        Spelling::One,
-        &ONE_NULL_THREE_BY_BITS,
-    )?;
-    assert_eq!(rt; bytes.as_slice(), ONE_NULL_THREE.as_slice());
-    Ok(())
-}
-
-#[test]
 fn what_is_not_a_spelling_is_not_moved(rt: HostRuntime) {
     let wrong = recoded(rt.alloc(), Spelling::Two, Spelling::One, &ONE_NULL_THREE);
     assert!(rt; wrong.err() == Some(DecodeFault::Spelling));
 }
 
-// A leaf of a dtype of one segment of so many rows and, where there are more, another.
+// A leaf of a dtype of one segment of so many rows.
 fn leaf_of(
     alloc: Global,
     dtype: DType,
     rows: u64,
-    more: u64,
     spelling: Spelling,
 ) -> Result<LayoutRef, LayoutFault> {
     let mut segments = Vec::new(alloc);
     segments.push((SegmentId::from(0), rows))?;
-    if more > 0 {
-        segments.push((SegmentId::from(1), more))?;
-    }
     LayoutNode::leaf_with(alloc, dtype, segments, spelling)
 }
 
@@ -145,7 +107,7 @@ fn spelling_of(node: &LayoutNode) -> Option<Spelling> {
 #[test]
 fn a_leaf_keeps_its_spelling(rt: HostRuntime) -> Result<(), Fail> {
     let dtype = DType::primitive(PType::I32, Nullability::Nullable);
-    let leaf = leaf_of(rt.alloc(), dtype, 3, 0, Spelling::Two)?;
+    let leaf = leaf_of(rt.alloc(), dtype, 3, Spelling::Two)?;
     assert!(rt; spelling_of(&leaf) == Some(Spelling::Two));
     assert_eq!(rt; leaf.row_count(), 3);
     Ok(())
@@ -159,13 +121,6 @@ fn a_leaf_is_in_spelling_one_where_none_is_given(rt: HostRuntime) -> Result<(), 
     assert!(rt; spelling_of(&leaf) == Some(Spelling::One));
     assert!(rt; Spelling::default() == Spelling::One);
     Ok(())
-}
-
-#[test]
-fn rows_past_u64_are_refused(rt: HostRuntime) {
-    let dtype = DType::primitive(PType::I32, Nullability::Nullable);
-    let refused = leaf_of(rt.alloc(), dtype, u64::MAX, 1, Spelling::Two);
-    assert!(rt; refused.err() == Some(LayoutFault::RowSum));
 }
 
 // An opener whose child is the number of its calls so far.

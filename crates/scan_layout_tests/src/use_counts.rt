@@ -1,6 +1,7 @@
 //! The bounded cache under use counts.
 use crate::caches::{Found, Step, goes};
-use scan_segments::{CachePut, MokaSegmentCache, SegmentEviction};
+use scan_caches::{MokaSegmentCache, SegmentEviction};
+use scan_segments::CachePut;
 use std::test::Fail;
 
 #[test]
@@ -24,30 +25,5 @@ fn a_segment_looked_up_oftener_takes_the_place(rt: HostRuntime) -> Result<(), Fa
     assert!(rt; goes(alloc, &mut cache, Step::Get(1, Found::Bytes))?);
     cache.invalidate_all();
     assert_eq!(rt; (cache.entry_count(), cache.weighted_size()), (0, 0));
-    Ok(())
-}
-
-#[test]
-fn the_least_and_oldest_go_first(rt: HostRuntime) -> Result<(), Fail> {
-    let alloc = rt.alloc();
-    let mut cache = MokaSegmentCache::new(alloc, 12, 3, SegmentEviction::TinyLfu)?;
-    for step in [
-        Step::Get(0, Found::Nothing),
-        Step::Put(0, 4, CachePut::Stored),
-        Step::Put(1, 4, CachePut::Stored),
-        Step::Put(2, 4, CachePut::Stored),
-        Step::Put(3, 4, CachePut::Passed),
-        Step::Get(3, Found::Nothing),
-        Step::Put(3, 8, CachePut::Stored),
-        Step::Get(1, Found::Nothing),
-        Step::Get(2, Found::Nothing),
-        Step::Get(0, Found::Bytes),
-        Step::Get(3, Found::Bytes),
-        Step::Put(0, 12, CachePut::Stored),
-        Step::Get(3, Found::Nothing),
-    ] {
-        assert!(rt; goes(alloc, &mut cache, step)?);
-    }
-    assert_eq!(rt; (cache.entry_count(), cache.weighted_size()), (1, 12));
     Ok(())
 }

@@ -1,7 +1,7 @@
 //! What manifests say, as texts.
+use scan_caches::SegmentEviction;
 use scan_expr::ScanRequest;
 use scan_manifest::{CacheSpec, Calls, FileSpec, Manifest, manifest_of};
-use scan_segments::SegmentEviction;
 use scan_values::{DType, Nullability, PType, Selection};
 use serde_json::Value;
 use std::alloc::Global;

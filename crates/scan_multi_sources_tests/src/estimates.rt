@@ -1,22 +1,9 @@
-//! Files of numbers, of which one is opened or none, and what is known of their rows and bytes.
-use scan_layout::{LayoutNode, LayoutRef};
+//! Files of two columns, of which one is opened or none, and what is known of their rows and bytes.
+use crate::fixtures::{file, pair};
 use scan_multi_sources::{MultiLayoutChild, MultiLayoutDataSource, Precision, SourceFault};
-use scan_segments::SegmentId;
-use scan_values::{DType, DTypeKind, Nullability, PType};
+use scan_values::DTypeKind;
 use std::alloc::Global;
 use std::test::Fail;
-
-/// Numbers of i32, without null.
-fn int() -> DType {
-    DType::primitive(PType::I32, Nullability::NonNullable)
-}
-
-/// A file of so many numbers.
-fn file(alloc: Global, rows: u64) -> Result<LayoutRef, Fail> {
-    let mut segments = Vec::new(alloc);
-    segments.push((SegmentId::from(0), rows))?;
-    Ok(LayoutNode::leaf(alloc, int(), segments)?)
-}
 
 /// Files that are opened by so many numbers, with these sizes.
 fn deferred(
@@ -29,10 +16,11 @@ fn deferred(
         factories.push(factory)?;
     }
     let sizes = Vec::from_slice(alloc, sizes)?;
-    Ok(MultiLayoutDataSource::new_deferred(alloc, int(), factories, sizes))
+    let dtype = pair(alloc)?;
+    Ok(MultiLayoutDataSource::new_deferred(alloc, dtype, factories, sizes))
 }
 
-/// An opened file of so many numbers and two others, with these sizes.
+/// An opened file of so many rows and two others, with these sizes.
 fn after_first(
     alloc: Global,
     rows: u64,
@@ -121,7 +109,7 @@ fn a_source_tells_its_files(rt: HostRuntime) -> Result<(), Fail> {
         return Err(Fail::from("no source"));
     };
     let source = source.with_concurrency(2);
-    assert!(rt; source.dtype().kind() == DTypeKind::Primitive(PType::I32));
+    assert!(rt; source.dtype().kind() == DTypeKind::Struct);
     let told = listed(alloc, source.children())?;
     assert_eq!(rt; told.as_str(), " opened:100 1 2:50");
     Ok(())

@@ -4,4 +4,6 @@
 #[cfg(test)]
 mod estimates;
 #[cfg(test)]
+mod fixtures;
+#[cfg(test)]
 mod partitions;

@@ -145,14 +145,6 @@ pub(crate) fn project_all(alloc: Global, plan: &Arc<Plan>) -> Result<ArrayFuture
     Ok(Plan::project(plan, &(0..3), mask)?)
 }
 
-/// The values of the last of the first three rows of a plan.
-pub(crate) fn project_last(alloc: Global, plan: &Arc<Plan>) -> Result<ArrayFuture, Fail>
-    requires { Within (plan.now.value).tree 3 }
-{
-    let mask = MaskFuture::new_true(alloc, 1)?;
-    Ok(Plan::project(plan, &(2..3), mask)?)
-}
-
 /// The values of the first three rows of a plan under a mask that may have to wait.
 pub(crate) fn project_under(plan: &Arc<Plan>, mask: MaskFuture) -> Result<ArrayFuture, Fail>
     requires rows { Within (plan.now.value).tree 3 }

@@ -18,7 +18,7 @@ use scan_layout::{LeafSegments, Spelling};
 use scan_plans::{ArrayFuture, Offsets, Plan, PlanNode};
 use scan_segments::SegmentId;
 use scan_splits::{Inbox, Poll, SegmentRuns};
-use scan_values::{Array, DType, Nullability, PType, Value};
+use scan_values::{DType, Nullability, PType, Value};
 use std::alloc::Global;
 use std::sync::Arc;
 use std::test::Fail;

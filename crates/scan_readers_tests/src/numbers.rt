@@ -200,6 +200,15 @@ fn rows_in_memory_are_filtered_under_their_mask_and_never_pruned(
 }
 
 #[test]
+fn a_leaf_is_never_pruned(rt: HostRuntime) -> Result<(), Fail> {
+    let alloc = rt.alloc();
+    let mut leaf = reader(alloc, &two_segments(alloc)?)?;
+    let told = pruned(alloc, &mut leaf, &above(alloc, 1)?, "110")?;
+    assert_eq!(rt; told.as_str(), "gives 110");
+    Ok(())
+}
+
+#[test]
 fn rows_in_memory_wait_for_nothing(rt: HostRuntime) -> Result<(), Fail> {
     let alloc = rt.alloc();
     let mut future = project(alloc, &mut rows(alloc)?, &Expression::root())?;

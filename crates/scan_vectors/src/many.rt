@@ -4,10 +4,11 @@ ghost use Rattle.scan_segments.specs.Source.{none_live};
 ghost use Rattle.scan_segments.specs.MemorySource.{source_state};
 
 use crate::scan::{A, bytes, counts, leaf, number, opener, sorted, source_name, table, table_of};
+use scan_caches::{MokaSegmentCache, SegmentEviction};
 use scan_expr::{Expression, ScanRequest};
 use scan_layout::{LayoutNode, LayoutRef};
 use scan_multi::{MemoryOpener, NoGate, ScanChunk, ScanFault, ScanFile, ScanOutput, scan_files};
-use scan_segments::{MemorySource, MokaSegmentCache, SegmentEviction, SegmentId};
+use scan_segments::{MemorySource, SegmentId};
 use scan_values::NoMemory;
 use std::alloc::Global;
 use std::collections::BTreeMap;

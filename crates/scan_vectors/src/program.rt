@@ -6,6 +6,7 @@ use scan_run::{
 };
 use scan_values::{DType, NoMemory, Nullability, PType, StrictSorted, Text, Value};
 use std::alloc::Global;
+use std::hash::{BuildHasherDefault, FoldHasher};
 use std::test::Fail;
 use std::thread::Threads;
 
@@ -140,7 +141,16 @@ fn outcome<R: Threads + Sync>(
     let mut input = input(alloc, text, reads)?;
     let mut output = MemoryOutput::new(alloc, writes);
     let gate = NoGate::new();
-    let status = run(rt, alloc, words.as_slice(), &mut input, &mut output, &gate);
+    let hasher: BuildHasherDefault<FoldHasher> = BuildHasherDefault::new();
+    let status = run(
+        rt,
+        alloc,
+        words.as_slice(),
+        &mut input,
+        &mut output,
+        &gate,
+        hasher,
+    );
     Ok((status, output.bytes))
 }
 

@@ -3,6 +3,7 @@ ghost use Rattle.std.specs.Prelude.{◌≡◌, All, IfOk};
 ghost use Rattle.scan_segments.specs.Source.{none_live};
 ghost use Rattle.scan_segments.specs.MemorySource.{source_state};
 
+use scan_caches::{MemoryCache, MokaSegmentCache, NoOpSegmentCache, SegmentEviction};
 use scan_expr::{BindFault, Expression, ScanRequest};
 use scan_layout::{LayoutFault, LayoutKind, LayoutNode, LayoutRef, Spelling};
 use scan_multi::{
@@ -10,8 +11,8 @@ use scan_multi::{
     ScanFile, ScanOutput, ScanReport, scan_files,
 };
 use scan_segments::{
-    ByteBuffer, CacheEvent, CachePut, KeyedSegmentCache, MemoryCache, MemorySource,
-    MokaSegmentCache, NoOpSegmentCache, SegmentEviction, SegmentId, SegmentKey, SegmentSourceId,
+    ByteBuffer, CacheEvent, CachePut, KeyedSegmentCache, MemorySource, SegmentId, SegmentKey,
+    SegmentSourceId,
 };
 use scan_values::{DType, FieldName, Nullability, PType, StrictSorted, StructFields, Value};
 use std::alloc::Global;

@@ -3,10 +3,11 @@ ghost use Rattle.std.specs.Prelude.{◌≡◌, All, IfOk};
 ghost use Rattle.scan_segments.specs.Source.{none_live};
 ghost use Rattle.scan_segments.specs.MemorySource.{source_state};
 
+use scan_caches::NoOpSegmentCache;
 use scan_expr::{Expression, ScanRequest};
 use scan_layout::{LayoutNode, LayoutRef};
 use scan_multi::{Gate, MemoryOpener, NoGate, ScanChunk, ScanFault, ScanFile, scan_files};
-use scan_segments::{ByteBuffer, MemorySource, NoOpSegmentCache, SegmentId, SegmentSourceId};
+use scan_segments::{ByteBuffer, MemorySource, SegmentId, SegmentSourceId};
 use scan_values::{DType, Nullability, PType, StrictSorted, Value};
 use std::alloc::Global;
 use std::collections::BTreeMap;

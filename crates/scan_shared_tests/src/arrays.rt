@@ -1,9 +1,10 @@
 // Arrays that are computed once.
-ghost use Rattle.std.specs.Prelude.{◌≡◌, IfSome, Some, Ok};
+ghost use Rattle.std.specs.Prelude.{◌≡◌, ◌⊎◌, IfSome, Some, Ok};
 
-use scan_shared::{Note, Shared, SharedArray, SharedPoll, SharedProbeState, SharedSlots};
+use scan_shared::{Law, Note, Shared, SharedArray, SharedPoll, SharedProbeState, SharedSlots};
 use scan_values::{Array, DType, NoMemory, Nullability, PType, Value};
 use std::alloc::Global;
+use std::marker::Brand;
 use std::test::Fail;
 use std::thread;
 use std::thread::Threads;
@@ -124,15 +125,17 @@ fn has_number(value: Option<&Value>, number: i128) -> bool {
     }
 }
 
-// The array that a worker gets, which its note then knows.
-fn get_with<'a>(
-    shared: &'a SharedArray<u8>,
-    mut note: Note<u8>,
+// The array that a worker gets, which its note then knows. The law of the shared array holds of it.
+fn get_with<'a, C: Law<u8>>(
+    shared: &'a SharedArray<u8, C>,
+    mut note: Note<u8, C>,
     mine: Array,
-) -> (Option<&'a Array>, Note<u8>)
-    requires { note.cell ≡ shared.now.cell }
+) -> (Option<&'a Array>, Note<u8, C>)
+    requires note { note.cell ≡ shared.now.cell }
+    requires lawful { C.holds (Ok mine) }
     ensures cell { result.1.cell ≡ note.cell }
     ensures known { IfSome result.0 (λ a. result.1.known ≡ Some (Ok a.now)) }
+    ensures holds { IfSome result.0 (λ a. C.holds (Ok a.now)) }
 {
     match shared.get_or_compute(&mut note, move |_: &Array| Ok(mine)) {
         Ok(Ok(array)) => (Some(array), note),
@@ -140,34 +143,71 @@ fn get_with<'a>(
     }
 }
 
-// Two workers compute an array each, and both get the same one.
-fn race<'a, R: Threads + Sync>(
+// Two workers compute an array each, and both get the same one. The law of the shared array holds of it.
+fn race<'a, C: Law<u8> + Send + Sync, R: Threads + Sync>(
     rt: &R,
-    shared: &'a SharedArray<u8>,
+    shared: &'a SharedArray<u8, C>,
     one: Array,
     two: Array,
 ) -> Option<(&'a Array, &'a Array)>
-    ensures { IfSome result (λ r. r.0.now ≡ r.1.now) }
+    requires one { C.holds (Ok one) }
+    requires two { C.holds (Ok two) }
+    ensures same { IfSome result (λ r. r.0.now ≡ r.1.now) }
+    ensures holds { IfSome result (λ r. C.holds (Ok r.0.now)) }
 {
     let first_note = shared.note();
     let second_note = shared.note();
     let ((first, mut note), (second, other)) = thread::join(
         rt,
-        move || -> (Option<&Array>, Note<u8>)
-            requires { first_note.cell ≡ shared.now.cell }
+        move || -> (Option<&Array>, Note<u8, C>)
+            requires note { first_note.cell ≡ shared.now.cell }
+            requires lawful { C.holds (Ok one) }
             ensures cell { result.1.cell ≡ first_note.cell }
             ensures known { IfSome result.0 (λ a. result.1.known ≡ Some (Ok a.now)) }
+            ensures holds { IfSome result.0 (λ a. C.holds (Ok a.now)) }
         { get_with(shared, first_note, one) },
-        move || -> (Option<&Array>, Note<u8>)
-            requires { second_note.cell ≡ shared.now.cell }
+        move || -> (Option<&Array>, Note<u8, C>)
+            requires note { second_note.cell ≡ shared.now.cell }
+            requires lawful { C.holds (Ok two) }
             ensures cell { result.1.cell ≡ second_note.cell }
             ensures known { IfSome result.0 (λ a. result.1.known ≡ Some (Ok a.now)) }
+            ensures holds { IfSome result.0 (λ a. C.holds (Ok a.now)) }
         { get_with(shared, second_note, two) },
     );
     note.compare(other);
     let first = first?;
     let second = second?;
     Some((first, second))
+}
+
+// What two workers compute from one source.
+fn computed_by_two<C: Law<u8> + Send + Sync, R: Threads + Sync>(
+    rt: &R,
+    alloc: Global,
+    source: Array,
+    one: Array,
+    two: Array,
+) -> Option<Array>
+    requires one { C.holds (Ok one) }
+    requires two { C.holds (Ok two) }
+    ensures { IfSome result (λ a. C.holds (Ok a)) }
+{
+    let shared: SharedArray<u8, C> = Shared::new(alloc, source).ok()?;
+    let (first, _) = race(rt, &shared, one, two)?;
+    first.try_clone(alloc).ok()
+}
+
+// It is what the one or the other computed, and nothing else.
+fn one_of_two<R: Threads + Sync>(
+    rt: &R,
+    alloc: Global,
+    source: Array,
+    one: Array,
+    two: Array,
+) -> Option<Array>
+    ensures { IfSome result (λ a. (a ≡ one) ⊎ (a ≡ two)) }
+{
+    computed_by_two::<Brand, R>(rt, alloc, source, one, two)
 }
 
 #[test]
@@ -179,6 +219,25 @@ fn two_threads_get_one_array(rt: HostRuntime) -> Result<(), Fail> {
     let both = race(&rt, &shared, one, two);
     assert!(rt; are_one_answer(both));
     Ok(())
+}
+
+#[test]
+fn an_answer_is_what_a_closure_gave(rt: HostRuntime) -> Result<(), Fail> {
+    let alloc = rt.alloc();
+    let source = array(alloc, &[1, 2])?;
+    let one = array(alloc, &[3, 4])?;
+    let two = array(alloc, &[5])?;
+    let found = one_of_two(&rt, alloc, source, one, two);
+    assert!(rt; is_either(found));
+    Ok(())
+}
+
+// Whether it is the one array or the other.
+fn is_either(found: Option<Array>) -> bool {
+    match found {
+        Some(array) => are_numbers(&array, &[3, 4]) || are_numbers(&array, &[5]),
+        None => false,
+    }
 }
 
 // Whether both are the one array, or both the other.

@@ -1,0 +1,5 @@
+//! Tests of shared arrays.
+#![tactic(auto)]
+
+#[cfg(test)]
+mod arrays;
