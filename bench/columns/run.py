@@ -31,7 +31,7 @@ def build(folder):
         (crate / "proofs" / name).mkdir(parents=True)
         shutil.copy(HERE / f"{name}.antt.txt", crate / "proofs" / name / "Invariants.antt")
     with open(folder / "crates.txt", "a", encoding="utf-8") as lines:
-        lines.write("bench_columns: scan_values scan_expr scan_segments scan_layout scan_columns\n")
+        lines.write("bench_columns: scan_values scan_expr scan_columns\n")
     subprocess.run(["rt", "run", "--", "setup"], cwd=crate, check=True)
     subprocess.run(["rustc", "-O", HERE / "main.rs", "-o", folder / "plain"], check=True)
     return [crate / "out" / "bench_columns", folder / "plain"]

@@ -22,7 +22,7 @@ RUNS = 9
 # the segments of a column, and the rows of a segment
 SIZES = [(1000, 1000), (100, 10000)]
 AHEAD = ["chrt", "--fifo", "1"] if "--ahead" in sys.argv else []
-USES = "scan_values scan_expr scan_segments scan_layout scan_multi"
+USES = "scan_values scan_expr scan_segments scan_caches scan_layout scan_multi"
 
 
 def build(folder):

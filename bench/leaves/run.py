@@ -1,0 +1,56 @@
+#!/usr/bin/env python3
+"""Instructions a row of reading a leaf of a million nullable i32, beside plain Rust over its bytes.
+
+Builds bench/leaves/main.rt.txt as a program in a copy of the repository (`rt run`, which proves it first) and
+main.rs by `rustc -O`, and counts each by callgrind: what a work takes is what it takes beyond `setup`, which only
+makes the segment and the mask. Needs rt, rustc and valgrind.
+"""
+import re
+import shutil
+import subprocess
+import tempfile
+from pathlib import Path
+
+HERE = Path(__file__).resolve().parent
+TOP = HERE.parent.parent
+ROWS = 1_000_000
+WORKS = ["all", "half", "values"]
+
+
+def build(folder):
+    """The two programs."""
+    for name in ["crates", "crates.txt", "HANDLES"]:
+        source = TOP / name
+        if source.is_dir():
+            shutil.copytree(source, folder / name)
+        else:
+            shutil.copy(source, folder / name)
+    crate = folder / "crates" / "bench_leaves"
+    (crate / "src").mkdir(parents=True)
+    shutil.copy(HERE / "main.rt.txt", crate / "src" / "main.rt")
+    with open(folder / "crates.txt", "a", encoding="utf-8") as lines:
+        lines.write("bench_leaves: scan_values scan_expr scan_segments scan_spelling scan_columns\n")
+    subprocess.run(["rt", "run", "--", "setup"], cwd=crate, check=True)
+    subprocess.run(["rustc", "--edition=2021", "-O", HERE / "main.rs", "-o", folder / "plain"], check=True)
+    return [crate / "out" / "bench_leaves", folder / "plain"]
+
+
+def count(program, word, folder):
+    """The instructions of a run."""
+    words = ["valgrind", "--tool=callgrind", f"--callgrind-out-file={folder}/out", program, word]
+    ran = subprocess.run(words, capture_output=True, text=True, check=True)
+    return int(re.search(r"Collected : (\d+)", ran.stderr)[1])
+
+
+def main():
+    with tempfile.TemporaryDirectory() as made:
+        folder = Path(made)
+        programs = build(folder)
+        before = [count(it, "setup", folder) for it in programs]
+        for word in WORKS:
+            ours, plain = [count(it, word, folder) - b for it, b in zip(programs, before)]
+            print(f"{word}: {ours / ROWS:.1f} a row, plain Rust {plain / ROWS:.1f}: {ours / plain:.2f} times")
+
+
+if __name__ == "__main__":
+    main()
