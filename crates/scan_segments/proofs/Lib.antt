@@ -1,4 +1,5 @@
 mod Boxes
+pub mod BytesSent
 pub mod Counts
 pub mod LiveSets
 pub mod Lookups

@@ -9,3 +9,4 @@ pub mod Polled
 pub mod Requests
 pub mod Script
 pub mod Source
+pub mod TextEnds

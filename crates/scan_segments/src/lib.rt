@@ -8,6 +8,7 @@ pub mod requests;
 pub mod script;
 pub mod segment;
 pub mod source;
+pub mod text_ends;
 
 pub use boxed::BoxedSource;
 pub use cache::{CacheEvent, CacheGet, CachePut, KeyedSegmentCache, SegmentCache};
@@ -16,3 +17,4 @@ pub use requests::Requests;
 pub use script::{Outcome, Script};
 pub use segment::{ByteBuffer, SegmentFault, SegmentId, SegmentKey, SegmentSourceId};
 pub use source::{Fits, Polled, Polls, SegmentSource};
+pub use text_ends::{FlagGroup, TextEnds};

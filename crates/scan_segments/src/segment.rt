@@ -1,6 +1,8 @@
 //! The numbers of segments, the names of sources, and shared bytes. After the Rust's `segments`.
-ghost use Rattle.std.specs.Prelude.{◌≡◌, ◌<◌, ◌≤◌, ◌^◌, ◌↔◌, List, ℕ, IfOk, IsTrue, is_ok, string_bytes};
+ghost use Rattle.std.specs.Prelude.{◌≡◌, ◌<◌, ◌≤◌, ◌^◌, ◌↔◌, List, ℕ, Some, IfOk, IfSome, IsTrue, is_ok, string_bytes};
+ghost use Rattle.scan_segments.specs.TextEnds.{ends_after};
 
+use crate::text_ends::{FlagGroup, Shared, TextEnds};
 use scan_values::NoMemory;
 use std::alloc::Global;
 use std::cmp::Ordering;
@@ -203,10 +205,11 @@ impl SegmentKey {
     }
 }
 
-/// The bytes of a segment, which their holders share. Contracts see them as a list.
+/// The bytes of a segment, which their holders share, with what one of them found of these. Contracts see the list of
+/// bytes.
 #[derive(Drop)]
 pub struct ByteBuffer {
-    bytes: Arc<Vec<u8>>,
+    shared: Arc<Shared>,
 }
 
 impl Model for ByteBuffer {
@@ -215,7 +218,7 @@ impl Model for ByteBuffer {
 
     ghost Value = { List ℕ };
 
-    ghost view = { λ b. (arc_value b.bytes).items };
+    ghost view = { λ b. arc_value b.shared };
 }
 
 impl ByteBuffer {
@@ -224,7 +227,7 @@ impl ByteBuffer {
         ensures { IfOk result (λ b. b ≡ bytes.items) }
     {
         Ok(ByteBuffer {
-            bytes: Arc::new(alloc, bytes)?,
+            shared: Arc::new(alloc, Shared::new(bytes))?,
         })
     }
 
@@ -232,7 +235,7 @@ impl ByteBuffer {
     pub fn as_slice(&self) -> &[u8]
         ensures { result.now ≡ self.now }
     {
-        self.bytes.as_slice()
+        self.shared.as_slice()
     }
 
     /// The same bytes, shared.
@@ -240,7 +243,22 @@ impl ByteBuffer {
         ensures { IfOk result (λ b. b ≡ self.now) }
     {
         Ok(ByteBuffer {
-            bytes: Arc::try_clone(&self.bytes)?,
+            shared: Arc::try_clone(&self.shared)?,
         })
+    }
+
+    /// Where each text of so many rows ends, after flags that stand so, where a holder of the bytes has kept it. It
+    /// takes no lock, no memory and no wait, and costs the same for any number of rows.
+    pub fn text_ends(&self, group: FlagGroup, rows: u64) -> Option<TextEnds>
+        ensures { IfSome result (λ t. ends_after group rows self.now ≡ Some t) }
+    {
+        self.shared.ends(group, rows)
+    }
+
+    /// Keeps where each text of so many rows ends, for all holders of the bytes. What is kept first stays.
+    pub fn keep_text_ends(&self, group: FlagGroup, rows: u64, ends: TextEnds)
+        requires { ends_after group rows self.now ≡ Some ends }
+    {
+        self.shared.keep(group, rows, ends);
     }
 }

@@ -3,6 +3,7 @@ pub mod BitGroups
 pub mod Bytes
 pub mod Cells
 pub mod Columns
+pub mod Cutting
 pub mod Encoding
 pub mod Fitting
 pub mod Gathering
@@ -17,4 +18,5 @@ pub mod TextRows
 pub mod TextTests
 pub mod Writes
 pub mod Keeping
+pub mod KnownEnds
 pub mod Runs

@@ -1,3 +1,4 @@
+pub mod Cuts
 pub mod Decoded
 pub mod LeafColumns
 pub mod Places

@@ -10,16 +10,13 @@ use Rattle.scan_values.specs.declared.dtype.DTypeKind.{DTypeKind}
 use Rattle.scan_values.specs.DataType.{DataType, nullability_of}
 use Rattle.scan_values.specs.Kinds.{kind_of}
 use Rattle.scan_values.specs.Val.{Val, null_val, bool_val, int_val, text_val}
+pub use Rattle.scan_segments.specs.TextEnds.{part, framed, byte_bits, bits_of, are_zero, bytes_for, bit_group}
 use Rattle.scan_spelling.specs.declared.spelling.Spelling.{Spelling}
 use Rattle.scan_spelling.specs.declared.spelling.Spelling.TheVariants.{One, Two}
 
 abbrev pub are_bytes : List ℕ → Bool
 are_bytes [] = true
 are_bytes (b ∷ bytes) = nat_lt b 256 && are_bytes bytes
-
--- so many bytes, and those after them
-abbrev pub part : ℕ → List ℕ → Option (List ℕ × List ℕ)
-part n bytes = if nat_lt (length bytes) n then None else Some (take n bytes, drop n bytes)
 
 abbrev pub width : PType → ℕ
 width U8 = 1
@@ -46,10 +43,6 @@ abbrev pub bool_of : ℕ → Option Val
 bool_of zero = Some (bool_val false)
 bool_of (suc zero) = Some (bool_val true)
 bool_of (suc (suc n)) = None
-
--- a text: its length in four bytes, and so many bytes
-abbrev pub framed : List ℕ → Option (List ℕ × List ℕ)
-framed bytes = option_and_then (λ p. part (from_le_bytes w32 p.0) p.1) (part 4 bytes)
 
 -- the bytes of one slot, and those after them
 abbrev pub slot : DTypeKind → List ℕ → Option (List ℕ × List ℕ)
@@ -95,31 +88,10 @@ abbrev pub cells : DTypeKind → List ℕ → List ℕ → Option (List Val)
 cells kind [] bytes = no_more bytes
 cells kind (flag ∷ flags) bytes = option_and_then (λ x. option_map (λ vs. x.0 ∷ vs) (cells kind flags x.1)) (cell kind flag bytes)
 
--- the bits of a byte, the least significant first
-abbrev pub byte_bits : ℕ → List ℕ
-byte_bits b = bit_at b 0 ∷ bit_at b 1 ∷ bit_at b 2 ∷ bit_at b 3 ∷ bit_at b 4 ∷ bit_at b 5 ∷ bit_at b 6 ∷ bit_at b 7 ∷ []
-
--- the bits of bytes, one byte after another
-abbrev pub bits_of : List ℕ → List ℕ
-bits_of [] = []
-bits_of (b ∷ bytes) = byte_bits b ++ bits_of bytes
-
-abbrev pub are_zero : List ℕ → Bool
-are_zero [] = true
-are_zero (b ∷ bits) = (b == 0) && are_zero bits
-
--- how many bytes have so many bits
-abbrev pub bytes_for : ℕ → ℕ
-bytes_for n = (n + 7) / 8
-
 -- a flag or a Bool of each of so many rows is a byte, or in spelling 2 a bit
 abbrev pub group_size : Spelling → ℕ → ℕ
 group_size One n = n
 group_size Two n = bytes_for n
-
--- so many bits, each as a byte 0 or 1: the bytes are as many as they take, and the bits after them are 0
-abbrev pub bit_group : ℕ → List ℕ → Option (List ℕ)
-bit_group n bytes = if (length bytes == bytes_for n) && are_zero (drop n (bits_of bytes)) then Some (take n (bits_of bytes)) else None
 
 -- the flags of so many rows, a byte each
 abbrev pub flags_in : Spelling → ℕ → List ℕ → Option (List ℕ)

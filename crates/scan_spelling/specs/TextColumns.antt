@@ -3,7 +3,10 @@ use Rattle.std.specs.Prelude.{ℕ, ◌+◌, ◌-◌, List, [], ◌∷◌, length
 use Rattle.scan_values.specs.declared.dtype.DTypeKind.{DTypeKind}
 use Rattle.scan_values.specs.declared.ptype.Nullability.{Nullability}
 use Rattle.scan_values.specs.declared.ptype.Nullability.TheVariants.{NonNullable, Nullable}
+use Rattle.scan_segments.specs.declared.text_ends.FlagGroup.{FlagGroup}
+use Rattle.scan_segments.specs.declared.text_ends.FlagGroup.TheVariants.{Absent, Bytes, Bits}
 use Rattle.scan_spelling.specs.declared.spelling.Spelling.{Spelling}
+use Rattle.scan_spelling.specs.declared.spelling.Spelling.TheVariants.{One, Two}
 use Rattle.scan_spelling.specs.Spelling.{part, framed, content, under_flag, group_size, flags_in}
 use Rattle.scan_spelling.specs.LeafColumns.{spread}
 
@@ -41,3 +44,9 @@ flag_bytes s Nullable n = group_size s n
 abbrev pub ends_under : Spelling → Nullability → ℕ → List ℕ → Option (List ℕ)
 ends_under s NonNullable n bytes = ends_of 0 (replicate n 1) bytes
 ends_under s Nullable n bytes = option_and_then (λ p. option_and_then (λ flags. ends_of 0 flags p.1) (flags_in s n p.0)) (part (group_size s n) bytes)
+
+-- how the flags of rows stand before their texts
+abbrev pub flag_group : Spelling → Nullability → FlagGroup
+flag_group s NonNullable = Absent
+flag_group One Nullable = Bytes
+flag_group Two Nullable = Bits

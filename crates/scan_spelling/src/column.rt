@@ -1,4 +1,5 @@
-//! A leaf's segment, read in place. Texts are not of one width, and of them it is kept where each ends.
+//! A leaf's segment, read in place. Texts are not of one width, and of them it is kept where each ends: with the bytes, so
+//! that the segment is tested once for all who hold these.
 ghost use Rattle.std.specs.Prelude.{◌≡◌, ◌<◌, ◌≤◌, ◌+◌, ◌*◌, ◌==◌, length, replicate, take, drop, map, get_or, slice_get, is_some, option_and_then, option_map, IfOk, IfSome, IsTrue, List, Some, true, false};
 ghost use Rattle.std.specs.List.{items_where_true, slice_range};
 ghost use Rattle.scan_values.specs.Arrays.{of_parts};
@@ -9,7 +10,7 @@ ghost use Rattle.scan_values.specs.Marked.{is_true};
 ghost use Rattle.scan_values.specs.Masks.{true_count};
 ghost use Rattle.scan_values.specs.Fits.{fits, fits_all, is_bool_type, is_utf8_type};
 ghost use Rattle.scan_values.specs.Values.{val_of};
-ghost use Rattle.scan_spelling.specs.Spelling.{content, bool_of, under_flag, cells, bits_of, bytes_for, group_size, flags_in, decode_slots, decode_under, decode};
+ghost use Rattle.scan_spelling.specs.Spelling.{are_bytes, content, bool_of, under_flag, cells, bits_of, bytes_for, group_size, flags_in, decode_slots, decode_under, decode};
 ghost use Rattle.scan_spelling.specs.Spells.{Spells};
 ghost use Rattle.scan_spelling.specs.Decoded.{Gives};
 ghost use Rattle.scan_spelling.specs.LeafColumns.{slot_width, has_width, or_none, spelled, spread, are_flags, is_row, are_rows, is_here, is_set, int_or_null, bool_or_null, text_or_null};
@@ -17,12 +18,14 @@ ghost use Rattle.scan_spelling.specs.TextColumns.{ends_under};
 ghost use Rattle.scan_spelling.specs.SlotValues.{slot_val};
 
 use crate::bits::{bit, is_group};
+use crate::known_ends::known_ends;
 use crate::read::{group_size, width};
 use crate::run::{BoolRun, IntRun, bool_run, flags_between, int_run};
 use crate::slot::SlotValue;
 use crate::spelling::{DecodeFault, Spelling};
-use crate::texts::{ends_under, flag_bytes, flag_of, text_under};
-use scan_segments::ByteBuffer;
+use crate::text_run::{TextRun, text_run};
+use crate::texts::{flag_bytes, flag_of, text_under};
+use scan_segments::{ByteBuffer, TextEnds};
 use scan_values::{DType, DTypeKind, Mask, NoMemory, Nullability, Text, Value};
 use std::alloc::Global;
 use std::marker::Model;
@@ -35,7 +38,7 @@ pub struct LeafColumn {
     rows: u64,
     bytes: ByteBuffer,
     // Where each value ends where they are texts, else empty.
-    ends: Vec<usize>,
+    ends: TextEnds,
 }
 
 impl Model for LeafColumn {
@@ -57,7 +60,7 @@ impl Model for LeafColumn {
     ghost invariant = { λ a.
         (decode a.spelling a.dtype a.rows a.bytes ≡ Some (spelled a.spelling a.dtype a.rows a.bytes))
         × (has_width (kind_of a.dtype) ≡ false → (kind_of a.dtype ≡ DTypeKind.Utf8)
-        × (ends_under a.spelling (nullability_of a.dtype) a.rows a.bytes ≡ Some a.ends.items)) };
+        × (ends_under a.spelling (nullability_of a.dtype) a.rows a.bytes ≡ Some a.ends)) };
 }
 
 // The bytes of a slot.
@@ -401,20 +404,26 @@ fn is_spelt(spelling: Spelling, dtype: &DType, rows: u64, bytes: &[u8]) -> bool
     is_spelling(spelling, dtype.kind(), dtype.nullability(), rows, bytes)
 }
 
+// Each byte is below 256.
+fn are_bytes(bytes: &[u8])
+    ensures { are_bytes bytes.now ≡ true }
+{}
+
 // Where each text of a segment ends.
 fn text_ends(
     alloc: Global,
     spelling: Spelling,
     dtype: &DType,
     rows: u64,
-    bytes: &[u8],
-) -> Result<Vec<usize>, DecodeFault>
+    bytes: &ByteBuffer,
+) -> Result<TextEnds, DecodeFault>
     requires { kind_of dtype.now ≡ DTypeKind.Utf8 }
-    ensures ends { IfOk result (λ v. ends_under spelling (nullability_of dtype.now) rows bytes.now ≡ Some v.items) }
-    ensures exact { Gives (λ v. spelled spelling dtype.now rows bytes.now) result
+    ensures ends { IfOk result (λ t. ends_under spelling (nullability_of dtype.now) rows bytes.now ≡ Some t) }
+    ensures exact { Gives (λ t. spelled spelling dtype.now rows bytes.now) result
         (decode spelling dtype.now rows bytes.now) }
 {
-    ends_under(alloc, spelling, dtype.nullability(), rows, bytes)
+    are_bytes(bytes.as_slice());
+    known_ends(alloc, spelling, dtype.nullability(), rows, bytes)
 }
 
 // The text of a row, if it is not null, by where each ends.
@@ -463,12 +472,12 @@ impl LeafColumn {
         dtype: DType,
         rows: u64,
         bytes: ByteBuffer,
-        ends: Vec<usize>,
+        ends: TextEnds,
     ) -> LeafColumn
         requires spelled { decode spelling dtype rows bytes ≡ Some (spelled spelling dtype rows bytes) }
         requires ends { has_width (kind_of dtype) ≡ false →
             (kind_of dtype ≡ DTypeKind.Utf8)
-            × (ends_under spelling (nullability_of dtype) rows bytes ≡ Some ends.items) }
+            × (ends_under spelling (nullability_of dtype) rows bytes ≡ Some ends) }
         ensures { result ≡ of_parts dtype (spelled spelling dtype rows bytes) }
     {
         LeafColumn {
@@ -496,7 +505,7 @@ impl LeafColumn {
             return Err(DecodeFault::Spelling);
         }
         let kept = dtype.try_clone(alloc)?;
-        Ok(LeafColumn::of_spelled(spelling, kept, rows, bytes, Vec::new(alloc)))
+        Ok(LeafColumn::of_spelled(spelling, kept, rows, bytes, TextEnds::none()))
     }
 
     // A segment of texts, of which it is kept where each ends.
@@ -511,7 +520,7 @@ impl LeafColumn {
         ensures dtype { IfOk result (λ a. a.dtype ≡ dtype.now) }
         ensures exact { Gives (λ a. a.items) result (decode spelling dtype.now rows bytes) }
     {
-        let ends = text_ends(alloc, spelling, dtype, rows, bytes.as_slice())?;
+        let ends = text_ends(alloc, spelling, dtype, rows, &bytes)?;
         let kept = dtype.try_clone(alloc)?;
         Ok(LeafColumn::of_spelled(spelling, kept, rows, bytes, ends))
     }
@@ -720,6 +729,30 @@ impl LeafColumn {
         ensures { Some (text_or_null (option_map (λ t. t.now) result)) ≡ slice_get self.now.items i }
     {
         self.text_lent(i)
+    }
+
+    /// Of so many rows of texts as the mask has, from a first one on, the true ones, read at once: their bytes are copied
+    /// into one buffer, and no value is made.
+    ///
+    /// # Errors
+    /// `NoMemory`.
+    pub fn texts(&self, alloc: Global, first: usize, mask: &[bool]) -> Result<TextRun, NoMemory>
+        requires texts { is_utf8_type self.now.dtype ≡ true }
+        requires within { first + length mask.now ≤ length self.now.items }
+        ensures { IfOk result (λ r. r
+            ≡ items_where_true mask.now (slice_range self.now.items first (first + length mask.now))) }
+    {
+        let run = text_run(
+            alloc,
+            self.spelling,
+            self.dtype.nullability(),
+            self.rows,
+            self.bytes.as_slice(),
+            self.ends.as_slice(),
+            first,
+            mask,
+        )?;
+        Ok(run)
     }
 
     /// Whether a row is not null. No value is made.

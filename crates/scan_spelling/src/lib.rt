@@ -3,11 +3,13 @@
 
 mod bits;
 mod column;
+mod known_ends;
 mod read;
 mod recode;
 mod run;
 mod slot;
 pub mod spelling;
+mod text_run;
 mod texts;
 mod write;
 
@@ -16,4 +18,5 @@ pub use read::decode_segment;
 pub use recode::recode_segment;
 pub use run::{BoolRun, IntRun, keep_true};
 pub use spelling::{DecodeFault, EncodeFault, Spelling};
+pub use text_run::TextRun;
 pub use write::encode_segment;

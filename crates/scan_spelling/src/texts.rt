@@ -168,8 +168,8 @@ fn text_value(flag: u8, text: &[u8]) -> Option<&str>
     }
 }
 
-// The bytes of a slot's text, by where each slot ends.
-fn text_at<'a>(bytes: &'a [u8], ends: &[usize], i: usize) -> &'a [u8]
+/// The bytes of a slot's text, by where each slot ends.
+pub(crate) fn text_at<'a>(bytes: &'a [u8], ends: &[usize], i: usize) -> &'a [u8]
     requires within { i < length ends.now }
     requires rising { start_of ends.now i + 4 ≤ slice_index ends.now i }
     requires end { slice_index ends.now i ≤ length bytes.now }

@@ -5,6 +5,7 @@ use Rattle.std.proofs.MapsCrossing as maps
 use Rattle.scan_values.proofs.ArraysSent.{Array-send}
 use Rattle.scan_values.proofs.DTypeSent.{DType-send}
 use Rattle.scan_values.specs.contracts.selection.Selection as Selection
+use Rattle.scan_segments.proofs.BytesSent.{ByteBuffer-send}
 use Rattle.scan_plans.specs.contracts.plan.Plan as Plan
 use Rattle.scan_plans.proofs.PlansSent.{Plan-send, Plan-sync, ArrayFuture-send}
 use Rattle.scan_splits.specs.contracts.inbox.Inbox as Inbox
@@ -24,7 +25,7 @@ use Rattle.scan_streams.specs.contracts.run.Run as Run
 use Rattle.scan_streams.specs.contracts.slot.Slot as Slot
 
 inbox_send : IsSend Inbox.the_row
-inbox_send = search (sendable, cross.crosses, maps.crosses) depth 40
+inbox_send = let b = ByteBuffer-send in search (sendable, cross.crosses, maps.crosses) depth 40
 
 wanted_send : IsSend WantedIds.the_row
 wanted_send = search (sendable, cross.crosses) depth 40
