@@ -34,3 +34,4 @@ pub mod Pruned
 pub mod BoundsSent
 pub mod PlansSent
 pub mod Rising
+pub mod LastOffsets

@@ -218,7 +218,7 @@ take_whole (x ∷ xs) = ap (λ ys. x ∷ ys) (take_whole xs)
 abbrev pub ends_in : List ℕ → List ℕ
 ends_in xs = take (length xs - 1) (drop 1 xs)
 
-ends_are : (x : ℕ) (xs : List ℕ) → ends_in (x ∷ xs) ≡ xs
+pub ends_are : (x : ℕ) (xs : List ℕ) → ends_in (x ∷ xs) ≡ xs
 ends_are x xs = let z : suc (length xs) - 1 ≡ length xs = omega arith in ap (λ n. take n xs) z ∙ take_whole xs
 
 pub opened_climbs : (most : ℕ) (xs : List ℕ) → 0 < length xs → Climbs most 0 xs → Climbs most (get_or xs 0 0) (ends_in xs)

@@ -1,5 +1,6 @@
 -- A walk over filters.
 use Rattle.std.proofs.Common.{◌≡◌, ℕ, zero, suc, ◌+◌, ◌<◌, ◌≤◌, Bool, true, List, [], ◌∷◌, ◌++◌, map, length, take, ◌-◌, drop, get_or, Option, Some, None, Ok, Err, refl, ap, subst, ◌∙◌, sym, arith}
+use Rattle.std.proofs.lemmas.List.{drop_all}
 use Rattle.scan_values.specs.Fits.{is_bool_type}
 use Rattle.scan_plans.specs.Came.{Came, arrived}
 use Rattle.scan_plans.specs.Given.{AreLacking}
@@ -130,6 +131,17 @@ goes_answer here bits mid fs ran n (Some ids) r l = record {
   exact = λ id. l.exact id ∙ sym (reach_lacks here bits (filters_of (drop ran fs)) n mid id r);
   good = λ id. reach_bad here bits (filters_of (drop ran fs)) n mid id r ∙ l.good id;
 }
+
+-- where no filter is left the mask is known
+pub none_left : (fs : List Filter) (ran : ℕ) → length fs ≤ ran → filters_of (drop ran fs) ≡ []
+none_left fs ran h = ap filters_of (drop_all ran fs h)
+
+pub known_already : (here : Came) (m : MaskData) → m.filters ≡ [] → Knows here m m (Ok None)
+known_already here m e = (
+  e,
+  λ id. ap (λ (gs : List Seen). lacks (filters_wanted here m.known gs) here id) e,
+  λ id. ap (λ (gs : List Seen). spoils (filters_wanted here m.known gs) here id) e,
+)
 
 pub take_rest : {A : Type 0} (n : ℕ) (xs : List A) → take (length xs - n) (drop n xs) ≡ drop n xs
 take_rest zero xs = let z : length xs - 0 ≡ length xs = omega arith in ap (λ k. take k xs) z ∙ take_whole xs

@@ -15,6 +15,7 @@ mod node;
 mod offsets;
 mod plan;
 mod reading;
+mod sizes;
 mod threads;
 
 pub use future::ArrayFuture;

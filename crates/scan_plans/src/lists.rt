@@ -27,6 +27,7 @@ use crate::climbing::climbing_column;
 use crate::fault::ReadFault;
 use crate::leaf::{collect_leaf, no_values, read_leaf};
 use crate::offsets::Offsets;
+use crate::sizes::{are_near, ends_from, sizes_of};
 use scan_columns::Column;
 use scan_segments::SegmentId;
 use scan_splits::{Inbox, SegmentRuns, WantedIds, Wants};
@@ -338,8 +339,8 @@ fn add_all(ids: &WantedIds, wants: &mut Wants) -> Result<(), ReadFault>
     Ok(())
 }
 
-/// How many elements each list has, by where the first begins and each ends.
-fn sizes_of(alloc: Global, start: u64, ends: &[u64]) -> Result<Vec<Value>, NoMemory>
+/// How many elements each list has, by where the first begins and each ends, as values.
+fn size_values(alloc: Global, start: u64, ends: &[u64]) -> Result<Vec<Value>, NoMemory>
     requires { Rises start ends.now }
     ensures { IfOk result (λ v. map val_of v.items ≡ map length_val (sizes start ends.now)) }
 {
@@ -352,6 +353,34 @@ fn sizes_of(alloc: Global, start: u64, ends: &[u64]) -> Result<Vec<Value>, NoMem
     Ok(made)
 }
 
+/// How many elements those lists have at which the mask is true, by where the first begins and each ends, through values.
+fn far_lengths(alloc: Global, most: u64, offsets: &[u64], mask: &Mask) -> Result<Column, NoMemory>
+    requires length { length offsets.now ≡ length mask.now + 1 }
+    requires climbs { Climbs most 0 offsets.now }
+    ensures { IfOk result (λ c. c ≡
+        of_parts (int_type U64 NonNullable) (items_where_true mask.now (map length_val (sizes_in offsets.now)))) }
+{
+    let dtype = DType::primitive(PType::U64, Nullability::NonNullable);
+    let sizes = size_values(alloc, offsets[0], &offsets[1..])?;
+    let column = Column::from_array(alloc, Array::of_fitting(dtype, sizes))?;
+    column.filter(alloc, mask)
+}
+
+/// The same, where each ends at a number of an i64: no value is made.
+fn near_lengths(alloc: Global, most: u64, offsets: &[u64], mask: &Mask) -> Result<Column, NoMemory>
+    requires length { length offsets.now ≡ length mask.now + 1 }
+    requires climbs { Climbs most 0 offsets.now }
+    requires near { last_in offsets.now < 2 ^ 63 }
+    ensures { IfOk result (λ c. c ≡
+        of_parts (int_type U64 NonNullable) (items_where_true mask.now (map length_val (sizes_in offsets.now)))) }
+{
+    let dtype = DType::primitive(PType::U64, Nullability::NonNullable);
+    let dtype = Arc::new(alloc, dtype)?;
+    let sizes = sizes_of(alloc, offsets[0], &offsets[1..])?;
+    let column = Column::of_numbers(alloc, dtype, sizes)?;
+    column.filter(alloc, mask)
+}
+
 /// How many elements those lists have at which the mask is true, by where the first begins and each ends.
 fn lengths_of(alloc: Global, most: u64, offsets: &[u64], mask: &Mask) -> Result<Column, NoMemory>
     requires length { length offsets.now ≡ length mask.now + 1 }
@@ -359,10 +388,11 @@ fn lengths_of(alloc: Global, most: u64, offsets: &[u64], mask: &Mask) -> Result<
     ensures { IfOk result (λ c. c ≡
         of_parts (int_type U64 NonNullable) (items_where_true mask.now (map length_val (sizes_in offsets.now)))) }
 {
-    let dtype = DType::primitive(PType::U64, Nullability::NonNullable);
-    let sizes = sizes_of(alloc, offsets[0], &offsets[1..])?;
-    let column = Column::from_array(alloc, Array::of_fitting(dtype, sizes))?;
-    column.filter(alloc, mask)
+    if are_near(offsets) {
+        near_lengths(alloc, most, offsets, mask)
+    } else {
+        far_lengths(alloc, most, offsets, mask)
+    }
 }
 
 /// No lengths.
@@ -395,15 +425,7 @@ fn rebased(alloc: Global, start: u64, ends: &[u64]) -> Result<Vec<usize>, NoMemo
     requires { Rises start ends.now }
     ensures { IfOk result (λ v. v.items ≡ sums 0 (sizes start ends.now)) }
 {
-    let mut made = Vec::with_capacity(alloc, ends.len())?;
-    let mut before = start;
-    let mut last: usize = 0;
-    for end in ends {
-        last += (*end - before) as usize;
-        made.push(last)?;
-        before = *end;
-    }
-    Ok(made)
+    Ok(ends_from(alloc, start, ends)?)
 }
 
 /// The rows of so many elements, which are all.

@@ -182,6 +182,9 @@ impl MaskFuture {
         ensures length { length self.new.known ≡ length self.old.known }
         ensures answer { Knows (came inbox.now) self.old self.new result }
     {
+        if self.ran >= self.filters.len() {
+            return Ok(None);
+        }
         let rest = &self.filters[self.ran..];
         let progress = run_filters(alloc, &self.known, rest, inbox)?;
         self.known = progress.known;

@@ -38,13 +38,13 @@ fn read_rows(alloc: Global, array: &Array, first: u64, mask: &Mask) -> Result<Co
 }
 
 /// An expression over values.
-fn evaluated(alloc: Global, expr: &BoundExpression, column: &Column) -> Result<Column, ReadFault>
-    requires scope { column.now.dtype ≡ expr.now.scope }
+fn evaluated(alloc: Global, expr: &BoundExpression, column: Column) -> Result<Column, ReadFault>
+    requires scope { column.dtype ≡ expr.now.scope }
     requires rows { uses_row_index expr.now.expr ≡ false }
-    ensures { (p : PlanTree) (here : Came) (is : List ℕ) → AreValues p here is column.now →
+    ensures { (p : PlanTree) (here : Came) (is : List ℕ) → AreValues p here is column →
         Reads (evaluate expr.now.scope expr.now.expr p) here is result }
 {
-    Ok(column.evaluate(alloc, expr)?)
+    Ok(column.evaluate_owned(alloc, expr)?)
 }
 
 /// An expression over structs of values.
@@ -166,7 +166,7 @@ impl PlanNode {
             Kind::Rows(array) => read_rows(alloc, array, first, mask),
             Kind::Evaluate(expr, node) => {
                 let column = node.read(alloc, first, mask, inbox)?;
-                evaluated(alloc, expr, &column)
+                evaluated(alloc, expr, column)
             }
             Kind::Over(root, parts) => {
                 let columns = parts.read(alloc, first, mask, inbox)?;
@@ -191,7 +191,7 @@ impl PlanNode {
             Kind::Numbers(number) => numbered(alloc, *number, first, mask.as_slice()),
             Kind::ByLengths(_, over_lengths, node) => {
                 let column = node.read(alloc, first, mask, inbox)?;
-                evaluated(alloc, over_lengths, &column)
+                evaluated(alloc, over_lengths, column)
             }
         }
     }

@@ -47,15 +47,35 @@ fn two_segments(alloc: Global) -> Result<SegmentRuns, Fail>
     Ok(SegmentRuns::from_segments(alloc, &segments)?)
 }
 
-/// The leaf of these segments.
+/// The segment of this id, of three rows.
+fn one_segment(alloc: Global, id: u32) -> Result<SegmentRuns, Fail>
+    ensures { IfOk result (λ runs. total_rows runs ≡ 3) }
+{
+    let mut segments = Vec::new(alloc);
+    segments.push((SegmentId::from(id), 3))?;
+    let segments = LeafSegments::new(segments);
+    Ok(SegmentRuns::from_segments(alloc, &segments)?)
+}
+
+/// The leaf of segments.
+fn leaf_of(alloc: Global, runs: SegmentRuns) -> Result<PlanNode, Fail>
+    requires { total_rows runs ≡ 3 }
+    ensures dtype { IfOk result (λ p. plan_dtype p ≡ int_type PType.I32 Nullability.NonNullable) }
+    ensures rows { IfOk result (λ p. Within p 3) }
+    ensures overflow { IfOk result (λ p. NeverOverflows p 3) }
+{
+    let runs = Arc::new(alloc, runs)?;
+    let dtype = Arc::new(alloc, int())?;
+    Ok(PlanNode::leaf(dtype, Spelling::One, runs))
+}
+
+/// The leaf of the segments 0 and 1.
 pub(crate) fn leaf(alloc: Global) -> Result<PlanNode, Fail>
     ensures dtype { IfOk result (λ p. plan_dtype p ≡ int_type PType.I32 Nullability.NonNullable) }
     ensures rows { IfOk result (λ p. Within p 3) }
     ensures overflow { IfOk result (λ p. NeverOverflows p 3) }
 {
-    let runs = Arc::new(alloc, two_segments(alloc)?)?;
-    let dtype = Arc::new(alloc, int())?;
-    Ok(PlanNode::leaf(dtype, Spelling::One, runs))
+    leaf_of(alloc, two_segments(alloc)?)
 }
 
 /// The plan of `$` over the leaf.
@@ -76,15 +96,35 @@ fn above_one(alloc: Global) -> Result<Expression, Fail>
     Ok(Expression::gt(alloc, Expression::root(), one)?)
 }
 
-/// The plan of `$ > 1` over the leaf.
-pub(crate) fn plan_above_one(alloc: Global) -> Result<Arc<Plan>, Fail>
+/// The plan of `$ > 1` over three numbers.
+fn plan_above_one_of(alloc: Global, node: PlanNode) -> Result<Arc<Plan>, Fail>
+    requires dtype { plan_dtype node ≡ int_type PType.I32 Nullability.NonNullable }
+    requires rows { Within node 3 }
+    requires overflow { NeverOverflows node 3 }
     ensures rows { IfOk result (λ p. Within (p.value).tree 3) }
     ensures dtype { IfOk result (λ p. is_bool_type (plan_dtype (p.value).tree) ≡ true) }
 {
     let above = above_one(alloc)?;
     let bound = over_ints(alloc, &above)?;
-    let node = PlanNode::evaluate(alloc, over_ints(alloc, &above)?, leaf(alloc)?)?;
+    let node = PlanNode::evaluate(alloc, over_ints(alloc, &above)?, node)?;
     Ok(Arc::new(alloc, Plan::new(bound, node))?)
+}
+
+/// The plan of `$ > 1` over the leaf.
+pub(crate) fn plan_above_one(alloc: Global) -> Result<Arc<Plan>, Fail>
+    ensures rows { IfOk result (λ p. Within (p.value).tree 3) }
+    ensures dtype { IfOk result (λ p. is_bool_type (plan_dtype (p.value).tree) ≡ true) }
+{
+    plan_above_one_of(alloc, leaf(alloc)?)
+}
+
+/// The plan of `$ > 1` over the leaf of one segment.
+pub(crate) fn plan_above_one_in(alloc: Global, id: u32) -> Result<Arc<Plan>, Fail>
+    ensures rows { IfOk result (λ p. Within (p.value).tree 3) }
+    ensures dtype { IfOk result (λ p. is_bool_type (plan_dtype (p.value).tree) ≡ true) }
+{
+    let node = leaf_of(alloc, one_segment(alloc, id)?)?;
+    plan_above_one_of(alloc, node)
 }
 
 /// The numbers 1, 2 and 3.

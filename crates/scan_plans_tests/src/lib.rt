@@ -9,3 +9,5 @@ mod lists;
 mod masked;
 #[cfg(test)]
 mod plans;
+#[cfg(test)]
+mod texts;

@@ -2,8 +2,8 @@
 ghost use Rattle.scan_plans.specs.Meaning.{Within};
 
 use crate::fixtures::{
-    deliver, filter, gives_mask, gives_numbers, miss, plan_above_one, plan_of_leaf,
-    plan_of_numbers, plan_of_one, project, project_all, spoils, wants,
+    deliver, filter, gives_mask, gives_numbers, miss, plan_above_one, plan_above_one_in,
+    plan_of_leaf, plan_of_numbers, plan_of_one, project, project_all, spoils, wants,
 };
 use scan_plans::{ArrayFuture, MaskFuture, Plan};
 use scan_splits::Inbox;
@@ -125,6 +125,28 @@ fn a_filter_keeps_the_true_rows_above_one(rt: HostRuntime) -> Result<(), Fail> {
     deliver(alloc, &mut inbox, 0, &[1, 0, 0, 0, 2, 0, 0, 0])?;
     deliver(alloc, &mut inbox, 1, &[3, 0, 0, 0])?;
     assert!(rt; is_mask(alloc, &mut mask, &inbox, &[false, true, false]));
+    Ok(())
+}
+
+/// The rows that are above 1 in the leaf and in that of segment 2.
+fn above_one_in_both(alloc: Global) -> Result<MaskFuture, Fail> {
+    let plan = plan_above_one(alloc)?;
+    let mask = filter(alloc, &plan, [true, true, true])?;
+    let other = plan_above_one_in(alloc, 2)?;
+    Ok(Plan::filter(&other, &(0..3), mask)?)
+}
+
+#[test]
+fn a_filter_that_ran_wants_nothing_more(rt: HostRuntime) -> Result<(), Fail> {
+    let alloc = rt.alloc();
+    let mut first = Inbox::new(alloc);
+    let mut mask = above_one_in_both(alloc)?;
+    deliver(alloc, &mut first, 0, &[1, 0, 0, 0, 2, 0, 0, 0])?;
+    deliver(alloc, &mut first, 1, &[3, 0, 0, 0])?;
+    assert!(rt; holds_back(alloc, &mut mask, &first, 2));
+    let mut second = Inbox::new(alloc);
+    deliver(alloc, &mut second, 2, &[5, 0, 0, 0, 1, 0, 0, 0, 7, 0, 0, 0])?;
+    assert!(rt; is_mask(alloc, &mut mask, &second, &[false, false, true]));
     Ok(())
 }
 

@@ -4,7 +4,7 @@ use Rattle.scan_plans.specs.Knowing.{RunsAll, Knows}
 use Rattle.scan_plans.specs.Masks.{MaskData, mask_data, SameMask, AreFilters}
 use Rattle.scan_plans.specs.MaskView.{filters_of}
 use Rattle.scan_plans.specs.declared.mask.Filter.{Filter}
-use Rattle.scan_plans.proofs.Progressing.{take_rest, goes_within, goes_form, goes_same, goes_answer, goes_length}
+use Rattle.scan_plans.proofs.Progressing.{take_rest, goes_within, goes_form, goes_same, goes_answer, goes_length, stays_same, none_left, known_already}
 use Rattle.scan_plans.proofs.mask.MaskFuture.know.Goals as goal
 
 pub run_filters-requires : goal.run_filters-requires
@@ -71,3 +71,12 @@ returns-clause-length c =
     let p = c.in_ok-progress.progress in
     let r : RunsAll here bits (filters_of (drop ran fs)) (Ok p) = subst (λ (xs : List Filter). RunsAll here bits (filters_of xs) (Ok p)) rest c.in_ok-progress.ensures in
     goes_length here bits p.known fs ran p.ran r.0 ∙ ap (λ (m : MaskData). length m.known) c.self.view_is
+
+pub returns-then-self-len-clause-same : goal.returns-then-self-len-clause-same
+returns-then-self-len-clause-same c = stays_same (came c.args.inbox.now) c.args.self.now
+
+pub returns-then-self-len-clause-answer : goal.returns-then-self-len-clause-answer
+returns-then-self-len-clause-answer c =
+    let fs = c.self.inside.filters.items in
+    let left : length fs ≤ c.self.inside.ran = omega (arith, c.if-self-len.true, c.len.ensures, c.self.inside.filters.ok.0) in
+    known_already (came c.args.inbox.now) c.args.self.now (sym (ap (λ (m : MaskData). m.filters) c.self.view_is) ∙ none_left fs c.self.inside.ran left)

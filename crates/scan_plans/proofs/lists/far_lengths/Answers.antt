@@ -7,10 +7,10 @@ use Rattle.scan_values.specs.declared.ptype.PType.TheVariants.{U64}
 use Rattle.scan_values.specs.Values.{val_of}
 use Rattle.scan_plans.specs.ListItems.{length_val, sizes_in}
 use Rattle.scan_plans.proofs.ListCells.{climbs_rises, ends_in, opened_climbs, opened_sizes, lengths_fit, lengths_long}
-use Rattle.scan_plans.proofs.lists.lengths_of.Goals as goal
+use Rattle.scan_plans.proofs.lists.far_lengths.Goals as goal
 
-pub sizes_of-requires : goal.sizes_of-requires
-sizes_of-requires c =
+pub size_values-requires : goal.size_values-requires
+size_values-requires c =
     let some : 0 < length c.args.offsets.now = omega (arith, c.requires.length) in
     search (rules, climbs_rises c.args.most (get_or c.args.offsets.now 0 0) (ends_in c.args.offsets.now) (opened_climbs c.args.most c.args.offsets.now some c.requires.climbs))
 

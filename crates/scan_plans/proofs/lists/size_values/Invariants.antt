@@ -2,7 +2,7 @@ use Rattle.std.proofs.Common.{◌≡◌, ◌++◌, drop, map}
 use Rattle.scan_values.specs.Values.{val_of}
 use Rattle.scan_columns.specs.Nested.{sizes, Rises}
 use Rattle.scan_plans.specs.ListItems.{length_val}
-use Rattle.scan_plans.proofs.lists.sizes_of.Given as goal
+use Rattle.scan_plans.proofs.lists.size_values.Given as goal
 
 abbrev pub invariant-loop-end : goal.invariant-loop-end
 invariant-loop-end l = record {
