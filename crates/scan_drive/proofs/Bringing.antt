@@ -1,9 +1,10 @@
 -- Polls of live requests bring the splits that wait nearer to their ends.
-use Rattle.std.proofs.Common.{◌≡◌, ◌≢◌, ℕ, ◌+◌, ◌<◌, ◌≤◌, List, [], ◌∷◌, length, set, get_or, get_or-set_same, get_or-set_other, Bool, true, false, ◌||◌, cond, eqb, Option, Some, None, is_some, inl, inr, refl, sym, ap, ◌∙◌, subst, arith}
-use Rattle.std.specs.Prelude.{◌⊎◌}
+use Rattle.std.proofs.Common.{◌≡◌, ◌≢◌, ℕ, zero, suc, ◌+◌, ◌++◌, ◌<◌, ◌≤◌, List, [], ◌∷◌, length, set, get_or, get_or-set_same, get_or-set_other, Bool, true, false, ◌||◌, cond, eqb, Option, Some, None, is_some, inl, inr, refl, sym, ap, ◌∙◌, subst, arith}
+use Rattle.std.specs.Prelude.{◌⊎◌, map, drop, IsPermutation}
 use Rattle.std.proofs.lemmas.Bool.{cases_eq}
 use Rattle.std.proofs.lemmas.Bool.Decides.{nat_tests}
 use Rattle.std.proofs.lemmas.List.{get_or_default}
+use Rattle.std.proofs.lemmas.List.Sorted.{IsPermutation-map}
 use Rattle.scan_segments.proofs.LiveSets.{at-id}
 use Rattle.scan_segments.specs.Source.{SourceState}
 use Rattle.scan_values.specs.Selections.{is_among}
@@ -19,8 +20,11 @@ use Rattle.scan_drive.specs.Drives.{desk_at, BringsFileNearer}
 use Rattle.scan_drive.specs.declared.files.ScanFile.{ScanFile}
 use Rattle.scan_drive.specs.declared.slot.Halt.{Halt}
 use Rattle.scan_drive.specs.declared.slot.Slot.{Slot}
+use Rattle.scan_drive.proofs.Desking.{among_snoc}
+use Rattle.scan_drive.proofs.Handing.{drop_next, or_right}
 use Rattle.scan_drive.proofs.Linking.{each_at, take_all, waits_still}
 use Rattle.scan_drive.proofs.Nearing.{all_each, nearer_then, nearer_handed, advances_handed, nearer_lost, advances_lost}
+use Rattle.scan_drive.proofs.Same.{alike}
 
 some_of : (b : Bool) (x : List ℕ) (o : Option (List ℕ)) → (b || is_some o) ≡ is_some (cond b (Some x) o)
 some_of true x o = refl
@@ -130,36 +134,121 @@ module _ {W I R : Type 0} (split : W → SplitState I) where
   pub fetched_nearer : (ids : List ℕ) (s t : SourceState) (d : Waiters) (old new : List (Slot W R)) → ids ≡ live_ids d → ((id : ℕ) → is_among ids id ≡ true → BringsNearer split id s t d old new) → (id : ℕ) → BringsNearer split id s t d old new
   fetched_nearer ids s t d old new is h id place w v = h id (ap (λ (xs : List ℕ). is_among xs id) is ∙ among_live d id ∙ waits_live d id place w) place w v
 
+-- a file and its desk are as they were
+pub record IsUntouched {O S : Type 0} (k : ℕ) (files0 files : List (ScanFile O S)) (desks0 desks : List Waiters) : Type 0 where
+  pub file : (f : ScanFile O S) → get_or files k f ≡ get_or files0 k f
+  pub desk : desk_at desks k ≡ desk_at desks0 k
+
 module _ {O S W I R : Type 0} (source : S → SourceState) (split : W → SplitState I) where
-  -- files, the first of which is polled first
-  pub record FirstNearer (first k : ℕ) (files0 files : List (ScanFile O S)) (desks0 desks : List Waiters) (slots0 slots : List (Slot W R)) : Type 0 where
-    pub before : k ≡ first → (files ≡ files0) × (desks ≡ desks0) × (slots ≡ slots0)
-    pub after : first < k → BringsFileNearer source split first files0 files desks0 slots0 slots
+  -- each of the files at these places was polled, or it is among the rest and is as it was
+  abbrev pub PolledBut : List ℕ → List ℕ → List (ScanFile O S) → List (ScanFile O S) → List Waiters → List Waiters → List (Slot W R) → List (Slot W R) → Type 0
+  PolledBut all rest files0 files desks0 desks slots0 slots =
+      (k : ℕ) → is_among all k ≡ true → BringsFileNearer source split k files0 files desks0 slots0 slots ⊎ ((is_among rest k ≡ true) × IsUntouched k files0 files desks0 desks)
 
-  pub first_next : (first k : ℕ) (files0 files : List (ScanFile O S)) (desks0 desks : List Waiters) (slots0 slots new : List (Slot W R)) (x y : ScanFile O S) (d e : Waiters) → first ≤ k
-      → k < length files → k < length desks → x ≡ get_or files k x → d ≡ get_or desks k d → FirstNearer first k files0 files desks0 desks slots0 slots → EachAdvances split slots new →
-      ((id : ℕ) → BringsNearer split id (source x.source) (source y.source) d slots new) → FirstNearer first (k + 1) files0 (set files k y) desks0 (set desks k e) slots0 new
-  first_next first k files0 files desks0 desks slots0 slots new x y d e le lt dlt at dat h adv near = record {
-    before = λ is. absurd (omega arith);
-    after = λ l f id. go (cases_eq k first) f id;
-  }
+  pub none_polled : (all : List ℕ) (files : List (ScanFile O S)) (desks : List Waiters) (slots : List (Slot W R)) → PolledBut all all files files desks desks slots slots
+  none_polled all files desks slots k m = inr (m, record { file = λ f. refl; desk = refl })
+
+  pub all_polled : (all rest : List ℕ) (files0 files : List (ScanFile O S)) (desks0 desks : List Waiters) (slots0 slots : List (Slot W R)) → rest ≡ [] → PolledBut all rest files0 files desks0 desks slots0 slots
+      → (k : ℕ) → is_among all k ≡ true → BringsFileNearer source split k files0 files desks0 slots0 slots
+  all_polled all rest files0 files desks0 desks slots0 slots e h k m = go (h k m)
     where
-      Goal : ScanFile O S → ℕ → Type 0
-      Goal f id = BringsNearer split id (source (get_or files0 first f).source) (source (get_or (set files k y) first f).source) (desk_at desks0 first) slots0 new
+      go : BringsFileNearer source split k files0 files desks0 slots0 slots ⊎ ((is_among rest k ≡ true) × IsUntouched k files0 files desks0 desks) → BringsFileNearer source split k files0 files desks0 slots0 slots
+      go (inl b) = b
+      go (inr r) = let bad : false ≡ true = sym (ap (λ (xs : List ℕ). is_among xs k) e) ∙ r.0 in absurd cc
 
-      go : (k ≡ first) ⊎ (k ≢ first) → (f : ScanFile O S) (id : ℕ) → Goal f id
-      go (inl is) f id place w v =
-          let same = h.before is in
-          let xs : x ≡ get_or files0 first f = at ∙ get_or_default files k x f lt ∙ ap (λ (fs : List (ScanFile O S)). get_or fs k f) same.0 ∙ ap (λ j. get_or files0 j f) is in
-          let ds : d ≡ desk_at desks0 first = dat ∙ get_or_default desks k d [] dlt ∙ ap (λ (es : List Waiters). desk_at es k) same.1 ∙ ap (desk_at desks0) is in
-          let ys : get_or (set files k y) first f ≡ y = sym (ap (λ j. get_or (set files k y) j f) is) ∙ get_or-set_same files k y f lt in
-          let now = near id place (ap (λ (z : Waiters). waits z id place) ds ∙ w) (ap (λ (ss : List (Slot W R)). stage_waits (slot_at ss place).stage id) same.2 ∙ v) in
-          subst (λ (z : ScanFile O S). ((source (get_or (set files k y) first f).source).turns < (source z.source).turns) ⊎ IsNearer split (slot_at slots0 place) (slot_at new place)) xs
-          (subst (λ (z : ScanFile O S). ((source z.source).turns < (source x.source).turns) ⊎ IsNearer split (slot_at slots0 place) (slot_at new place)) (sym ys)
-          (subst (λ (ss : List (Slot W R)). ((source y.source).turns < (source x.source).turns) ⊎ IsNearer split (slot_at ss place) (slot_at new place)) same.2 now))
-      go (inr n) f id place w v = later (h.after (omega (arith, le, n)) f id place w v)
+  -- one file more is polled
+  pub polled_more : (all rest : List ℕ) (i : ℕ) (files0 files : List (ScanFile O S)) (desks0 desks : List Waiters) (slots0 slots new : List (Slot W R)) (x y : ScanFile O S) (d e : Waiters)
+      → i < length files → i < length desks → x ≡ get_or files i x → d ≡ get_or desks i d → (source y.source).turns ≤ (source x.source).turns → EachAdvances split slots0 slots → EachAdvances split slots new →
+      ((id : ℕ) → BringsNearer split id (source x.source) (source y.source) d slots new) → PolledBut all (i ∷ rest) files0 files desks0 desks slots0 slots → PolledBut all rest files0 (set files i y) desks0 (set desks i e) slots0 new
+  polled_more all rest i files0 files desks0 desks slots0 slots new x y d e lt dlt at dat fell before adv near h k m = go (h k m) (cases_eq i k)
+    where
+      Goal : Type 0
+      Goal = BringsFileNearer source split k files0 (set files i y) desks0 slots0 new ⊎ ((is_among rest k ≡ true) × IsUntouched k files0 (set files i y) desks0 (set desks i e))
+
+      x_at : (f : ScanFile O S) → x ≡ get_or files i f
+      x_at f = at ∙ get_or_default files i x f lt
+
+      y_at : (f : ScanFile O S) → get_or (set files i y) i f ≡ y
+      y_at f = get_or-set_same files i y f lt
+
+      -- what was polled before stays so
+      turns : (f : ScanFile O S) → (i ≡ k) ⊎ (i ≢ k) → (source (get_or (set files i y) k f).source).turns ≤ (source (get_or files k f).source).turns
+      turns f (inl is) =
+          let a : (source (get_or (set files i y) k f).source).turns ≡ (source y.source).turns = sym (ap (λ j. (source (get_or (set files i y) j f).source).turns) is) ∙ ap (λ (z : ScanFile O S). (source z.source).turns) (y_at f) in
+          let b : (source x.source).turns ≡ (source (get_or files k f).source).turns = ap (λ (z : ScanFile O S). (source z.source).turns) (x_at f) ∙ ap (λ j. (source (get_or files j f).source).turns) is in
+          omega (arith, a, b, fell)
+      turns f (inr n) =
+          let a : (source (get_or (set files i y) k f).source).turns ≡ (source (get_or files k f).source).turns = ap (λ (z : ScanFile O S). (source z.source).turns) (get_or-set_other files i k y f (λ q. n (sym q))) in
+          omega (arith, a)
+
+      stays : BringsFileNearer source split k files0 files desks0 slots0 slots → BringsFileNearer source split k files0 (set files i y) desks0 slots0 new
+      stays b f id place w v = later (b f id place w v)
         where
-          later : ((source (get_or files first f).source).turns < (source (get_or files0 first f).source).turns) ⊎ IsNearer split (slot_at slots0 place) (slot_at slots place)
-              → ((source (get_or (set files k y) first f).source).turns < (source (get_or files0 first f).source).turns) ⊎ IsNearer split (slot_at slots0 place) (slot_at new place)
-          later (inl l) = inl (subst (λ (z : ScanFile O S). (source z.source).turns < (source (get_or files0 first f).source).turns) (sym (get_or-set_other files k first y f (λ q. n (sym q)))) l)
-          later (inr m) = inr (nearer_then split (slot_at slots0 place) (slot_at slots place) (slot_at new place) m (adv.at place))
+          later : ((source (get_or files k f).source).turns < (source (get_or files0 k f).source).turns) ⊎ IsNearer split (slot_at slots0 place) (slot_at slots place)
+              → ((source (get_or (set files i y) k f).source).turns < (source (get_or files0 k f).source).turns) ⊎ IsNearer split (slot_at slots0 place) (slot_at new place)
+          later (inl l) = let t = turns f (cases_eq i k) in inl (omega (arith, l, t))
+          later (inr g) = inr (nearer_then split (slot_at slots0 place) (slot_at slots place) (slot_at new place) g (adv.at place))
+
+      -- it is polled now
+      polls : i ≡ k → IsUntouched k files0 files desks0 desks → BringsFileNearer source split k files0 (set files i y) desks0 slots0 new
+      polls is u f id place w v = slot (before.at place).nears
+        where
+          Now : Type 0
+          Now = ((source (get_or (set files i y) k f).source).turns < (source (get_or files0 k f).source).turns) ⊎ IsNearer split (slot_at slots0 place) (slot_at new place)
+
+          ds : d ≡ desk_at desks0 k
+          ds = dat ∙ get_or_default desks i d [] dlt ∙ ap (desk_at desks) is ∙ u.desk
+
+          x_was : (source x.source).turns ≡ (source (get_or files0 k f).source).turns
+          x_was = ap (λ (z : ScanFile O S). (source z.source).turns) (x_at f) ∙ ap (λ j. (source (get_or files j f).source).turns) is ∙ ap (λ (z : ScanFile O S). (source z.source).turns) (u.file f)
+
+          y_is : (source (get_or (set files i y) k f).source).turns ≡ (source y.source).turns
+          y_is = sym (ap (λ j. (source (get_or (set files i y) j f).source).turns) is) ∙ ap (λ (z : ScanFile O S). (source z.source).turns) (y_at f)
+
+          slot : (slot_at slots place ≡ slot_at slots0 place) ⊎ IsNearer split (slot_at slots0 place) (slot_at slots place) → Now
+          slot (inr g) = inr (nearer_then split (slot_at slots0 place) (slot_at slots place) (slot_at new place) g (adv.at place))
+          slot (inl same) = by (near id place (ap (λ (z : Waiters). waits z id place) ds ∙ w) (ap (λ (s : Slot W R). stage_waits s.stage id) same ∙ v))
+            where
+              by : ((source y.source).turns < (source x.source).turns) ⊎ IsNearer split (slot_at slots place) (slot_at new place) → Now
+              by (inl l) = inl (omega (arith, l, x_was, y_is))
+              by (inr g) = inr (subst (λ (s : Slot W R). IsNearer split s (slot_at new place)) same g)
+
+      go : BringsFileNearer source split k files0 files desks0 slots0 slots ⊎ ((is_among (i ∷ rest) k ≡ true) × IsUntouched k files0 files desks0 desks) → (i ≡ k) ⊎ (i ≢ k) → Goal
+      go (inl b) c = inl (stays b)
+      go (inr r) (inl is) = inl (polls is r.1)
+      go (inr r) (inr n) = inr (
+        other_id i k rest n r.0,
+        record {
+          file = λ f. get_or-set_other files i k y f (λ q. n (sym q)) ∙ r.1.file f;
+          desk = get_or-set_other desks i k e [] (λ q. n (sym q)) ∙ r.1.desk;
+        },
+      )
+
+-- ---- the desks that are polled, each file with its place
+abbrev pub places : List (ℕ × ℕ) → List ℕ
+places found = map (λ (p : ℕ × ℕ). p.1) found
+
+pub places_next : (found : List (ℕ × ℕ)) (i : ℕ) (p : ℕ × ℕ) → i < length found → p ≡ get_or found i p → places (drop i found) ≡ p.1 ∷ places (drop (i + 1) found)
+places_next found i p lt e = ap places (drop_next found i p lt) ∙ ap (λ (q : ℕ × ℕ). q.1 ∷ places (drop (i + 1) found)) (sym e)
+
+pub places_end : (found : List (ℕ × ℕ)) (i : ℕ) → length found ≤ i → places (drop i found) ≡ []
+places_end [] zero le = refl
+places_end [] (suc i) le = refl
+places_end (x ∷ found) zero le = absurd (omega (arith, le))
+places_end (x ∷ found) (suc i) le = places_end found i (omega (arith, le))
+
+-- one more in the list
+pub places_pushed : (first place k : ℕ) (n : ℕ) (found : List (ℕ × ℕ)) → ((j : ℕ) → first ≤ j → j < place → is_among (places found) j ≡ true) → first ≤ k → k < place + 1 → is_among (places (found ++ (n, place) ∷ [])) k ≡ true
+places_pushed first place k n found h from to = ap (λ (xs : List ℕ). is_among xs k) (appended found) ∙ among_snoc (places found) place k ∙ either (cases_eq place k)
+  where
+    appended : (xs : List (ℕ × ℕ)) → places (xs ++ (n, place) ∷ []) ≡ places xs ++ place ∷ []
+    appended [] = refl
+    appended (x ∷ xs) = ap (λ (ys : List ℕ). x.1 ∷ ys) (appended xs)
+
+    either : (place ≡ k) ⊎ (place ≢ k) → (is_among (places found) k || eqb place k) ≡ true
+    either (inl is) = let on : eqb place k ≡ true = grind (arith, nat_tests) in or_right (is_among (places found) k) (eqb place k) on
+    either (inr n) = let b : is_among (places found) k ≡ true = h k from (omega (arith, to, n)) in ap (λ c. c || eqb place k) b
+
+-- the same in another order
+pub places_sorted : (k : ℕ) (xs ys : List (ℕ × ℕ)) → IsPermutation xs ys → is_among (places xs) k ≡ true → is_among (places ys) k ≡ true
+places_sorted k xs ys p m = sym ((alike (places xs) (places ys) (IsPermutation-map (λ q. q.1) xs ys p)).0 k) ∙ m

@@ -14,7 +14,7 @@ use Rattle.scan_drive.specs.Files.{Group, grouped, Told, told_at, untold, part_g
 use Rattle.scan_drive.specs.Grants.{AreFronts, AreSome, AreGiven}
 use Rattle.scan_drive.specs.Line.{exchange, exchanged, placed_by, relabelled, renamed, answer_in, GivesSome}
 use Rattle.scan_drive.specs.declared.delivery.Chunk.{Chunk}
-use Rattle.scan_drive.proofs.Handing.{le_or_lt}
+use Rattle.scan_drive.proofs.Handing.{le_or_lt, among_head, among_later}
 use Rattle.scan_drive.proofs.Exchanging.{exchange_twice, exchanged_at, length_exchanged, placed_below, placed_behind, permutation_exchanged}
 use Rattle.scan_drive.proofs.ExchangedGroups.{relabel_append, relabel_grouped, relabel_part}
 use Rattle.scan_drive.proofs.Same.{joined_alike, same_any, given_same, rows_limited}
@@ -168,6 +168,26 @@ map_range_once f a (suc n) h = go (is_among (map f (range_with_len (a + 1) n)) (
     go true e later = absurd (map_range_within (λ p. p ≡ f a → ⊥) f (a + 1) n (λ k le lt same. (let z : k ≡ a = h k a same in omega arith)) (f a) e refl)
     go false e later = later
 
+map_within : (P Q : ℕ → Type 0) (f : ℕ → ℕ) (ps : List ℕ) → ((p : ℕ) → P p → Q (f p)) → ((p : ℕ) → is_among ps p ≡ true → P p) → (q : ℕ) → is_among (map f ps) q ≡ true → Q q
+map_within P Q f [] h g q m = absurd cc
+map_within P Q f (p ∷ ps) h g q m = go (among_cases (f p) (map f ps) q m) (map_within P Q f ps h (λ r n. g r (among_later p r ps n)) q)
+  where
+    go : (f p ≡ q) ⊎ (is_among (map f ps) q ≡ true) → (is_among (map f ps) q ≡ true → Q q) → Q q
+    go (inl e) ih = subst Q e (h p (g p (among_head p ps)))
+    go (inr later) ih = ih later
+
+map_once : (f : ℕ → ℕ) (ps : List ℕ) → ((x y : ℕ) → f x ≡ f y → x ≡ y) → no_repeats ps ≡ true → no_repeats (map f ps) ≡ true
+map_once f [] h o = refl
+map_once f (p ∷ ps) h o = go (is_among ps p) refl (is_among (map f ps) (f p)) refl (map_once f ps h)
+  where
+    apart : is_among ps p ≡ false → (q : ℕ) → is_among ps q ≡ true → f q ≡ f p → ⊥
+    apart off q m e = let bad = sym off ∙ sym (ap (is_among ps) (h q p e)) ∙ m in absurd cc
+
+    go : (b : Bool) → is_among ps p ≡ b → (c : Bool) → is_among (map f ps) (f p) ≡ c → (no_repeats ps ≡ true → no_repeats (map f ps) ≡ true) → no_repeats (map f (p ∷ ps)) ≡ true
+    go true e c i ih = let bad = sym o ∙ ap (λ b. not b && no_repeats ps) e in absurd cc
+    go false e true i ih = absurd (map_within (λ q. f q ≡ f p → ⊥) (λ q. q ≡ f p → ⊥) f ps (λ q g. g) (apart e) (f p) i refl)
+    go false e false i ih = ap (λ b. not b && no_repeats (map f ps)) i ∙ ih (sym (ap (λ b. not b && no_repeats ps) e) ∙ o)
+
 module _ {R I : Type 0} (items : R → List I) (limit : Option ℕ) (tale : List (Told I)) (log : List (ℕ × ℕ)) (m k n : ℕ) where
   abbrev f : ℕ → ℕ
   f = placed_by log
@@ -193,3 +213,26 @@ module _ {R I : Type 0} (items : R → List I) (limit : Option ℕ) (tale : List
         (IsPermutation-map (relabelled f) (given items g.chunks) (answer (take n (exchanged log tale)) ++ g.more) (same_any b (given items g.chunks) (answer (take n (exchanged log tale)) ++ g.more) g.groups)));
     room = subst (λ c. Fits c limit) (sym (ap count (given_renamed items f g.chunks) ∙ count_relabel f (given items g.chunks))) g.room;
   }
+
+  -- of so many of the places up to one, by the files there
+  pub some_placed : SwapsInRange (length tale) log → SwapsInRange m log → m ≤ k → GivesSome items limit (exchanged log tale) k n → GivesSome items limit tale k n
+  some_placed r w past g = record {
+    places = map f g.places;
+    once = map_once f g.places (placed_once log) g.once;
+    within = map_within (λ p. p ≤ k) (λ p. p ≤ k) f g.places up_to g.within;
+    as_many = length-map g.places f ∙ g.as_many;
+    chunks = map (renamed f) g.chunks;
+    more = map (relabelled f) g.more;
+    groups = subst (λ gs. IsPermutation gs (answer_in (map f g.places) tale ++ map (relabelled f) g.more)) (sym (given_renamed items f g.chunks))
+        (subst (IsPermutation (map (relabelled f) (given items g.chunks)))
+        (relabel_append f (answer_in g.places (exchanged log tale)) g.more ∙ ap (λ gs. gs ++ map (relabelled f) g.more) (relabel_places f tale (exchanged log tale) g.places (λ j. exchanged_at log tale j untold r)))
+        (IsPermutation-map (relabelled f) (given items g.chunks) (answer_in g.places (exchanged log tale) ++ g.more) g.groups));
+    room = subst (λ c. Fits c limit) (sym (ap count (given_renamed items f g.chunks) ∙ count_relabel f (given items g.chunks))) g.room;
+  }
+    where
+      up_to : (p : ℕ) → p ≤ k → f p ≤ k
+      up_to p le = go (le_or_lt m p)
+        where
+          go : (m ≤ p) ⊎ (p < m) → f p ≤ k
+          go (inl behind) = let z = placed_behind m log p w behind in omega (arith, z, le)
+          go (inr before) = let z = placed_below m log p w before in omega (arith, z, past)

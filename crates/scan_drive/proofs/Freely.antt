@@ -15,7 +15,7 @@ use Rattle.scan_drive.specs.Grants.{AreSome}
 use Rattle.scan_drive.specs.Lost.{StopsOver}
 use Rattle.scan_drive.specs.Measures.{is_there, stage_steps, slots_steps}
 use Rattle.scan_drive.specs.Order.{Rises}
-use Rattle.scan_drive.specs.Slots.{slot_at, nothing, is_fresh, is_read, is_halted, HasNews, slot_groups, stage_read, read_rows}
+use Rattle.scan_drive.specs.Slots.{slot_at, nothing, is_fresh, is_read, is_halted, slot_groups, stage_read, read_rows}
 use Rattle.scan_drive.specs.Splits.{SplitState, Event}
 use Rattle.scan_drive.specs.Turns.{Filled, IsGone, FrontWaits, TurnsWait, GivesOn}
 use Rattle.scan_drive.specs.declared.active.Active.{Active}
@@ -30,7 +30,7 @@ use Rattle.scan_drive.proofs.Giving.{front_ok, front_groups, files_rows, halted_
 use Rattle.scan_drive.proofs.Handing.{among_head}
 use Rattle.scan_drive.proofs.Ordering.{rises_later, rises_same}
 use Rattle.scan_drive.proofs.Polling.{stops_over}
-use Rattle.scan_drive.proofs.Same.{along_permutation, joined_alike, rows_append, rows_any, rows_cut}
+use Rattle.scan_drive.proofs.Same.{alike, along_permutation, joined_alike, rows_append, rows_any, rows_cut}
 use Rattle.scan_drive.proofs.Seating.{or_cases, first_within}
 use Rattle.scan_drive.proofs.Trimming.{Trims, trims_same, trims_append, trims_group}
 use Rattle.scan_drive.proofs.Turning.{gives_none, gives_rows, sum_one}
@@ -52,38 +52,6 @@ module _ {A E : Type 0} where
   pub err_any : (r : Result A E) (Q : E → Type 0) → ((e : E) → Q e) → IfErr r Q
   err_any (Ok x) Q f = tt
   err_any (Err e) Q f = f e
-
--- ---- the same numbers in another order
-eq_turned : (a b : ℕ) → eqb a b ≡ eqb b a
-eq_turned a b = go (cases_eq a b)
-  where
-    go : (a ≡ b) ⊎ (a ≢ b) → eqb a b ≡ eqb b a
-    go (inl e) = ap (λ x. eqb x b) e ∙ sym (ap (λ x. eqb b x) e)
-    go (inr n) = grind (arith, nat_tests)
-
-alike : (xs ys : List ℕ) → IsPermutation xs ys → ((q : ℕ) → is_among xs q ≡ is_among ys q) × (no_repeats xs ≡ no_repeats ys)
-alike = along_permutation (λ xs ys. ((q : ℕ) → is_among xs q ≡ is_among ys q) × (no_repeats xs ≡ no_repeats ys)) (λ xs. (λ q. refl, refl)) under over_two (λ xs ys zs a b. (λ q. a.0 q ∙ b.0 q, a.1 ∙ b.1))
-  where
-    under : (x : ℕ) (xs ys : List ℕ) → ((q : ℕ) → is_among xs q ≡ is_among ys q) × (no_repeats xs ≡ no_repeats ys) → ((q : ℕ) → is_among (x ∷ xs) q ≡ is_among (x ∷ ys) q) × (no_repeats (x ∷ xs) ≡ no_repeats (x ∷ ys))
-    under x xs ys h = (λ q. ap (λ b. eqb x q || b) (h.0 q), λ i. not (h.0 x i) && h.1 i)
-
-    either : (a b c : Bool) → (a || (b || c)) ≡ (b || (a || c))
-    either true true c = refl
-    either true false c = refl
-    either false b c = refl
-
-    once : (e a b r : Bool) → (not (e || a) && (not b && r)) ≡ (not (e || b) && (not a && r))
-    once true a b r = refl
-    once false true true r = refl
-    once false true false r = refl
-    once false false true r = refl
-    once false false false r = refl
-
-    over_two : (x y : ℕ) (xs : List ℕ) → ((q : ℕ) → is_among (x ∷ y ∷ xs) q ≡ is_among (y ∷ x ∷ xs) q) × (no_repeats (x ∷ y ∷ xs) ≡ no_repeats (y ∷ x ∷ xs))
-    over_two x y xs = (
-      λ q. either (eqb x q) (eqb y q) (is_among xs q),
-      ap (λ e. not (e || is_among xs x) && (not (is_among xs y) && no_repeats xs)) (eq_turned y x) ∙ once (eqb x y) (is_among xs x) (is_among xs y) (no_repeats xs),
-    )
 
 -- the first of the turns that are to come
 record First (rest kept : List ℕ) (place : ℕ) (later : List ℕ) : Type 0 where
@@ -142,9 +110,6 @@ module _ {W R : Type 0} where
         within = λ q m. subst (λ (ss : List (Slot W R)). q < length ss) (sym r.slots) (s.within q (sym (all.0 q) ∙ m));
         empty = λ q off. ap (λ (ss : List (Slot W R)). (slot_at ss q).stage) r.slots ∙ s.empty q (sym (turned_among old new r q) ∙ off);
       }
-
-  turned_news : (old new : Active W R) → Rotates old new → HasNews old.slots.items old.news.items → HasNews new.slots.items new.news.items
-  turned_news old new r h q f = ap (λ (d : List ℕ). is_among d q) (λ i. (r.news i).items) ∙ h q (sym (ap (λ (ss : List (Slot W R)). is_fresh (slot_at ss q).stage) r.slots) ∙ f)
 
   turned_filled : (old new : Active W R) → Rotates old new → Filled old → Filled new
   turned_filled old new r f q m = ap (λ (ss : List (Slot W R)). is_there (slot_at ss q).stage) r.slots ∙ f q (sym (turned_among old new r q) ∙ m)
@@ -217,7 +182,6 @@ module _ {W I R : Type 0} (split : W → SplitState I) (comes : W → Arrivals �
     pub turns : now.turns.items ≡ rest ++ kept
     pub most : i + length rest ≡ length old.turns.items
     pub seated : Seated now
-    pub news : HasNews old.slots.items old.news.items → HasNews now.slots.items now.news.items
     pub ok : (tale : List (Told I)) → AllOk split comes items tale old → AllOk split comes items tale now
     pub groups : (tale : List (Told I)) → AllTell tale → AllOk split comes items tale old
         → IsPermutation (given items chunks ++ groups_left split comes items tale now) (given items before ++ groups_left split comes items tale old)
@@ -241,7 +205,6 @@ module _ {W I R : Type 0} (split : W → SplitState I) (comes : W → Arrivals �
     turns = sym (append-nil a.turns.items);
     most = omega arith;
     seated = seated;
-    news = λ h. h;
     ok = λ tale ok. ok;
     groups = λ tale all ok. IsPermutation-refl (given items chunks ++ groups_left split comes items tale a);
     counts = record { limit = refl; room = room };
@@ -271,7 +234,6 @@ module _ {W I R : Type 0} (split : W → SplitState I) (comes : W → Arrivals �
     turns = first.later_is;
     most = let a = s.most in let b : length s.rest ≡ length (f.place ∷ first.next) = ap length first.rest_is in omega (arith, a, b);
     seated = f.seated;
-    news = λ h. f.news (s.news h);
     ok = λ tale ok. front_ok split comes items tale file rows mid new s.seated f (s.ok tale ok);
     groups = λ tale all ok. subst (λ gs. IsPermutation gs (given items before ++ groups_left split comes items tale old)) (sym (moved tale all ok)) (s.groups tale all ok);
     counts = record { limit = g.counts.limit ∙ s.counts.limit; room = g.counts.room };
@@ -340,7 +302,6 @@ module _ {W I R : Type 0} (split : W → SplitState I) (comes : W → Arrivals �
     turns = r.turned ∙ ap (λ xs. xs ++ r.place ∷ []) first.later_is ∙ append_assoc first.next s.kept (r.place ∷ []);
     most = let a = s.most in let b : length s.rest ≡ length (r.place ∷ first.next) = ap length first.rest_is in omega (arith, a, b);
     seated = turned_seated mid new r s.seated;
-    news = λ h. turned_news mid new r (s.news h);
     ok = λ tale ok. turned_ok tale mid new r (s.ok tale ok);
     groups = λ tale all ok.
         IsPermutation-trans (given items chunks ++ groups_left split comes items tale new) (given items chunks ++ groups_left split comes items tale mid) (given items before ++ groups_left split comes items tale old)

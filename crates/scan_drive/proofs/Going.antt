@@ -16,7 +16,7 @@ use Rattle.scan_drive.specs.Moves.{IsNamed, KeepsSources, EachMoves, tell, tells
 use Rattle.scan_drive.specs.Openers.{OpenerState}
 use Rattle.scan_drive.specs.Phases.{rest}
 use Rattle.scan_drive.specs.Rounds.{Stands, Sound, IsEnd, ServesFront, files_turns, steps_left}
-use Rattle.scan_drive.specs.Slots.{slot_at, is_read, is_reading, is_halted, HasNews}
+use Rattle.scan_drive.specs.Slots.{slot_at, is_read, is_reading, is_halted}
 use Rattle.scan_drive.specs.Splits.{SplitState, Event}
 use Rattle.scan_drive.specs.Trades.{FilesTrade}
 use Rattle.scan_drive.specs.Turns.{TurnsWait, FrontWaits}
@@ -102,9 +102,9 @@ module _ {O S W I R F : Type 0} (state : O → OpenerState I) (polls : O → O �
           keep f p store q (sym (ap (λ (t : Told I). t.store) same) ∙ told)))
 
   pub stands_served : (n : ℕ) (d e : Drive W R F) → EachAdvances split d.active.slots.items e.active.slots.items
-      → (HasNews d.active.slots.items d.active.news.items → HasNews e.active.slots.items e.active.news.items) → e.active.turns ≡ d.active.turns → e.active.free ≡ d.active.free → e.phases ≡ d.phases
+      → e.active.turns ≡ d.active.turns → e.active.free ≡ d.active.free → e.phases ≡ d.phases
       → e.first ≡ d.first → e.left ≡ d.left → e.ordered ≡ d.ordered → e.budget ≡ d.budget → Stands n d → Stands n e
-  stands_served n d e adv news turns free phases first left ordered budget s = record {
+  stands_served n d e adv turns free phases first left ordered budget s = record {
     lens = ap (λ ps. length ps.items) phases ∙ s.lens;
     first = subst (λ k. k ≤ n) (sym first) s.first;
     below = subst (λ k. Rattle.scan_drive.specs.Phases.SpentBelow e.phases.items k) (sym first) (subst (λ ps. Rattle.scan_drive.specs.Phases.SpentBelow ps.items d.first) (sym phases) s.below);
@@ -114,7 +114,6 @@ module _ {O S W I R F : Type 0} (state : O → OpenerState I) (polls : O → O �
           (seated_advances split d.active.turns.items d.active.free.items d.active.slots.items e.active.slots.items adv s.ready.seated));
       filled = λ q m. (adv.at q).there ∙ s.ready.filled q (sym (ap (λ ts. is_among ts.items q) turns) ∙ m);
       within = within_advances split n d.active.slots.items e.active.slots.items adv s.ready.within;
-      news = news s.ready.news;
     };
     room = subst Rattle.scan_drive.specs.Chunks.HasRoom (sym left) s.room;
     budget = budget_kept d.ordered e.ordered d.left e.left d.budget e.budget ordered left budget s.budget;

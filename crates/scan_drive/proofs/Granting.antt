@@ -9,7 +9,7 @@ use Rattle.scan_splits.specs.Wanted.{no_repeats}
 use Rattle.scan_drive.specs.Budgets.{BudgetData, IsOpen, IsPhase, GrantsAll, UsesUp}
 use Rattle.scan_drive.specs.Claimed.{EachGranted, JobGranted, PhaseGrants}
 use Rattle.scan_drive.specs.Looks.{is_wait}
-use Rattle.scan_drive.specs.Slots.{HasNews, IsTrimmed, also_if, nothing, read_rows, slot_at, stage_read}
+use Rattle.scan_drive.specs.Slots.{HasFresh, IsTrimmed, also_if, nothing, read_rows, slot_at, stage_read}
 use Rattle.scan_drive.specs.Splits.{SplitState, Event}
 use Rattle.scan_drive.specs.Workers.{AreJobs, IsWithin, JobPolled, listed, places_of, put_back}
 use Rattle.scan_drive.specs.declared.slot.Slot.{Slot}
@@ -86,16 +86,16 @@ module _ {W R : Type 0} where
   pub record Put (js ks : List (Job W R)) (list list' : List ℕ) (old now new : List (Slot W R)) : Type 0 where
     pub none : list ≡ []
     pub jobs : AreJobs js old now
-    pub news : HasNews old (places_of js)
+    pub fresh : HasFresh old (places_of js)
     pub lists : list' ≡ listed ks list
     pub puts : new ≡ put_back ks now
 
-  pub put_as : (js ks given : List (Job W R)) (list list' : List ℕ) (old now new : List (Slot W R)) → list ≡ [] → AreJobs js old now → HasNews old (places_of js)
+  pub put_as : (js ks given : List (Job W R)) (list list' : List ℕ) (old now new : List (Slot W R)) → list ≡ [] → AreJobs js old now → HasFresh old (places_of js)
       → given ≡ ks → list' ≡ listed given list → new ≡ put_back given now → Put js ks list list' old now new
   put_as js ks given list list' old now new e a h is l s = record {
     none = e;
     jobs = a;
-    news = h;
+    fresh = h;
     lists = l ∙ ap (λ (xs : List (Job W R)). listed xs list) is;
     puts = s ∙ ap (λ (xs : List (Job W R)). put_back xs now) is;
   }
@@ -156,13 +156,16 @@ module _ {W I R : Type 0} (split : W → SplitState I) (comes : W → Arrivals �
   pub granted_within : (count : ℕ) (js ks : List (Job W R)) (b d : BudgetData) → PhaseGrants split comes items b d js ks → All (IsWithin count) js → All (IsWithin count) ks
   granted_within count js ks b d g within = places_within count js ks (mids_of js ks g.claimed g.granted g.each).places within
 
+  pub granted_places : (js ks : List (Job W R)) (b d : BudgetData) → PhaseGrants split comes items b d js ks → places_of ks ≡ places_of js
+  granted_places js ks b d g = (mids_of js ks g.claimed g.granted g.each).places
+
   as_phase : (list : List ℕ) (old new : List (Slot W R)) → Back split comes items list old new → IsPhase split comes items list old new
   as_phase list old new b = record { polled = b.polled; once = b.once; keeps = b.keeps; settled = b.settled }
 
   mid_phase : (js ks : List (Job W R)) (list list' : List ℕ) (old now new : List (Slot W R)) (c g : ℕ) → Put js ks list list' old now new → (m : Mids js ks c g)
       → IsPhase split comes items list' old (put_back m.mids now)
   mid_phase js ks list list' old now new c g p m =
-      as_phase list' old (put_back m.mids now) (phase_back split comes items js m.mids m.mids list list' old now (put_back m.mids now) p.none p.jobs p.news m.len m.polled refl
+      as_phase list' old (put_back m.mids now) (phase_back split comes items js m.mids m.mids list list' old now (put_back m.mids now) p.none p.jobs p.fresh m.len m.polled refl
       (p.lists ∙ m.lists list) refl)
 
   -- as many rows are there as were granted

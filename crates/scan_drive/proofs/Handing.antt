@@ -6,7 +6,7 @@ use Rattle.std.proofs.lemmas.Bool.Decides.{nat_tests}
 use Rattle.std.proofs.lemmas.List.{get_or_past}
 use Rattle.scan_values.specs.Selections.{is_among}
 use Rattle.scan_splits.specs.Wanted.{no_repeats}
-use Rattle.scan_drive.specs.Slots.{slot_at, nothing, is_fresh, at_each, MayTake, AllTake, HasNews, also_if}
+use Rattle.scan_drive.specs.Slots.{slot_at, nothing, is_fresh, at_each, MayTake, AllTake, also_if}
 use Rattle.scan_drive.specs.declared.slot.Slot.{Slot}
 use Rattle.scan_drive.proofs.Desking.{among_snoc}
 
@@ -27,7 +27,7 @@ pub not_true : (b : Bool) → not b ≡ true → b ≡ false
 not_true true h = absurd cc
 not_true false h = refl
 
-or_right : (a b : Bool) → b ≡ true → (a || b) ≡ true
+pub or_right : (a b : Bool) → b ≡ true → (a || b) ≡ true
 or_right true b e = refl
 or_right false b e = e
 
@@ -44,18 +44,6 @@ drop_next (x ∷ xs) (suc i) d lt = let e : suc i + 1 ≡ suc (i + 1) = omega ar
 
 among_apart : (p q : ℕ) (rest : List ℕ) → is_among rest p ≡ false → is_among rest q ≡ true → q ≢ p
 among_apart p q rest n h e = let bad = sym h ∙ ap (is_among rest) e ∙ n in absurd cc
-
-later_has : (b : Bool) (p q : ℕ) (later : List ℕ) → is_among later q ≡ true → is_among (also_if b p later) q ≡ true
-later_has false p q later h = h
-later_has true p q later h = among_snoc later p q ∙ ap (λ c. c || eqb p q) h
-
-later_here : (b : Bool) (p : ℕ) (later : List ℕ) → b ≡ true → is_among (also_if b p later) p ≡ true
-later_here false p later h = absurd cc
-later_here true p later h = let here : eqb p p ≡ true = grind (arith, nat_tests) in among_snoc later p p ∙ ap (λ c. is_among later p || c) here ∙ or_true (is_among later p)
-  where
-    or_true : (c : Bool) → (c || true) ≡ true
-    or_true true = refl
-    or_true false = refl
 
 module _ {W R : Type 0} where
   -- a slot that is given up or waits is within the list
@@ -104,9 +92,3 @@ module _ {W R : Type 0} where
 
   pub walks_take : (id : ℕ) (f : Slot W R → Slot W R) (p : ℕ) (rest places : List ℕ) (slots now : List (Slot W R)) → Walks id f (p ∷ rest) places slots now → MayTake id (slot_at now p)
   walks_take id f p rest places slots now w = w.take p (among_head p rest)
-
-  -- a slot that was set is listed where its split waits for nothing
-  pub has_next : (now : List (Slot W R)) (p : ℕ) (s : Slot W R) (ready : Bool) (later more : List ℕ) → p < length now → ready ≡ is_fresh s.stage → more ≡ also_if ready p later → HasNews now later → HasNews (set now p s) more
-  has_next now p s ready later more lt r m h =
-      let e : more ≡ also_if (is_fresh s.stage) p later = m ∙ ap (λ b. also_if b p later) r in
-      subst (λ (ns : List ℕ). HasNews (set now p s) ns) (sym e) (at_set (λ q x. is_fresh x.stage ≡ true → is_among (also_if (is_fresh s.stage) p later) q ≡ true) now p s lt (λ f. later_here (is_fresh s.stage) p later f) (λ q other f. later_has (is_fresh s.stage) p q later (h q f)))

@@ -16,7 +16,7 @@ use Rattle.scan_drive.specs.Openers.{OpenerState}
 use Rattle.scan_drive.specs.Phases.{phase_at, IsShut, SpentBelow, PhasesOk, rest}
 use Rattle.scan_drive.specs.Rounds.{Stands, IsEnd, Sound, ServesFront, files_turns, steps_left}
 use Rattle.scan_drive.specs.Runs.{is_nil}
-use Rattle.scan_drive.specs.Slots.{slot_at, is_fresh, is_reading, stage_waits, HasNews}
+use Rattle.scan_drive.specs.Slots.{slot_at, is_fresh, is_reading, stage_waits}
 use Rattle.scan_drive.specs.Splits.{SplitState, Event, lacks}
 use Rattle.scan_drive.specs.Turns.{IsSeated, SameTurns, SeatsOn, seats_steps, IsStuck, IsTally}
 use Rattle.scan_drive.specs.declared.files.ScanFile.{ScanFile}
@@ -182,9 +182,9 @@ budget_kept b c l m x y o e u h = subst (λ f. IsBudget f m y) (sym o) (subst (�
 module _ {W I R F : Type 0} (split : W → SplitState I) where
   pub stands_new : (n : ℕ) (d e : Drive W R F) (mid : List (Phase W F)) → Stands n d → length mid ≡ length d.phases.items → length e.phases.items ≡ length mid
       → (e.first ≤ length e.phases.items) × SpentBelow e.phases.items e.first → Rattle.scan_drive.specs.Actives.Seated e.active
-      → (HasNews d.active.slots.items d.active.news.items → HasNews e.active.slots.items e.active.news.items) →
+      →
       SeatsOn split d.first e.first d.active e.active mid e.phases.items → e.left ≡ d.left → e.ordered ≡ d.ordered → e.budget ≡ d.budget → Stands n e
-  stands_new n d e mid s a b below seated news seats left ordered budget =
+  stands_new n d e mid s a b below seated seats left ordered budget =
       let m : length mid ≡ n = a ∙ s.lens in
       let l : length e.phases.items ≡ n = b ∙ m in
       record {
@@ -195,7 +195,6 @@ module _ {W I R F : Type 0} (split : W → SplitState I) where
           seated = seated;
           filled = seats.filled s.ready.filled;
           within = within_seated n d.active.slots.items e.active.slots.items (λ q. subst (λ k. IsSeated k (slot_at d.active.slots.items q) (slot_at e.active.slots.items q)) m (seats.at q)) s.ready.within;
-          news = news s.ready.news;
         };
         room = subst Rattle.scan_drive.specs.Chunks.HasRoom (sym left) s.room;
         budget = budget_kept d.ordered e.ordered d.left e.left d.budget e.budget ordered left budget s.budget;

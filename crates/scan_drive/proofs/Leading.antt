@@ -37,16 +37,16 @@ use Rattle.scan_drive.proofs.Resting.{spent_left}
 use Rattle.scan_drive.proofs.Same.{passed_alike, same_behind, same_is, same_path, same_trans}
 
 -- each group is of a file of which this holds
-abbrev Of : {I : Type 0} → (ℕ → Type 0) → List (Group I) → Type 0
+abbrev pub Of : {I : Type 0} → (ℕ → Type 0) → List (Group I) → Type 0
 Of P [] = Unit {0}
 Of P (g ∷ gs) = P g.0 × Of P gs
 
 module _ {I : Type 0} (P : ℕ → Type 0) where
-  of_append : (xs ys : List (Group I)) → Of P xs → Of P ys → Of P (xs ++ ys)
+  pub of_append : (xs ys : List (Group I)) → Of P xs → Of P ys → Of P (xs ++ ys)
   of_append [] ys h k = k
   of_append (x ∷ xs) ys h k = (h.0, of_append xs ys h.1 k)
 
-  of_grouped : (file : ℕ) (rows : List I) → P file → Of P (grouped file rows)
+  pub of_grouped : (file : ℕ) (rows : List I) → P file → Of P (grouped file rows)
   of_grouped file [] p = tt
   of_grouped file (x ∷ xs) p = (p, tt)
 
@@ -54,11 +54,11 @@ module _ {I : Type 0} (P : ℕ → Type 0) where
   of_flat f [] h = tt
   of_flat f (x ∷ xs) h = of_append (f x) (flat_map f xs) (h x) (of_flat f xs h)
 
-  of_over : (o : Option Store) (f : Store → List (Group I)) → ((store : Store) → Of P (f store)) → Of P (over o f)
+  pub of_over : (o : Option Store) (f : Store → List (Group I)) → ((store : Store) → Of P (f store)) → Of P (over o f)
   of_over None f h = tt
   of_over (Some store) f h = h store
 
-  of_part : (file : ℕ) (o : Option (Part I)) (s : Option Store) → P file → Of P (part_in file o s)
+  pub of_part : (file : ℕ) (o : Option (Part I)) (s : Option Store) → P file → Of P (part_in file o s)
   of_part file None s p = tt
   of_part file (Some x) s p = of_over s (part_over file x) (λ store. of_flat (grouped file) (x.splits store) (λ rows. of_grouped file rows p))
 
@@ -146,7 +146,7 @@ module _ {I : Type 0} where
     room = g.room;
   }
 
-fits : (n : ℕ) (left : Option ℕ) → HasRoom left → Fits n (limit_of n left)
+pub fits : (n : ℕ) (left : Option ℕ) → HasRoom left → Fits n (limit_of n left)
 fits n None h = tt
 fits n (Some m) h = let b : 0 < m = h in omega (arith, b)
 
@@ -168,7 +168,7 @@ module _ {W I F : Type 0} (split : W → SplitState I) (comes : W → Arrivals �
       of_flat (λ n. k ≤ n) (work_groups split comes place t) ws.items (λ w. of_over (λ n. k ≤ n) t.store (λ store. grouped place ((split w).rows store)) (λ store. of_grouped (λ n. k ≤ n) place ((split w).rows store) le))
 
   -- files without splits have none
-  rest_after : (k place : ℕ) (ts : List (Told I)) (ps : List (Phase W F)) → ((n : ℕ) → place + n < k → IsSpent (phase_at ps n)) → Of (λ n. k ≤ n) (rest_from split comes place ts ps)
+  pub rest_after : (k place : ℕ) (ts : List (Told I)) (ps : List (Phase W F)) → ((n : ℕ) → place + n < k → IsSpent (phase_at ps n)) → Of (λ n. k ≤ n) (rest_from split comes place ts ps)
   rest_after k place [] ps h = tt
   rest_after k place (t ∷ ts) [] h = tt
   rest_after k place (t ∷ ts) (p ∷ ps) h =

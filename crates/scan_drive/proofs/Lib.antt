@@ -73,4 +73,5 @@ pub mod Trimming
 pub mod Turning
 pub mod Wanting
 pub mod Weighing
+pub mod Windows
 pub mod Working

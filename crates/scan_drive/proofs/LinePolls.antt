@@ -1,5 +1,5 @@
 -- How often openers are polled, and how early, where files stand at other places.
-use Rattle.std.proofs.Common.{◌≡◌, ℕ, ◌+◌, ◌-◌, ◌<◌, ◌≤◌, List, [], ◌∷◌, ◌++◌, length, get_or, Bool, true, inl, inr, refl, sym, ap, ◌∙◌, subst, arith}
+use Rattle.std.proofs.Common.{◌≡◌, ℕ, ◌+◌, ◌-◌, ◌<◌, ◌≤◌, List, [], ◌∷◌, ◌++◌, length, get_or, Bool, true, false, inl, inr, refl, sym, ap, ◌∙◌, subst, arith}
 use Rattle.std.specs.Prelude.{◌⊎◌, Option}
 use Rattle.std.specs.List.{swap}
 use Rattle.std.specs.List.Sorted.{SwapsInRange}
@@ -13,15 +13,14 @@ use Rattle.scan_drive.specs.Line.{exchange, exchanged, restored, placed_by, Give
 use Rattle.scan_drive.specs.Moves.{tell, tells}
 use Rattle.scan_drive.specs.Openers.{OpenerState}
 use Rattle.scan_drive.specs.Phases.{phase_at, is_unopened}
-use Rattle.scan_drive.specs.Polls.{opener_at, AllPolled, PollsStand, PollsFirst, ArePolledLate}
+use Rattle.scan_drive.specs.Polls.{opener_at, AllPolled, PollsStand, PollsFirst, GivesUpTo, ArePolledLate}
 use Rattle.scan_drive.specs.Rounds.{IsLawful}
 use Rattle.scan_drive.specs.Wants.{Cache}
 use Rattle.scan_drive.specs.declared.files.ScanFile.{ScanFile}
 use Rattle.scan_drive.specs.declared.phase.Phase.{Phase}
-use Rattle.scan_drive.proofs.ExchangedAnswer.{gives_some}
+use Rattle.scan_drive.proofs.ExchangedAnswer.{gives_some, some_placed}
 use Rattle.scan_drive.proofs.Exchanging.{swap_at, exchange_twice, exchange_below, exchanged_at, exchanged_restored, length_restored, length_exchanged, placed_below, placed_behind, range_more, map_exchanged}
 use Rattle.scan_drive.proofs.Handing.{le_or_lt}
-use Rattle.scan_drive.proofs.Leading.{gives_less}
 
 -- ---- places
 -- exchanges after others
@@ -146,6 +145,15 @@ module _ {O S R I : Type 0} (state : O → OpenerState I) (source : S → Source
   some_of b log m k n r w past le g = gives_some items limit (tells state source files) log m k n b (subst (λ j. SwapsInRange j log) (sym (length-map files (tell state source))) r) w past le
       (subst (λ (ts : List (Told I)). GivesBefore items b limit ts n) (map_exchanged (tell state source) log files r) g)
 
+  -- so of files up to one at its place
+  some_at : (log : List (ℕ × ℕ)) (m k n : ℕ) → SwapsInRange (length files) log → SwapsInRange m log → m ≤ k → GivesSome items limit (tells state source (exchanged log files)) k n → GivesSome items limit (tells state source files) k n
+  some_at log m k n r w past g = some_placed items limit (tells state source files) log m k n (subst (λ j. SwapsInRange j log) (sym (length-map files (tell state source))) r) w past
+      (subst (λ (ts : List (Told I)). GivesSome items limit ts k n) (map_exchanged (tell state source) log files r) g)
+
+  some_up_to : (b : Bool) → 0 < workers → (log : List (ℕ × ℕ)) (m k : ℕ) → SwapsInRange (length files) log → SwapsInRange m log → m ≤ k → GivesUpTo items b workers limit (tells state source (exchanged log files)) k → GivesSome items limit (tells state source files) k (k + 1 - workers)
+  some_up_to true pos log m k r w past g = some_of true log m k (k + 1 - workers) r w past (omega (arith, pos)) g
+  some_up_to false pos log m k r w past g = some_at log m k (k + 1 - workers) r w past g
+
   pub known_wait : (b : Bool) → 0 < workers → (log : List (ℕ × ℕ)) (now new : List (ScanFile O S)) → SwapsInRange (length files) log → (IsLawful state source files c → ArePolledLate state items b workers limit (tells state source (exchanged log files)) now new) →
       LineKnown log now → LineKnown log new
   known_wait b pos log now new r late h = record {
@@ -158,12 +166,12 @@ module _ {O S R I : Type 0} (state : O → OpenerState I) (source : S → Source
       go : IsLawful state source files c → (k : ℕ) (f : ScanFile O S) → h.edge ≤ k → (opener_at state (exchanged log files) k f).polled < (opener_at state new k f).polled →
           ((opener_at state now k f).polled ≤ (opener_at state (exchanged log files) k f).polled) ⊎ ((opener_at state (exchanged log files) k f).polled < (opener_at state now k f).polled) → GivesSome items limit (tells state source files) k (k + 1 - workers)
       go law k f past was (inr before) = h.later law k f past before
-      go law k f past was (inl le) = some_of b log h.edge k (k + 1 - workers) r h.within past (omega (arith, pos)) (late law k f (omega (arith, le, was)))
+      go law k f past was (inl le) = some_up_to b pos log h.edge k r h.within past (late law k f (omega (arith, le, was)))
 
   -- places are exchanged, up to which all that may wait had been given
-  pub known_line : (b : Bool) → 0 < workers → (log places : List (ℕ × ℕ)) (now : List (ScanFile O S)) (done last : ℕ) → length now ≡ length files → SwapsInRange (length files) log → SwapsInRange last places → last ≤ length files → last ≤ done + workers →
-      (IsLawful state source files c → GivesBefore items b limit (tells state source (exchanged log files)) done) → LineKnown log now → LineKnown (log ++ places) (exchanged places now)
-  known_line b pos log places now done last n r w there most g h = record {
+  pub known_line : (log places : List (ℕ × ℕ)) (now : List (ScanFile O S)) (last : ℕ) → length now ≡ length files → SwapsInRange (length files) log → SwapsInRange last places → last ≤ length files →
+      (IsLawful state source files c → (k : ℕ) → k < last → GivesSome items limit (tells state source (exchanged log files)) k (k + 1 - workers)) → LineKnown log now → LineKnown (log ++ places) (exchanged places now)
+  known_line log places now last n r w there g h = record {
     edge = top;
     within = range_append top log places (range_more h.edge top log (omega arith) h.within) range;
     gives = λ law k lt. subst (λ j. GivesSome items limit (tells state source files) j (j + 1 - workers)) (sym (placed_append log places k)) (front law (placed_by places k) (placed_below top places k range lt));
@@ -198,7 +206,7 @@ module _ {O S R I : Type 0} (state : O → OpenerState I) (source : S → Source
           go : (h.edge ≤ k) ⊎ (k < h.edge) → GivesSome items limit (tells state source files) (placed_by log k) (placed_by log k + 1 - workers)
           go (inr below) = h.gives law k below
           go (inl past) = subst (λ j. GivesSome items limit (tells state source files) j (j + 1 - workers)) (sym (placed_behind h.edge log k h.within past))
-              (some_of b log h.edge k (k + 1 - workers) r h.within past (omega (arith, pos)) (gives_less items b limit (tells state source (exchanged log files)) (k + 1 - workers) done (omega (arith, past, lt, most)) (g law)))
+              (some_at log h.edge k (k + 1 - workers) r h.within past (g law k (omega (arith, past, lt))))
 
 -- ---- one exchange more
 module _ {O S W F I : Type 0} (state : O → OpenerState I) where

@@ -1,8 +1,9 @@
 -- A drive in rounds since its start, of which places are exchanged after each answer of an opener.
-use Rattle.std.proofs.Common.{◌≡◌, ℕ, ◌<◌, List, [], ◌∷◌, ◌++◌, length, Bool, true, refl, sym, ap, ◌∙◌, subst, arith}
+use Rattle.std.proofs.Common.{◌≡◌, ℕ, ◌+◌, ◌-◌, ◌<◌, ◌≤◌, List, [], ◌∷◌, ◌++◌, length, Bool, true, refl, sym, ap, ◌∙◌, subst, arith}
 use Rattle.std.specs.Prelude.{All, Option}
 use Rattle.std.specs.List.{swap}
 use Rattle.std.specs.List.Sorted.{SwapsInRange}
+use Rattle.std.proofs.lemmas.List.{length-map}
 use Rattle.std.proofs.lemmas.List.Edits.{length-swap}
 use Rattle.scan_segments.specs.Source.{SourceState, Store}
 use Rattle.scan_splits.specs.Arrivals.{Arrivals}
@@ -10,13 +11,12 @@ use Rattle.scan_drive.specs.Before.{SoundInOrder}
 use Rattle.scan_drive.specs.Chunks.{HasRoom, KeepsRows}
 use Rattle.scan_drive.specs.Desks.{Waiters}
 use Rattle.scan_drive.specs.Drives.{DesksAgree, IsIdle}
-use Rattle.scan_drive.specs.Drivings.{GivesBefore}
 use Rattle.scan_drive.specs.Ends.{limit_in}
 use Rattle.scan_drive.specs.Files.{Told, AllTell}
 use Rattle.scan_drive.specs.Forward.{LineEdge, LinePolls, KeepsLine}
 use Rattle.scan_drive.specs.Grounds.{KeepsGrounds}
-use Rattle.scan_drive.specs.Line.{exchanged}
-use Rattle.scan_drive.specs.Moves.{EachMoves, tells}
+use Rattle.scan_drive.specs.Line.{exchanged, GivesSome}
+use Rattle.scan_drive.specs.Moves.{EachMoves, tell, tells}
 use Rattle.scan_drive.specs.Openers.{OpenerState}
 use Rattle.scan_drive.specs.Phases.{is_unopened, unopened}
 use Rattle.scan_drive.specs.Polls.{ArePolledLate, PollsOn}
@@ -33,10 +33,10 @@ use Rattle.scan_drive.proofs.Brought.{nil_right}
 use Rattle.scan_drive.proofs.Exchanging.{length_exchanged, range_more, sum_by_swapped}
 use Rattle.scan_drive.proofs.ExchangedFiles.{swap_lawful}
 use Rattle.scan_drive.proofs.Forwarding.{runs_line}
-use Rattle.scan_drive.proofs.Leading.{gives_done}
 use Rattle.scan_drive.proofs.LinePolls.{LineKnown, known_gives, known_start, known_wait, known_line, edge_start, edge_on, exchanged_append, range_append}
 use Rattle.scan_drive.proofs.Lining.{Runs, runs_start, runs_wait, runs_fit, runs_told, runs_sound}
 use Rattle.scan_drive.proofs.Tracking.{late_first}
+use Rattle.scan_drive.proofs.Windows.{gives_freed}
 
 -- as many files are open as before
 unopened_exchanged : {W F : Type 0} (ss : List (ℕ × ℕ)) (ps : List (Phase W F)) → SwapsInRange (length ps) ss → unopened (exchanged ss ps) ≡ unopened ps
@@ -149,12 +149,13 @@ module _ {O S W R I F : Type 0} (state : O → OpenerState I) (polls : O → O �
       pub line_unopened : unopened w.phases.items ≡ unopened v.phases.items
       line_unopened = ap unopened k.brings.rephased.phases_are ∙ unopened_exchanged k.brings.places v.phases.items range_phases
 
-      given_done : IsLawful state source files c0 → GivesBefore items d0.ordered d0.left (tells state source (exchanged log files)) k.done
-      given_done law =
+      gives_up_to : IsLawful state source files c0 → (j : ℕ) → j < k.last → GivesSome items d0.left (tells state source (exchanged log files)) j (j + 1 - workers)
+      gives_up_to law j lt =
           let l = lined_lawful law in
-          subst (λ (x : Bool). GivesBefore items x d0.left (tells state source (exchanged log files)) k.done) h.runs.ordered
-          (subst (λ (o : Option ℕ). GivesBefore items v.ordered o (tells state source (exchanged log files)) k.done) (h.runs.limit ∙ lim)
-          (gives_done split comes items (tells state source (exchanged log files)) v k.done l.tell (h.runs.sound l.cache) h.runs.stands.below h.runs.stands.room h.runs.order k.is_done))
+          let frees = k.frees (omega (arith, lt)) in
+          subst (λ (o : Option ℕ). GivesSome items o (tells state source (exchanged log files)) j (j + 1 - workers)) (h.runs.limit ∙ lim)
+          (gives_freed split comes items workers k.last j (tells state source (exchanged log files)) v l.tell (h.runs.sound l.cache) h.runs.stands.below h.runs.stands.room
+          (let f = h.runs.stands.first in let n = length-map (exchanged log files) (tell state source) in omega (arith, f, n)) frees.0 frees.1 lt)
 
       none_joined : (v.ordered ≡ true → log' ≡ log) → d0.ordered ≡ true → log ++ k.brings.places ≡ []
       none_joined same o = sym k.brings.log_is ∙ same (h.runs.ordered ∙ o) ∙ h.order o
@@ -173,7 +174,7 @@ module _ {O S W R I F : Type 0} (state : O → OpenerState I) (polls : O → O �
         runs = subst (λ (xs : List (ScanFile O S)). Runs state polls refuses admits source split comes items c0 d0 xs (exchanged k.brings.places b) (exchanged k.brings.places ks) c w) joined (both same).0;
         late = λ o law. subst (λ ss. ArePolledLate state items d0.ordered workers d0.left (tells state source files) files (exchanged ss b)) (sym (nil_right log k.brings.places (none_joined same o))) (h.late o law);
         edge = subst (λ (xs : List (ScanFile O S)). LineEdge state (log ++ k.brings.places) xs (exchanged k.brings.places b)) joined (both same).1;
-        known = known_line state source items workers d0.left c0 files d0.ordered pos log k.brings.places b k.done k.last count h.places k.brings.within (let x = k.there in let y = count in omega (arith, x, y)) k.most given_done h.known;
+        known = known_line state source items workers d0.left c0 files log k.brings.places b k.last count h.places k.brings.within (let x = k.there in let y = count in omega (arith, x, y)) gives_up_to h.known;
       }
 
       pub lined_line : (v.ordered ≡ true → log' ≡ log) → Lined workers files log' b' ks' c w

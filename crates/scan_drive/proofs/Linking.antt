@@ -14,7 +14,7 @@ use Rattle.scan_drive.specs.Files.{Part}
 use Rattle.scan_drive.specs.Links.{Linked, OfFile, StaysLinked, KeepsTold}
 use Rattle.scan_drive.specs.Looks.{FoundWaits, is_ended}
 use Rattle.scan_drive.specs.Runs.{RunData, run_waits, is_ready, is_nil, with_arrival}
-use Rattle.scan_drive.specs.Slots.{slot_at, stage_waits, is_fresh, is_halted, stage_handed, stage_given_up, handed, given_up, at_each, HasNews, MayTake, AllTake, SlotKeeps, StageOk, wanted_in}
+use Rattle.scan_drive.specs.Slots.{slot_at, stage_waits, is_fresh, is_halted, stage_handed, stage_given_up, handed, given_up, at_each, MayTake, AllTake, SlotKeeps, StageOk, wanted_in}
 use Rattle.scan_drive.specs.Splits.{SplitState, Event, wants, lacks}
 use Rattle.scan_drive.specs.declared.slot.Halt.{Halt}
 use Rattle.scan_drive.specs.declared.slot.Slot.{Slot}
@@ -103,20 +103,6 @@ module _ {W R : Type 0} where
   pub each_length : (f : Slot W R → Slot W R) (ps : List ℕ) (slots : List (Slot W R)) → length (at_each f ps slots) ≡ length slots
   each_length f [] slots = refl
   each_length f (p ∷ ps) slots = each_length f ps (set slots p (f (slot_at slots p))) ∙ length-set slots p (f (slot_at slots p))
-
-  -- a split that is given up has no news
-  pub news_lost : (id : ℕ) (h : Halt) (ps : List ℕ) (slots : List (Slot W R)) (news : List ℕ) → AllTake id ps slots → no_repeats ps ≡ true → HasNews slots news → HasNews (at_each (given_up h) ps slots) news
-  news_lost id h ps slots news t once has p f = has p (go (is_among ps p) (sym (ap (λ (s : Slot W R). is_fresh s.stage) (each_at id (given_up h) ps slots p t once)) ∙ f))
-    where
-      was : (x : Stage W R) → is_fresh (stage_given_up h x) ≡ true → is_fresh x ≡ true
-      was stage.Empty e = e
-      was (stage.Reads r) e = absurd cc
-      was (stage.Read rows) e = e
-      was (stage.Halted r k) e = e
-
-      go : (b : Bool) → is_fresh (cond b (given_up h (slot_at slots p)) (slot_at slots p)).stage ≡ true → is_fresh (slot_at slots p).stage ≡ true
-      go true e = was (slot_at slots p).stage e
-      go false e = e
 
   -- what is done at the slots that wait for an id: their files stay, they take what else they took, and wait for no more
   record Steps (id : ℕ) (f : Slot W R → Slot W R) : Type 0 where
@@ -279,7 +265,7 @@ module _ {W I R : Type 0} (split : W → SplitState I) (comes : W → Arrivals �
   pub told_self : (o : Option Store) (a : List (Slot W R)) → KeepsTold split comes items o a a
   told_self o a p store e = each_refl split comes items p store a
 
-  -- a split that waits has no news
+  -- a split that waits is not polled
   pub waits_settled : (old new : Stage W R) → FoundWaits split comes items old new → is_fresh new ≡ false
   waits_settled old new f = ap is_fresh f.now ∙ go f.next.wanted f.lacking.some (λ id m. ap (λ (i : Arrivals). lacks i id) f.inbox ∙ f.lacking.lacking id m)
     where

@@ -1,5 +1,5 @@
 -- Active splits stay in the order of their files.
-use Rattle.std.proofs.Common.{◌≡◌, ◌≢◌, ℕ, ◌≤◌, List, [], ◌∷◌, ◌++◌, true, false, sym, ap, ◌∙◌, subst, arith}
+use Rattle.std.proofs.Common.{◌≡◌, ◌≢◌, ℕ, ◌≤◌, List, [], ◌∷◌, ◌++◌, Bool, true, false, ◌||◌, eqb, refl, sym, ap, ◌∙◌, subst, arith}
 use Rattle.scan_values.specs.Selections.{is_among}
 use Rattle.scan_drive.specs.Actives.{Seats, GivesRows, Stays}
 use Rattle.scan_drive.specs.Order.{Rises, KeepsOrder}
@@ -10,6 +10,7 @@ use Rattle.scan_drive.proofs.Handing.{among_head, among_later}
 use Rattle.std.specs.Prelude.{◌⊎◌}
 use Rattle.std.proofs.Common.{inl, inr}
 use Rattle.std.proofs.lemmas.Bool.{cases_eq}
+use Rattle.std.proofs.lemmas.Bool.Decides.{nat_tests}
 
 module _ {W R : Type 0} where
   -- from a lower file
@@ -47,6 +48,30 @@ module _ {W R : Type 0} where
       let r : Rises i last (p ∷ later) slots = subst (λ ts. Rises i last ts slots) e h in
       let s : Rises (slot_at slots p).file last (p ∷ later) slots = (omega arith, r.1) in
       subst (λ ts. Rises (slot_at slots p).file last ts slots) (sym e) s
+
+  -- each is of a file between two
+  pub rises_between : (i last : ℕ) (ps : List ℕ) (slots : List (Slot W R)) (place : ℕ) → Rises i last ps slots → is_among ps place ≡ true → (i ≤ (slot_at slots place).file) × ((slot_at slots place).file ≤ last)
+  rises_between i last [] slots place h m = absurd cc
+  rises_between i last (p ∷ ps) slots place h m = go (eqb p place) refl (rises_between (slot_at slots p).file last ps slots place h.1)
+    where
+      go : (b : Bool) → eqb p place ≡ b → (is_among ps place ≡ true → ((slot_at slots p).file ≤ (slot_at slots place).file) × ((slot_at slots place).file ≤ last))
+          → (i ≤ (slot_at slots place).file) × ((slot_at slots place).file ≤ last)
+      go true e ih =
+          let is : p ≡ place = grind (arith, nat_tests) in
+          let low = h.0 in
+          let high = rises_ends (slot_at slots p).file last ps slots h.1 in
+          let f : (slot_at slots p).file ≡ (slot_at slots place).file = ap (λ q. (slot_at slots q).file) is in
+          (omega (arith, low, f), omega (arith, high, f))
+      go false e ih =
+          let low = h.0 in
+          let r = ih (sym (ap (λ b. b || is_among ps place) e) ∙ m) in
+          let a = r.0 in
+          (omega (arith, low, a), r.1)
+
+  -- and none is of a file before that of the first
+  pub rises_from_front : (i last p : ℕ) (later ps : List ℕ) (slots : List (Slot W R)) (place : ℕ) → ps ≡ p ∷ later → Rises i last ps slots → is_among ps place ≡ true
+      → ((slot_at slots p).file ≤ (slot_at slots place).file) × ((slot_at slots place).file ≤ last)
+  rises_from_front i last p later ps slots place e h m = rises_between (slot_at slots p).file last ps slots place (rises_front i last p later ps slots e h) m
 
   -- a split of the last file becomes active
   pub order_seat : (low file : ℕ) (work : W) (old new : Active W R) → Seats file work old new → Rises low file old.turns.items old.slots.items → Rises low file new.turns.items new.slots.items

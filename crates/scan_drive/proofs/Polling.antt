@@ -1,4 +1,4 @@
--- The splits with news are polled, one after the other.
+-- The splits that wait for nothing are polled, one after the other.
 use Rattle.std.proofs.Common.{◌≡◌, ◌≢◌, ℕ, List, [], length, Bool, true, false, not, ◌||◌, eqb, inl, inr, refl, sym, ap, ◌∙◌, subst, arith}
 use Rattle.std.specs.Prelude.{◌⊎◌}
 use Rattle.std.proofs.lemmas.Bool.{cases_eq}
@@ -15,7 +15,7 @@ use Rattle.scan_drive.specs.Looks.{Looks, LooksAt, FoundWaits, IsPolled, EachPol
 use Rattle.scan_drive.specs.Lost.{has_come, IsLost, HaltsOver, EndsBy, Follows, EachFollows, HasLost, StopsOver}
 use Rattle.scan_drive.specs.Measures.{is_there}
 use Rattle.scan_drive.specs.Runs.{RunData, is_ready}
-use Rattle.scan_drive.specs.Slots.{slot_at, is_fresh, also_if, given_up, HasNews}
+use Rattle.scan_drive.specs.Slots.{slot_at, is_fresh, also_if, given_up, HasFresh}
 use Rattle.scan_drive.specs.Splits.{SplitState, Event, lacks}
 use Rattle.scan_drive.specs.Turns.{IsGone}
 use Rattle.scan_drive.specs.declared.active.Active.{Active}
@@ -201,9 +201,9 @@ module _ {W R : Type 0} where
       fault halt.Overflow l = l
       fault halt.NoMemory l = tt
 
--- nothing has news
-pub none_fresh : {W R : Type 0} (slots : List (Slot W R)) (news : List ℕ) → news ≡ [] → HasNews slots news → (place : ℕ) → is_fresh (slot_at slots place).stage ≡ false
-none_fresh slots news e h place = go (is_fresh (slot_at slots place).stage) refl
+-- none waits for nothing
+pub none_fresh : {W R : Type 0} (slots : List (Slot W R)) (places : List ℕ) → places ≡ [] → HasFresh slots places → (place : ℕ) → is_fresh (slot_at slots place).stage ≡ false
+none_fresh slots places e h place = go (is_fresh (slot_at slots place).stage) refl
   where
     go : (b : Bool) → is_fresh (slot_at slots place).stage ≡ b → is_fresh (slot_at slots place).stage ≡ false
     go false f = f

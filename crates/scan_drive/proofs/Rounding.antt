@@ -10,7 +10,7 @@ use Rattle.scan_splits.specs.Arrivals.{Arrivals}
 use Rattle.scan_drive.specs.Desks.{Waiters, Agree}
 use Rattle.scan_drive.specs.Drives.{desk_at, EachLinked, DesksAgree, IsIdle, SourcesMove, NoneOf, SlotsKeep}
 use Rattle.scan_drive.specs.Links.{Linked, OfFile, KeepsTold}
-use Rattle.scan_drive.specs.Slots.{slot_at, is_fresh, HasNews, SlotKeeps}
+use Rattle.scan_drive.specs.Slots.{slot_at, is_fresh, HasFresh, SlotKeeps}
 use Rattle.scan_drive.specs.Sources.{SourceMoves}
 use Rattle.scan_drive.specs.Splits.{SplitState, Event}
 use Rattle.scan_drive.specs.declared.files.ScanFile.{ScanFile}
@@ -102,9 +102,9 @@ module _ {W R : Type 0} where
   pub linked_at : (desks : List Waiters) (i : ℕ) (d : Waiters) (slots : List (Slot W R)) → EachLinked desks slots → i < length desks → d ≡ get_or desks i d → Linked i d slots
   linked_at desks i d slots l lt e = subst (λ (w : Waiters). Linked i w slots) (sym (e ∙ get_or_default desks i d [] lt)) (l i lt)
 
-  -- a place whose split has no news now is off the list
-  pub news_popped : (old new : List (Slot W R)) (place : ℕ) (news rest : List ℕ) → news ≡ place ∷ rest → HasNews old news → ((q : ℕ) → q ≢ place → slot_at new q ≡ slot_at old q) → is_fresh (slot_at new place).stage ≡ false → HasNews new rest
-  news_popped old new place news rest e h others off q f = go (eqb place q) refl
+  -- a place whose split waits for something now is off the list
+  pub fresh_popped : (old new : List (Slot W R)) (place : ℕ) (places rest : List ℕ) → places ≡ place ∷ rest → HasFresh old places → ((q : ℕ) → q ≢ place → slot_at new q ≡ slot_at old q) → is_fresh (slot_at new place).stage ≡ false → HasFresh new rest
+  fresh_popped old new place places rest e h others off q f = go (eqb place q) refl
     where
       go : (b : Bool) → eqb place q ≡ b → is_among rest q ≡ true
       go true i = let same : place ≡ q = grind (arith, nat_tests) in let bad = sym off ∙ ap (λ k. is_fresh (slot_at new k).stage) same ∙ f in absurd cc

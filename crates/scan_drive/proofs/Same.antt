@@ -1,7 +1,11 @@
 -- Lists of the same elements in another order, and groups that are the same, in their order or in any.
-use Rattle.std.proofs.Common.{◌≡◌, ℕ, zero, suc, ◌+◌, ◌-◌, ◌<◌, Bool, true, false, List, [], ◌∷◌, ◌++◌, filter, flat_map, length, take, get_or, set, swap, min, Option, Some, None, refl, sym, ap, ◌∙◌, subst, arith, append_assoc, IsPermutation}
-use Rattle.std.specs.Prelude.{cond}
+use Rattle.std.proofs.Common.{◌≡◌, ◌≢◌, ℕ, zero, suc, ◌+◌, ◌-◌, ◌<◌, Bool, true, false, not, ◌||◌, ◌&&◌, eqb, inl, inr, List, [], ◌∷◌, ◌++◌, filter, flat_map, length, take, get_or, set, swap, min, Option, Some, None, refl, sym, ap, ◌∙◌, subst, arith, append_assoc, IsPermutation}
+use Rattle.std.specs.Prelude.{◌⊎◌, cond}
+use Rattle.std.proofs.lemmas.Bool.{cases_eq}
+use Rattle.std.proofs.lemmas.Bool.Decides.{nat_tests}
 use Rattle.std.proofs.lemmas.List.Sorted.{IsPermutation-refl, IsPermutation-cons, IsPermutation-keeps, IsPermutation-trans, IsPermutation-append, IsPermutation-append_left, IsPermutation-append_right, IsPermutation-append_comm}
+use Rattle.scan_values.specs.Selections.{is_among}
+use Rattle.scan_splits.specs.Wanted.{no_repeats}
 use Rattle.scan_drive.specs.Files.{Group, grouped, count, cut, limited}
 use Rattle.scan_drive.specs.Grants.{AreSame, AreGiven, AreFronts, IsFront}
 
@@ -28,6 +32,38 @@ module _ {X : Type 0} (R : List X → List X → Type 0) (same : (xs : List X) �
 
   pub along_permutation : (xs ys : List X) → IsPermutation xs ys → R xs ys
   along_permutation xs = IsPermutation-keeps xs (R xs) (same xs) (λ l i j p q h. chain xs l (swap l i j) h (swapped l i j p q))
+
+-- ---- the same numbers in another order
+eq_turned : (a b : ℕ) → eqb a b ≡ eqb b a
+eq_turned a b = go (cases_eq a b)
+  where
+    go : (a ≡ b) ⊎ (a ≢ b) → eqb a b ≡ eqb b a
+    go (inl e) = ap (λ x. eqb x b) e ∙ sym (ap (λ x. eqb b x) e)
+    go (inr n) = grind (arith, nat_tests)
+
+pub alike : (xs ys : List ℕ) → IsPermutation xs ys → ((q : ℕ) → is_among xs q ≡ is_among ys q) × (no_repeats xs ≡ no_repeats ys)
+alike = along_permutation (λ xs ys. ((q : ℕ) → is_among xs q ≡ is_among ys q) × (no_repeats xs ≡ no_repeats ys)) (λ xs. (λ q. refl, refl)) under over_two (λ xs ys zs a b. (λ q. a.0 q ∙ b.0 q, a.1 ∙ b.1))
+  where
+    under : (x : ℕ) (xs ys : List ℕ) → ((q : ℕ) → is_among xs q ≡ is_among ys q) × (no_repeats xs ≡ no_repeats ys) → ((q : ℕ) → is_among (x ∷ xs) q ≡ is_among (x ∷ ys) q) × (no_repeats (x ∷ xs) ≡ no_repeats (x ∷ ys))
+    under x xs ys h = (λ q. ap (λ b. eqb x q || b) (h.0 q), λ i. not (h.0 x i) && h.1 i)
+
+    either : (a b c : Bool) → (a || (b || c)) ≡ (b || (a || c))
+    either true true c = refl
+    either true false c = refl
+    either false b c = refl
+
+    once : (e a b r : Bool) → (not (e || a) && (not b && r)) ≡ (not (e || b) && (not a && r))
+    once true a b r = refl
+    once false true true r = refl
+    once false true false r = refl
+    once false false true r = refl
+    once false false false r = refl
+
+    over_two : (x y : ℕ) (xs : List ℕ) → ((q : ℕ) → is_among (x ∷ y ∷ xs) q ≡ is_among (y ∷ x ∷ xs) q) × (no_repeats (x ∷ y ∷ xs) ≡ no_repeats (y ∷ x ∷ xs))
+    over_two x y xs = (
+      λ q. either (eqb x q) (eqb y q) (is_among xs q),
+      ap (λ e. not (e || is_among xs x) && (not (is_among xs y) && no_repeats xs)) (eq_turned y x) ∙ once (eqb x y) (is_among xs x) (is_among xs y) (no_repeats xs),
+    )
 
 -- the lists that elements give, joined
 pub joined_alike : {A B : Type 0} (f : A → List B) (xs ys : List A) → IsPermutation xs ys → IsPermutation (flat_map f xs) (flat_map f ys)

@@ -8,14 +8,14 @@ use Rattle.scan_values.specs.Selections.{is_among}
 use Rattle.scan_splits.specs.Wanted.{no_repeats}
 use Rattle.scan_splits.proofs.Wanting.{distinct-push}
 use Rattle.scan_drive.specs.Actives.{AreSeats, Becomes, IsRoom}
-use Rattle.scan_drive.specs.Slots.{slot_at, nothing, is_fresh, HasNews}
+use Rattle.scan_drive.specs.Slots.{slot_at, nothing, is_fresh}
 use Rattle.scan_drive.specs.declared.slot.Slot.{Slot}
 use Rattle.scan_drive.specs.declared.slot.Stage.{Stage}
 use Rattle.scan_drive.specs.declared.slot.Stage.TheVariants as stage
 use Rattle.scan_drive.proofs.Desking.{among_snoc}
 use Rattle.scan_drive.proofs.Handing.{and_both, not_true, among_head, at_set_same, at_set_other}
 
-or_left : (a b : Bool) → a ≡ true → (a || b) ≡ true
+pub or_left : (a b : Bool) → a ≡ true → (a || b) ≡ true
 or_left true b e = refl
 or_left false b e = absurd cc
 
@@ -167,19 +167,3 @@ module _ {W R : Type 0} where
 
   pub free_within : (turns free : List ℕ) (slots : List (Slot W R)) → AreSeats turns free slots → (place : ℕ) → is_among free place ≡ true → place < length slots
   free_within turns free slots seats place m = seats.within place (among_append turns free place ∙ or_right (is_among turns place) (is_among free place) m)
-
-  -- a slot more that has news
-  pub news_more : (place : ℕ) (s : Slot W R) (old new : List (Slot W R)) (news : List ℕ) → Becomes place s old new → HasNews old news → HasNews new (news ++ place ∷ [])
-  news_more place s old new news b h q f = among_snoc news place q ∙ go (eqb place q) refl
-    where
-      go : (u : Bool) → eqb place q ≡ u → (is_among news q || eqb place q) ≡ true
-      go true e = or_right (is_among news q) (eqb place q) e
-      go false e = or_left (is_among news q) (eqb place q) (h q (sym (ap (λ (x : Slot W R). is_fresh x.stage) (b.others q (ne_of place q e))) ∙ f))
-
-  -- a slot that has none
-  pub news_same : (place : ℕ) (s : Slot W R) (old new : List (Slot W R)) (news : List ℕ) → Becomes place s old new → is_fresh s.stage ≡ false → HasNews old news → HasNews new news
-  news_same place s old new news b off h q f = go (cases_eq q place)
-    where
-      go : (q ≡ place) ⊎ (q ≢ place) → is_among news q ≡ true
-      go (inl is) = let bad = sym off ∙ ap (λ (x : Slot W R). is_fresh x.stage) (sym b.at) ∙ sym (ap (λ k. is_fresh (slot_at new k).stage) is) ∙ f in absurd cc
-      go (inr other) = h q (sym (ap (λ (x : Slot W R). is_fresh x.stage) (b.others q other)) ∙ f)

@@ -17,7 +17,7 @@ use Rattle.scan_drive.specs.Lost.{EndsBy}
 use Rattle.scan_drive.specs.Measures.{is_there, slots_steps, EachAdvances}
 use Rattle.scan_drive.specs.Moves.{IsNamed}
 use Rattle.scan_drive.specs.Rounds.{IsReady, AreAsking, AskNamed}
-use Rattle.scan_drive.specs.Slots.{slot_at, is_fresh, is_read, is_reading, is_halted, stage_waits, stage_rows, StageOk, SlotKeeps, EachKeeps, HasNews, MayTake, wanted_in, slot_groups}
+use Rattle.scan_drive.specs.Slots.{slot_at, is_fresh, is_read, is_reading, is_halted, stage_waits, stage_rows, StageOk, SlotKeeps, EachKeeps, MayTake, wanted_in, slot_groups}
 use Rattle.scan_drive.specs.Splits.{SplitState, Event, lacks}
 use Rattle.scan_drive.specs.Turns.{IsGone, IsSeated, GivesOn, SameTurns}
 use Rattle.scan_drive.specs.declared.active.Active.{Active}
@@ -260,18 +260,17 @@ module _ {W I R : Type 0} (split : W → SplitState I) (comes : W → Arrivals �
       named f m (Some q) (Some store) h = may_ask split comes items q store (slot_at old w.place).stage (slot_at mid w.place).stage f h id m
 
   -- ---- polls and a delivery, together
-  pub ready_mid : (n : ℕ) (asking : List ℕ) (old mid : Active W R) → mid.turns ≡ old.turns → mid.free ≡ old.free → EachPolled split comes items asking old.slots.items mid.slots.items → ((q : ℕ) → is_fresh (slot_at mid.slots.items q).stage ≡ false) → IsReady n old → IsReady n mid
-  ready_mid n asking old mid t f p settled r =
+  pub ready_mid : (n : ℕ) (asking : List ℕ) (old mid : Active W R) → mid.turns ≡ old.turns → mid.free ≡ old.free → EachPolled split comes items asking old.slots.items mid.slots.items → IsReady n old → IsReady n mid
+  ready_mid n asking old mid t f p r =
       let a = all_polled split comes items asking old.slots.items mid.slots.items p in
       record {
         seated = subst (λ ts. AreSeats ts.items mid.free.items mid.slots.items) (sym t) (subst (λ fs. AreSeats old.turns.items fs.items mid.slots.items) (sym f) (seated_advances split old.turns.items old.free.items old.slots.items mid.slots.items a r.seated));
         filled = λ q m. (a.at q).there ∙ r.filled q (sym (ap (λ ts. is_among ts.items q) t) ∙ m);
         within = within_advances split n old.slots.items mid.slots.items a r.within;
-        news = λ q m. let bad = sym (settled q) ∙ m in absurd cc;
       }
 
-  pub ready_new : (n : ℕ) (mid new : Active W R) → AreSeats new.turns.items new.free.items new.slots.items → GivesOn split mid new → (HasNews mid.slots.items mid.news.items → HasNews new.slots.items new.news.items) → IsReady n mid → IsReady n new
-  ready_new n mid new s g h r = record { seated = s; filled = g.filled r.filled; within = within_gone n mid.slots.items new.slots.items g.at r.within; news = h r.news }
+  pub ready_new : (n : ℕ) (mid new : Active W R) → AreSeats new.turns.items new.free.items new.slots.items → GivesOn split mid new → IsReady n mid → IsReady n new
+  ready_new n mid new s g r = record { seated = s; filled = g.filled r.filled; within = within_gone n mid.slots.items new.slots.items g.at r.within }
 
   pub asking_new : (asking : List ℕ) (old mid new : List (Slot W R)) → EachPolled split comes items asking old mid → ((q : ℕ) → is_fresh (slot_at mid q).stage ≡ false) → ((q : ℕ) → IsGone (slot_at mid q) (slot_at new q)) → AreAsking asking new
   asking_new asking old mid new p f g = record {

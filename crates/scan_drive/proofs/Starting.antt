@@ -72,7 +72,6 @@ module _ {W R F : Type 0} (n : ℕ) (limit : Option ℕ) (d : Drive W R F) (s : 
       seated = s.seated;
       filled = λ place h. absurd (none_turn place h);
       within = λ place h. (let bad : false ≡ true = sym (ap is_there (none_there place)) ∙ h in absurd cc);
-      news = λ place h. (let bad : false ≡ true = sym (ap is_fresh (none_there place)) ∙ h in absurd cc);
     };
     room = subst HasRoom (sym s.left) room;
     budget = subst (λ l. IsBudget d.ordered l d.budget) (sym s.left) s.budget;

@@ -4,16 +4,14 @@ use Rattle.std.specs.Prelude.{◌⊎◌, Option, Bool, true, false}
 use Rattle.std.proofs.lemmas.Bool.{cases_eq}
 use Rattle.std.proofs.lemmas.List.{get_or_default}
 use Rattle.scan_segments.specs.Faults.{Rose, RaisedBy}
-use Rattle.scan_drive.specs.Drivings.{GivesBefore}
 use Rattle.scan_drive.specs.Files.{Told}
 use Rattle.scan_drive.specs.Openers.{OpenerState, PolledOnce, as_number}
 use Rattle.scan_drive.specs.Phases.{phase_at, is_unopened, IsSpent, SpentBelow}
-use Rattle.scan_drive.specs.Polls.{IsPolledIn, StandsIn, OpenersRest, opener_at, PollsFirst, AllPolled, OpensFirst, PollsGrow, PollsStand, PollsFit, ArePolledLate, PollsOn}
+use Rattle.scan_drive.specs.Polls.{IsPolledIn, StandsIn, OpenersRest, opener_at, PollsFirst, AllPolled, OpensFirst, PollsGrow, PollsStand, PollsFit, GivesUpTo, ArePolledLate, PollsOn}
 use Rattle.scan_drive.specs.declared.files.ScanFile.{ScanFile}
 use Rattle.scan_drive.specs.declared.phase.Phase.{Phase}
 use Rattle.scan_drive.specs.declared.phase.Phase.TheVariants as phase
 use Rattle.scan_drive.proofs.Handing.{le_or_lt}
-use Rattle.scan_drive.proofs.Leading.{gives_less}
 
 -- ---- counts
 rose_then : (a b c : ℕ) → Rose a b → RaisedBy 1 b c → Rose a c
@@ -247,17 +245,17 @@ module _ {O S I R : Type 0} (state : O → OpenerState I) (items : R → List I)
   late_rest b workers limit tale start old now e h k f was = h k f (subst (λ (o : O). (opener_at state start k f).polled < (state o).polled) (e k f) was)
 
   -- openers of files were polled while all before one had been given, which are as many as there are workers at most
-  pub late_polled : (b : Bool) (workers first last done : ℕ) (limit : Option ℕ) (tale : List (Told I)) (start old now : List (ScanFile O S)) → OpenersRest first last old now → last ≤ done + workers → GivesBefore items b limit tale done →
+  pub late_polled : (b : Bool) (workers first last : ℕ) (limit : Option ℕ) (tale : List (Told I)) (start old now : List (ScanFile O S)) → OpenersRest first last old now → ((k : ℕ) → first ≤ k → k < last → GivesUpTo items b workers limit tale k) →
       ArePolledLate state items b workers limit tale start old → ArePolledLate state items b workers limit tale start now
-  late_polled b workers first last done limit tale start old now rest le g h k f was = go (le_or_lt last k) (le_or_lt first k)
+  late_polled b workers first last limit tale start old now rest g h k f was = go (le_or_lt last k) (le_or_lt first k)
     where
-      before : (k < first) ⊎ (last ≤ k) → GivesBefore items b limit tale (k + 1 - workers)
+      before : (k < first) ⊎ (last ≤ k) → GivesUpTo items b workers limit tale k
       before c = h k f (subst (λ (o : O). (opener_at state start k f).polled < (state o).polled) (rest k f c) was)
 
-      go : (last ≤ k) ⊎ (k < last) → (first ≤ k) ⊎ (k < first) → GivesBefore items b limit tale (k + 1 - workers)
+      go : (last ≤ k) ⊎ (k < last) → (first ≤ k) ⊎ (k < first) → GivesUpTo items b workers limit tale k
       go (inl past) from = before (inr past)
       go (inr lt) (inr less) = before (inl less)
-      go (inr lt) (inl from) = gives_less items b limit tale (k + 1 - workers) done (omega (arith, lt, le)) g
+      go (inr lt) (inl from) = g k from lt
 
   -- at the start none was polled
   pub late_first : (b : Bool) (workers : ℕ) (limit : Option ℕ) (tale : List (Told I)) (files : List (ScanFile O S)) → ArePolledLate state items b workers limit tale files files

@@ -1,5 +1,5 @@
 -- Splits are taken out of their slots, polled by workers, and put back.
-use Rattle.std.proofs.Common.{◌≡◌, ◌≢◌, ◌<◌, ◌≤◌, ◌+◌, ◌∙◌, ℕ, zero, suc, Bool, true, false, ◌||◌, List, [], ◌∷◌, ◌++◌, eqb, length, get_or, set, inl, inr, not, refl, sym, ap, subst, arith, length-set, get_or-set_same, get_or-set_other}
+use Rattle.std.proofs.Common.{◌≡◌, ◌≢◌, ◌<◌, ◌≤◌, ◌+◌, ◌∙◌, ℕ, zero, suc, Bool, true, false, ◌||◌, List, [], ◌∷◌, ◌++◌, eqb, length, get_or, set, take, drop, append_assoc, append-nil, inl, inr, not, refl, sym, ap, subst, arith, length-set, get_or-set_same, get_or-set_other}
 use Rattle.std.specs.Prelude.{◌⊎◌, ◌*◌, ◌==◌, All}
 use Rattle.std.specs.Int.{div_ceil}
 use Rattle.std.proofs.lemmas.Bool.{cases_eq}
@@ -12,11 +12,12 @@ use Rattle.scan_segments.specs.Source.{Store}
 use Rattle.scan_splits.specs.Arrivals.{Arrivals}
 use Rattle.scan_splits.specs.Wanted.{no_repeats}
 use Rattle.scan_splits.proofs.Wanting.{distinct-push}
+use Rattle.scan_drive.specs.Actives.{AreSeats}
 use Rattle.scan_drive.specs.Files.{Part}
 use Rattle.scan_drive.specs.Looks.{LooksAt, IsPolled, EachPolled, is_wait}
-use Rattle.scan_drive.specs.Slots.{EachKeeps, HasNews, SlotKeeps, slot_at, is_fresh, nothing, also_if}
+use Rattle.scan_drive.specs.Slots.{EachKeeps, HasFresh, SlotKeeps, slot_at, is_fresh, nothing, also_if}
 use Rattle.scan_drive.specs.Splits.{SplitState, Event}
-use Rattle.scan_drive.specs.Workers.{AreJobs, IsWithin, JobPolled, TakesJob, listed, new_job, places_of, put_back}
+use Rattle.scan_drive.specs.Workers.{AreInTurn, AreJobs, IsWithin, JobPolled, TakesJob, listed, new_job, places_of, put_back}
 use Rattle.scan_drive.specs.declared.slot.Slot.{Slot}
 use Rattle.scan_drive.specs.declared.workers.Job.{Job}
 use Rattle.scan_drive.proofs.Desking.{among_snoc}
@@ -24,7 +25,7 @@ use Rattle.scan_drive.proofs.Handing.{among_head, among_later, and_both, at_set_
 use Rattle.scan_drive.proofs.Keeping.{each_refl, each_set, each_then}
 use Rattle.scan_drive.proofs.Linking.{keeps_file}
 use Rattle.scan_drive.proofs.Polling.{look_settled, none_fresh, once_next, polled_next, polled_none}
-use Rattle.scan_drive.proofs.Rounding.{news_popped}
+use Rattle.scan_drive.proofs.Rounding.{fresh_popped}
 
 -- a number that is not among those that another is among is another
 pub apart : (xs : List ℕ) (p q : ℕ) → is_among xs p ≡ false → is_among xs q ≡ true → q ≢ p
@@ -150,12 +151,103 @@ module _ {W R : Type 0} where
   jobs_next place jobs jobs' start now next a (inr t) =
       subst (λ (js : List (Job W R)). AreJobs js start next) (sym t.2) (subst (AreJobs (jobs ++ new_job place (slot_at now place) ∷ []) start) (sym t.3) (one_more place jobs start now a t.0 t.1))
 
-  pub news_next : (place : ℕ) (jobs jobs' : List (Job W R)) (now next : List (Slot W R)) (news rest : List ℕ) → news ≡ place ∷ rest → HasNews now news → TakesJob place jobs jobs' now next → HasNews next rest
-  news_next place jobs jobs' now next news rest e h (inl t) =
-      news_popped now next place news rest e h (λ q n. ap (λ (ss : List (Slot W R)). slot_at ss q) t.2) (ap (λ (ss : List (Slot W R)). is_fresh (slot_at ss place).stage) t.2 ∙ t.0)
-  news_next place jobs jobs' now next news rest e h (inr t) =
-      news_popped now next place news rest e h (λ q n. ap (λ (ss : List (Slot W R)). slot_at ss q) t.3 ∙ at_set_other now place q nothing n)
+  pub fresh_next : (place : ℕ) (jobs jobs' : List (Job W R)) (now next : List (Slot W R)) (places rest : List ℕ) → places ≡ place ∷ rest → HasFresh now places → TakesJob place jobs jobs' now next → HasFresh next rest
+  fresh_next place jobs jobs' now next places rest e h (inl t) =
+      fresh_popped now next place places rest e h (λ q n. ap (λ (ss : List (Slot W R)). slot_at ss q) t.2) (ap (λ (ss : List (Slot W R)). is_fresh (slot_at ss place).stage) t.2 ∙ t.0)
+  fresh_next place jobs jobs' now next places rest e h (inr t) =
+      fresh_popped now next place places rest e h (λ q n. ap (λ (ss : List (Slot W R)). slot_at ss q) t.3 ∙ at_set_other now place q nothing n)
       (ap (λ (ss : List (Slot W R)). is_fresh (slot_at ss place).stage) t.3 ∙ ap (λ (s : Slot W R). is_fresh s.stage) (at_set_same now place nothing t.0))
+
+  -- those that wait for nothing are at some turn
+  pub fresh_in_turn : (turns free : List ℕ) (slots : List (Slot W R)) → AreSeats turns free slots → HasFresh slots turns
+  fresh_in_turn turns free slots s p f = go (is_among turns p) refl
+    where
+      go : (b : Bool) → is_among turns p ≡ b → is_among turns p ≡ true
+      go true e = e
+      go false e = let bad = sym f ∙ ap is_fresh (s.empty p e) in absurd cc
+
+  -- none is left: each that waited for nothing was taken
+  pub all_taken : (jobs : List (Job W R)) (start now : List (Slot W R)) (rest : List ℕ) → rest ≡ [] → AreJobs jobs start now → HasFresh now rest → HasFresh start (places_of jobs)
+  all_taken jobs start now rest e a h p f = go (is_among (places_of jobs) p) refl
+    where
+      go : (b : Bool) → is_among (places_of jobs) p ≡ b → is_among (places_of jobs) p ≡ true
+      go true i = i
+      go false i = let bad = sym (ap (λ (xs : List ℕ). is_among xs p) e) ∙ h p (ap (λ (x : Slot W R). is_fresh x.stage) (a.others p i) ∙ f) in absurd cc
+
+-- ---- in the order of their turns
+in_turn_later : (ps turns : List ℕ) (t : ℕ) → AreInTurn ps turns → AreInTurn ps (turns ++ t ∷ [])
+in_turn_later [] turns t h = tt
+in_turn_later (p ∷ ps) [] t h = absurd h
+in_turn_later (p ∷ ps) (x ∷ turns) t (inl h) = inl (h.0, in_turn_later ps turns t h.1)
+in_turn_later (p ∷ ps) (x ∷ turns) t (inr h) = inr (in_turn_later (p ∷ ps) turns t h)
+
+in_turn_too : (ps turns : List ℕ) (t : ℕ) → AreInTurn ps turns → AreInTurn (ps ++ t ∷ []) (turns ++ t ∷ [])
+in_turn_too [] [] t h = inl (refl, tt)
+in_turn_too [] (x ∷ turns) t h = inr (in_turn_too [] turns t tt)
+in_turn_too (p ∷ ps) [] t h = absurd h
+in_turn_too (p ∷ ps) (x ∷ turns) t (inl h) = inl (h.0, in_turn_too ps turns t h.1)
+in_turn_too (p ∷ ps) (x ∷ turns) t (inr h) = inr (in_turn_too (p ∷ ps) turns t h)
+
+in_turn_then : (ps qs turns : List ℕ) → AreInTurn ps qs → AreInTurn qs turns → AreInTurn ps turns
+in_turn_then [] qs turns h k = tt
+in_turn_then (p ∷ ps) [] turns h k = absurd h
+in_turn_then (p ∷ ps) (q ∷ qs) [] h k = absurd k
+in_turn_then (p ∷ ps) (q ∷ qs) (t ∷ turns) h (inr k) = inr (in_turn_then (p ∷ ps) (q ∷ qs) turns h k)
+in_turn_then (p ∷ ps) (q ∷ qs) (t ∷ turns) (inl h) (inl k) = inl (h.0 ∙ k.0, in_turn_then ps qs turns h.1 k.1)
+in_turn_then (p ∷ ps) (q ∷ qs) (t ∷ turns) (inr h) (inl k) = inr (in_turn_then (p ∷ ps) qs turns h k.1)
+
+pub none_after : (xs : List ℕ) (i : ℕ) → length xs ≤ i → drop i xs ≡ []
+none_after [] zero le = refl
+none_after [] (suc i) le = refl
+none_after (x ∷ xs) zero le = absurd (omega (arith, le))
+none_after (x ∷ xs) (suc i) le = none_after xs i (omega (arith, le))
+
+take_next : (xs : List ℕ) (i d : ℕ) → i < length xs → take (i + 1) xs ≡ take i xs ++ get_or xs i d ∷ []
+take_next [] i d lt = absurd (omega (arith, lt))
+take_next (x ∷ xs) zero d lt = refl
+take_next (x ∷ xs) (suc i) d lt = let e : suc i + 1 ≡ suc (i + 1) = omega arith in ap (λ k. take k (x ∷ xs)) e ∙ ap (λ ys. x ∷ ys) (take_next xs i d (omega (arith, lt)))
+
+pub all_turns : (places turns : List ℕ) (i : ℕ) → length turns ≤ i → AreInTurn places (take i turns) → AreInTurn places turns
+all_turns places turns i le h = subst (AreInTurn places) (whole turns i le) h
+  where
+    whole : (ts : List ℕ) (k : ℕ) → length ts ≤ k → take k ts ≡ ts
+    whole [] zero l = refl
+    whole [] (suc k) l = refl
+    whole (t ∷ ts) zero l = absurd (omega (arith, l))
+    whole (t ∷ ts) (suc k) l = ap (λ us. t ∷ us) (whole ts k (omega (arith, l)))
+
+module _ {W R : Type 0} where
+  -- a split more is taken, or none
+  pub turn_next : (place i : ℕ) (turns : List ℕ) (jobs jobs' : List (Job W R)) (now next : List (Slot W R)) → i < length turns → place ≡ get_or turns i place → TakesJob place jobs jobs' now next
+      → AreInTurn (places_of jobs) (take i turns) → AreInTurn (places_of jobs') (take (i + 1) turns)
+  turn_next place i turns jobs jobs' now next lt at takes h = subst (AreInTurn (places_of jobs')) (sym (take_next turns i place lt ∙ ap (λ p. take i turns ++ p ∷ []) (sym at))) (go takes)
+    where
+      go : TakesJob place jobs jobs' now next → AreInTurn (places_of jobs') (take i turns ++ place ∷ [])
+      go (inl t) = in_turn_later (places_of jobs') (take i turns) place (subst (λ (js : List (Job W R)). AreInTurn (places_of js) (take i turns)) (sym t.1) h)
+      go (inr t) =
+          subst (λ (ps : List ℕ). AreInTurn ps (take i turns ++ place ∷ [])) (sym (ap places_of t.2 ∙ places_snoc jobs (new_job place (slot_at now place))))
+          (in_turn_too (places_of jobs) (take i turns) place h)
+
+  -- those that are listed
+  listed_after : (jobs : List (Job W R)) (list done : List ℕ) → AreInTurn list done → AreInTurn (listed jobs list) (done ++ places_of jobs)
+  listed_after [] list done h = subst (AreInTurn list) (sym (append-nil done)) h
+  listed_after (j ∷ jobs) list done h = subst (AreInTurn (listed jobs (also_if (is_wait j.found) j.place list))) (append_assoc done (j.place ∷ []) (places_of jobs)) (listed_after jobs (also_if (is_wait j.found) j.place list) (done ++ j.place ∷ []) (go (is_wait j.found)))
+    where
+      go : (b : Bool) → AreInTurn (also_if b j.place list) (done ++ j.place ∷ [])
+      go true = in_turn_too list done j.place h
+      go false = in_turn_later list done j.place h
+
+  pub places_same : (jobs jobs' : List (Job W R)) → length jobs' ≡ length jobs → ((i : ℕ) (d : Job W R) → i < length jobs → (get_or jobs' i d).place ≡ (get_or jobs i d).place) → places_of jobs' ≡ places_of jobs
+  places_same [] [] n h = refl
+  places_same [] (k ∷ jobs') n h = absurd (omega (arith, n))
+  places_same (j ∷ jobs) [] n h = absurd (omega (arith, n))
+  places_same (j ∷ jobs) (k ∷ jobs') n h = (let x = h 0 j (omega arith) in let r = places_same jobs jobs' (omega (arith, n)) (λ i d lt. h (suc i) d (omega (arith, lt))) in λ i. x i ∷ r i)
+
+  -- what waits after a phase is in turn
+  pub listed_in_turn : (jobs jobs' given : List (Job W R)) (list list' turns : List ℕ) → list ≡ [] → places_of jobs' ≡ places_of jobs → given ≡ jobs' → list' ≡ listed given list → AreInTurn (places_of jobs) turns → AreInTurn list' turns
+  listed_in_turn jobs jobs' given list list' turns e same is l o =
+      subst (λ (xs : List ℕ). AreInTurn xs turns) (sym (l ∙ ap (λ (js : List (Job W R)). listed js list) is ∙ ap (listed jobs') e))
+      (in_turn_then (listed jobs' []) (places_of jobs') turns (listed_after jobs' [] [] tt) (subst (λ (ps : List ℕ). AreInTurn ps turns) (sym same) o))
 
 -- ---- splits are put back
 module _ {W I R : Type 0} (split : W → SplitState I) (comes : W → Arrivals → Store → Event → Type 0) (items : R → List I) where
@@ -167,7 +259,7 @@ module _ {W I R : Type 0} (split : W → SplitState I) (comes : W → Arrivals �
     polled : EachPolled split comes items list start mid
     once : no_repeats list ≡ true
     keeps : (p : Part I) (store : Store) → EachKeeps split comes items p store start mid
-    news : HasNews mid (places_of jobs)
+    fresh : HasFresh mid (places_of jobs)
 
   -- all are
   pub record Back (list : List ℕ) (start now : List (Slot W R)) : Type 0 where
@@ -223,7 +315,7 @@ module _ {W I R : Type 0} (split : W → SplitState I) (comes : W → Arrivals �
         polled = polled_next split comes items p list list' start mid mid' h.polled (length-set mid p k.slot) others looks;
         once = once_next split comes items p list list' start mid mid' h.polled looks h.once;
         keeps = λ part store. each_then split comes items part store start mid mid' (h.keeps part store) (each_set split comes items part store mid p k.slot lt (subst (λ (x : Slot W R). SlotKeeps split comes items part store x k.slot) from (polled.keeps part store)));
-        news = news_popped mid mid' p (p ∷ places_of jobs) (places_of jobs) refl h.news others (look_settled split comes items p list list' (slot_at mid p) (slot_at mid' p) looks);
+        fresh = fresh_popped mid mid' p (p ∷ places_of jobs) (places_of jobs) refl h.fresh others (look_settled split comes items p list list' (slot_at mid p) (slot_at mid' p) looks);
       })
     where
       p : ℕ
@@ -266,7 +358,7 @@ module _ {W I R : Type 0} (split : W → SplitState I) (comes : W → Arrivals �
       len = h.taken.len ∙ (h.keeps p store).len;
       at = λ q. subst (SlotKeeps split comes items p store (slot_at start q)) (sym (same q)) ((h.keeps p store).at q);
     };
-    settled = λ q. ap (λ (s : Slot W R). is_fresh s.stage) (same q) ∙ none_fresh mid [] refl h.news q;
+    settled = λ q. ap (λ (s : Slot W R). is_fresh s.stage) (same q) ∙ none_fresh mid [] refl h.fresh q;
   }
     where
       same : (q : ℕ) → slot_at now q ≡ slot_at mid q
@@ -279,7 +371,7 @@ module _ {W I R : Type 0} (split : W → SplitState I) (comes : W → Arrivals �
   all_back (j ∷ jobs) (k ∷ jobs') list start mid now h =
       all_back jobs jobs' (also_if (is_wait k.found) k.place list) start (set mid k.place k.slot) (set now k.place k.slot) (next j k jobs jobs' list start mid now h)
 
-  pub jobs_back : (jobs jobs' : List (Job W R)) (list : List ℕ) (old now : List (Slot W R)) → list ≡ [] → AreJobs jobs old now → HasNews old (places_of jobs) → length jobs' ≡ length jobs
+  pub jobs_back : (jobs jobs' : List (Job W R)) (list : List ℕ) (old now : List (Slot W R)) → list ≡ [] → AreJobs jobs old now → HasFresh old (places_of jobs) → length jobs' ≡ length jobs
       → ((i : ℕ) (d : Job W R) → i < length jobs → JobPolled split comes items (get_or jobs i d) (get_or jobs' i d)) → Back (listed jobs' list) old (put_back jobs' now)
   jobs_back jobs jobs' list old now e a h n p = all_back jobs jobs' list old old now (record {
     taken = a;
@@ -288,7 +380,7 @@ module _ {W I R : Type 0} (split : W → SplitState I) (comes : W → Arrivals �
     polled = subst (λ (xs : List ℕ). EachPolled split comes items xs old old) (sym e) (polled_none split comes items old);
     once = ap no_repeats e;
     keeps = λ part store. each_refl split comes items part store old;
-    news = h;
+    fresh = h;
   })
 
   -- polled jobs are at the places at which they were
@@ -296,7 +388,7 @@ module _ {W I R : Type 0} (split : W → SplitState I) (comes : W → Arrivals �
   still_within count jobs jobs' n p a i d lt = let lt' : i < length jobs = omega arith in subst (λ q. q < count) (sym (p i d lt').place_is) (a i d lt')
 
   -- what a phase leaves of the slots and of the list
-  pub phase_back : (jobs jobs' given : List (Job W R)) (list list' : List ℕ) (old now new : List (Slot W R)) → list ≡ [] → AreJobs jobs old now → HasNews old (places_of jobs) → length jobs' ≡ length jobs
+  pub phase_back : (jobs jobs' given : List (Job W R)) (list list' : List ℕ) (old now new : List (Slot W R)) → list ≡ [] → AreJobs jobs old now → HasFresh old (places_of jobs) → length jobs' ≡ length jobs
       → ((i : ℕ) (d : Job W R) → i < length jobs → JobPolled split comes items (get_or jobs i d) (get_or jobs' i d)) → given ≡ jobs' → list' ≡ listed given list → new ≡ put_back given now → Back list' old new
   phase_back jobs jobs' given list list' old now new e a h n p is l s =
       subst (λ (xs : List ℕ). Back xs old new) (sym (l ∙ ap (λ (js : List (Job W R)). listed js list) is))

@@ -7,7 +7,7 @@ use Rattle.scan_splits.specs.Arrivals.{Arrivals}
 use Rattle.scan_splits.specs.Wanted.{no_repeats}
 use Rattle.scan_drive.specs.Files.{Group, Told, told_at, IfTold, AllTell}
 use Rattle.scan_drive.specs.Runs.{RunData, new_run}
-use Rattle.scan_drive.specs.Slots.{slot_at, HasNews, StageOk, slot_groups}
+use Rattle.scan_drive.specs.Slots.{slot_at, StageOk, slot_groups}
 use Rattle.scan_drive.specs.Splits.{SplitState, Event}
 use Rattle.scan_drive.specs.Turns.{FrontWaits}
 use Rattle.scan_drive.specs.declared.active.Active.{Active}
@@ -39,14 +39,13 @@ module _ {W R : Type 0} where
       ((free ≡ place ∷ free') × (length new ≡ length old))
       ⊎ ((free ≡ []) × (free' ≡ []) × (place ≡ length old) × (length new ≡ length old + 1))
 
-  -- a split of a file is active at the last turn, and has news
+  -- a split of a file is active at the last turn
   pub record Seats (file : ℕ) (work : W) (old new : Active W R) : Type 0 where
     pub place : ℕ
     pub turns : new.turns.items ≡ old.turns.items ++ place ∷ []
     pub unused : is_among old.turns.items place ≡ false
     pub becomes : Becomes place (record { file = file; stage = stage.Reads (new_run work) }) old.slots.items new.slots.items
     pub seated : Seated new
-    pub news : HasNews old.slots.items old.news.items → HasNews new.slots.items new.news.items
 
   -- the split whose turn it is has been read, and its rows are taken
   pub record GivesRows (file : ℕ) (rows : R) (old new : Active W R) : Type 0 where
@@ -55,7 +54,6 @@ module _ {W R : Type 0} where
     pub was : slot_at old.slots.items place ≡ record { file = file; stage = stage.Read rows }
     pub becomes : Becomes place (record { file = file; stage = stage.Empty }) old.slots.items new.slots.items
     pub seated : Seated new
-    pub news : HasNews old.slots.items old.news.items → HasNews new.slots.items new.news.items
 
   -- the split whose turn it is has been given up
   pub record IsHalted (file : ℕ) (h : Halt) (a : Active W R) : Type 0 where
@@ -70,7 +68,6 @@ module _ {W R : Type 0} where
     pub slots : new.slots.items ≡ old.slots.items
     pub turns : new.turns ≡ old.turns
     pub free : new.free ≡ old.free
-    pub news : new.news ≡ old.news
 
   -- the split whose turn it is goes behind the others
   pub record Rotates (old new : Active W R) : Type 0 where
@@ -80,7 +77,6 @@ module _ {W R : Type 0} where
     pub turned : new.turns.items ≡ later ++ place ∷ []
     pub slots : new.slots.items ≡ old.slots.items
     pub free : new.free ≡ old.free
-    pub news : new.news ≡ old.news
 
   -- the split whose turn it is
   abbrev pub IsFront : Active W R → Active W R → Front R → Type 0

@@ -54,7 +54,7 @@ module _ {W I R : Type 0} (items : R → List I) where
   GrantsIn (Some b) (Some d) slots = GrantsAll b d slots
 
 module _ {W I R : Type 0} (split : W → SplitState I) (comes : W → Arrivals → Store → Event → Type 0) (items : R → List I) where
-  -- a phase: the splits that had news were polled, and those at these places wait for other segments now
+  -- a phase: the splits that waited for nothing were polled, and those at these places wait for other segments now
   pub record IsPhase (asking : List ℕ) (old new : List (Slot W R)) : Type 0 where
     pub polled : EachPolled split comes items asking old new
     pub once : no_repeats asking ≡ true

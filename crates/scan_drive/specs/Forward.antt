@@ -2,7 +2,6 @@
 use Rattle.std.specs.Prelude.{◌≡◌, ◌<◌, ◌≤◌, ◌+◌, ◌-◌, ◌++◌, ℕ, Bool, true, List, [], ◌∷◌, Option, length}
 use Rattle.std.specs.List.{swap}
 use Rattle.std.specs.List.Sorted.{SwapsInRange}
-use Rattle.scan_drive.specs.Before.{IsDone}
 use Rattle.scan_drive.specs.Desks.{Waiters}
 use Rattle.scan_drive.specs.Line.{exchanged, placed_by, GivesSome}
 use Rattle.scan_drive.specs.Moves.{tells}
@@ -11,6 +10,7 @@ use Rattle.scan_drive.specs.Phases.{phase_at, is_unopened}
 use Rattle.scan_drive.specs.Polls.{opener_at, AllPolled, PollsFit, ArePolledLate}
 use Rattle.scan_drive.specs.Rounds.{IsLawful}
 use Rattle.scan_drive.specs.Wants.{Cache}
+use Rattle.scan_drive.specs.Windows.{FreesPlaces}
 use Rattle.scan_segments.specs.Source.{SourceState}
 use Rattle.scan_drive.specs.declared.delivery.DriveFault.{DriveFault}
 use Rattle.scan_drive.specs.declared.delivery.DriveFault.TheVariants as fault
@@ -62,10 +62,8 @@ module _ {W R F : Type 0} where
   -- the same, among the files whose openers are polled
   pub record KeepsLine {O S : Type 0} (workers : ℕ) (log log' : List (ℕ × ℕ)) (files files' : List (ScanFile O S))
       (desks desks' : List Waiters) (old new : Drive W R F) : Type 0 where
-    pub done : ℕ
     pub last : ℕ
-    pub is_done : IsDone old.active.turns.items old.active.slots.items old.first done
-    pub most : last ≤ done + workers
+    pub frees : 0 < last → FreesPlaces workers old.active.turns.items old.active.slots.items old.first last × (old.first < last)
     pub there : last ≤ length files
     pub brings : BringsForward last log log' files files' desks desks' old new
 

@@ -38,4 +38,5 @@ pub mod Trades
 pub mod Traffic
 pub mod Turns
 pub mod Wants
+pub mod Windows
 pub mod Workers

@@ -1,8 +1,14 @@
 -- The order in which splits of files are active.
 use Rattle.std.specs.Prelude.{◌≤◌, ℕ, List, [], ◌∷◌}
+use Rattle.std.specs.Ordering.{nat_cmp, ordering_then}
+use Rattle.std.specs.declared.cmp.Ordering.{Ordering}
 use Rattle.scan_drive.specs.Slots.{slot_at}
 use Rattle.scan_drive.specs.declared.active.Active.{Active}
 use Rattle.scan_drive.specs.declared.slot.Slot.{Slot}
+
+-- desks by their files, and then by their places
+abbrev pub by_file : ℕ × ℕ → ℕ × ℕ → Ordering
+by_file x y = ordering_then (nat_cmp x.0 y.0) (nat_cmp x.1 y.1)
 
 module _ {W R : Type 0} where
   -- the files of the splits at these places do not fall, and lie between two

@@ -1,8 +1,9 @@
 -- How often the openers of files are polled, and how early.
-use Rattle.std.specs.Prelude.{◌≡◌, ◌≤◌, ◌<◌, ◌+◌, ◌-◌, ◌⊎◌, ℕ, Bool, List, Option, length, slice_index_or}
+use Rattle.std.specs.Prelude.{◌≡◌, ◌≤◌, ◌<◌, ◌+◌, ◌-◌, ◌⊎◌, ℕ, Bool, true, false, List, Option, length, slice_index_or}
 use Rattle.scan_segments.specs.Faults.{Rose}
 use Rattle.scan_drive.specs.Drivings.{GivesBefore}
 use Rattle.scan_drive.specs.Files.{Told}
+use Rattle.scan_drive.specs.Line.{GivesSome}
 use Rattle.scan_drive.specs.Openers.{OpenerState, PolledOnce}
 use Rattle.scan_drive.specs.Phases.{phase_at, is_unopened}
 use Rattle.scan_drive.specs.declared.files.ScanFile.{ScanFile}
@@ -67,12 +68,19 @@ module _ {O S I : Type 0} (state : O → OpenerState I) where
         + (opener_at start k f).turns + 1
     pub first : PollsFirst start now
 
+module _ {I R : Type 0} (items : R → List I) where
+  -- all rows of the files before this one, but for as many as there are workers, were given; in no order, those of so many
+  -- of the files up to it
+  abbrev pub GivesUpTo : Bool → ℕ → Option ℕ → List (Told I) → ℕ → Type 0
+  GivesUpTo true workers limit tale k = GivesBefore items true limit tale (k + 1 - workers)
+  GivesUpTo false workers limit tale k = GivesSome items limit tale k (k + 1 - workers)
+
 module _ {O S I R : Type 0} (state : O → OpenerState I) (items : R → List I) where
-  -- an opener was polled only once all rows of the files before it, but for as many as there are workers, had been given
+  -- an opener was polled only once this was so of its file
   abbrev pub ArePolledLate : Bool → ℕ → Option ℕ → List (Told I) → List (ScanFile O S) → List (ScanFile O S) → Type 0
   ArePolledLate ordered workers limit tale start now =
       (k : ℕ) (f : ScanFile O S) → (opener_at state start k f).polled < (opener_at state now k f).polled
-      → GivesBefore items ordered limit tale (k + 1 - workers)
+      → GivesUpTo items ordered workers limit tale k
 
   -- what polls of openers keep since any start: how often they were polled, and under a premise how early
   pub record PollsOn {W F : Type 0} (ordered : Bool) (workers : ℕ) (limit : Option ℕ) (tale : List (Told I)) (If : Type 0)

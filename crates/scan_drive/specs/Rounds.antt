@@ -15,7 +15,8 @@ use Rattle.scan_drive.specs.Measures.{IsNearer}
 use Rattle.scan_drive.specs.Moves.{IsNamed, tells}
 use Rattle.scan_drive.specs.Openers.{OpenerState}
 use Rattle.scan_drive.specs.Phases.{phase_at, SpentBelow, PhasesOk, rest}
-use Rattle.scan_drive.specs.Slots.{slot_at, is_fresh, HasNews}
+use Rattle.scan_drive.specs.Order.{Rises}
+use Rattle.scan_drive.specs.Slots.{slot_at, is_fresh, is_reading}
 use Rattle.scan_drive.specs.Splits.{SplitState, Event}
 use Rattle.scan_drive.specs.Trades.{CacheAgrees}
 use Rattle.scan_drive.specs.Turns.{Filled, IsTally, IsTooMany, seats_steps}
@@ -29,12 +30,11 @@ use Rattle.scan_drive.specs.declared.round.Drive.{Drive}
 use Rattle.scan_drive.specs.declared.slot.Slot.{Slot}
 
 module _ {W R : Type 0} where
-  -- the active splits stand in their slots, each is of one of so many files, and those that wait for nothing have news
+  -- the active splits stand in their slots, and each is of one of so many files
   pub record IsReady (n : ℕ) (a : Active W R) : Type 0 where
     pub seated : Seated a
     pub filled : Filled a
     pub within : FilesWithin n a.slots.items
-    pub news : HasNews a.slots.items a.news.items
 
   -- the splits at these places wait for other segments, for which nobody waits yet
   pub record AreAsking (asking : List ℕ) (slots : List (Slot W R)) : Type 0 where
@@ -101,3 +101,9 @@ module _ {O S W I R : Type 0} (source : S → SourceState) (split : W → SplitS
       IsNearer split (slot_at old place) (slot_at new place)
       ⊎ ((f : ScanFile O S) → (source (slice_index_or files' (slot_at old place).file f).source).turns
       < (source (slice_index_or files (slot_at old place).file f).source).turns)
+
+  -- where the active splits are in the order of their files up to one, this is so of each that is read
+  abbrev pub ServesAll : List ℕ → ℕ → List (ScanFile O S) → List (ScanFile O S) → List (Slot W R) → List (Slot W R) → Type 0
+  ServesAll turns first files files' old new =
+      Rises 0 first turns old → (place : ℕ) → is_among turns place ≡ true → is_reading (slot_at old place).stage ≡ true
+      → ServesFront place files files' old new

@@ -104,9 +104,9 @@ module _ {W R : Type 0} where
   abbrev pub AllTake : ℕ → List ℕ → List (Slot W R) → Type 0
   AllTake id places slots = (p : ℕ) → is_among places p ≡ true → MayTake id (slot_at slots p)
 
-  -- each split that waits for nothing is among those with news
-  abbrev pub HasNews : List (Slot W R) → List ℕ → Type 0
-  HasNews slots news = (p : ℕ) → is_fresh (slot_at slots p).stage ≡ true → is_among news p ≡ true
+  -- each split that waits for nothing is at one of these places
+  abbrev pub HasFresh : List (Slot W R) → List ℕ → Type 0
+  HasFresh slots places = (p : ℕ) → is_fresh (slot_at slots p).stage ≡ true → is_among places p ≡ true
 
 -- one more place in a list, where it is to be
 abbrev pub also_if : Bool → ℕ → List ℕ → List ℕ

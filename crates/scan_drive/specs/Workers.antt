@@ -12,6 +12,12 @@ use Rattle.scan_drive.specs.declared.looking.Found.TheVariants as found
 use Rattle.scan_drive.specs.declared.slot.Slot.{Slot}
 use Rattle.scan_drive.specs.declared.workers.Job.{Job}
 
+-- some of the places, in the order of their turns
+abbrev pub AreInTurn : List ℕ → List ℕ → Type 0
+AreInTurn [] turns = Unit {0}
+AreInTurn (p ∷ ps) [] = ⊥
+AreInTurn (p ∷ ps) (t ∷ turns) = ((p ≡ t) × AreInTurn ps turns) ⊎ AreInTurn (p ∷ ps) turns
+
 module _ {W R : Type 0} where
   -- the places that they are of
   abbrev pub places_of : List (Job W R) → List ℕ

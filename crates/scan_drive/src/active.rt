@@ -20,8 +20,6 @@ pub struct Active<W, R> {
     pub turns: VecDeque<usize>,
     /// The places that are free.
     pub free: VecDeque<usize>,
-    /// The places of splits that wait for nothing.
-    pub news: VecDeque<usize>,
 }
 
 /// What there is of the split whose turn it is.
@@ -103,7 +101,6 @@ impl<W: Drop, R: Drop> Active<W, R> {
             slots: Vec::new(alloc),
             turns: VecDeque::new(alloc),
             free: VecDeque::new(alloc),
-            news: VecDeque::new(alloc),
         }
     }
 
@@ -115,7 +112,6 @@ impl<W: Drop, R: Drop> Active<W, R> {
         let stage = Stage::Reads(Run::new(alloc, work));
         let place = put(&mut self.slots, &mut self.free, Slot { file, stage })?;
         self.turns.push_back(place)?;
-        self.news.push_back(place)?;
         Ok(())
     }
 

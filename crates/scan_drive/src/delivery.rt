@@ -5,7 +5,7 @@ ghost use Rattle.scan_drive.specs.Actives.{Seated, AllOk};
 ghost use Rattle.scan_drive.specs.Chunks.{HasRoom, AddsFile, Fits, KeepsFiles, KeepsRows, fault_of, given, Gives, IsDelivered, IsDeliverFault, IsCause};
 ghost use Rattle.scan_drive.specs.Files.{Told, count, grouped};
 ghost use Rattle.scan_drive.specs.Lost.{StopsOver};
-ghost use Rattle.scan_drive.specs.Slots.{HasNews, read_rows};
+ghost use Rattle.scan_drive.specs.Slots.{read_rows};
 ghost use Rattle.scan_drive.specs.Turns.{GivesOn, TurnsWait};
 ghost use Rattle.scan_drive.specs.declared.delivery.Delivered.TheVariants as delivered;
 
@@ -136,8 +136,6 @@ pub fn deliver<W: SplitWork + Drop>(
     requires seated { Seated active.old }
     requires room { HasRoom left.old }
     ensures seated { OnOk result (Seated active.new) }
-    ensures news { OnOk result (HasNews active.old.slots.items active.old.news.items →
-        HasNews active.new.slots.items active.new.news.items) }
     ensures ok { OnOk result ((tale : List (Told Item)) → AllOk W.split W.comes W.items tale active.old →
         AllOk W.split W.comes W.items tale active.new) }
     ensures gives { IfOk result (λ d. d ≡ delivered.More → GivesOn W.split active.old active.new × TurnsWait active.new) }
@@ -186,8 +184,6 @@ fn deliver_any<W: SplitWork + Drop>(
     requires seated { Seated active.old }
     requires room { HasRoom left.old }
     ensures seated { OnOk result (Seated active.new) }
-    ensures news { OnOk result (HasNews active.old.slots.items active.old.news.items →
-        HasNews active.new.slots.items active.new.news.items) }
     ensures ok { OnOk result ((tale : List (Told Item)) → AllOk W.split W.comes W.items tale active.old →
         AllOk W.split W.comes W.items tale active.new) }
     ensures gives { IfOk result (λ d. d ≡ delivered.More → GivesOn W.split active.old active.new × TurnsWait active.new) }
@@ -235,8 +231,6 @@ pub(crate) fn deliver_in<W: SplitWork + Drop>(
     requires seated { Seated active.old }
     requires room { HasRoom left.old }
     ensures seated { OnOk result (Seated active.new) }
-    ensures news { OnOk result (HasNews active.old.slots.items active.old.news.items →
-        HasNews active.new.slots.items active.new.news.items) }
     ensures ok { OnOk result ((tale : List (Told Item)) → AllOk W.split W.comes W.items tale active.old →
         AllOk W.split W.comes W.items tale active.new) }
     ensures gives { IfOk result (λ d. d ≡ delivered.More → GivesOn W.split active.old active.new × TurnsWait active.new) }

@@ -30,6 +30,8 @@ pub enum Reply {
 #[derive(Drop)]
 pub struct Desk {
     waiters: BTreeMap<SegmentId, Places>,
+    // which file it is of, in the order of the caller
+    file: usize,
 }
 
 impl Model for Desk {
@@ -41,13 +43,19 @@ impl Model for Desk {
 }
 
 impl Desk {
-    /// A desk without requests.
-    pub fn new(alloc: Global) -> Desk
+    /// A desk of a file, without requests.
+    pub fn new(alloc: Global, file: usize) -> Desk
         ensures { result ≡ [] }
     {
         Desk {
             waiters: BTreeMap::new(alloc),
+            file,
         }
+    }
+
+    /// Which file it is of.
+    pub fn file(&self) -> usize {
+        self.file
     }
 
     /// Whether no request is live.

@@ -1,12 +1,14 @@
 //! The steps of a round over all files.
-ghost use Rattle.std.specs.Prelude.{◌≡◌, ◌≤◌, ◌<◌, All, IfOk, OnOk, length, ℕ};
+ghost use Rattle.std.specs.Prelude.{◌≡◌, ◌≤◌, ◌<◌, true, All, IfOk, OnOk, length, map, ℕ};
+ghost use Rattle.std.specs.List.Sorted.{IsSorted};
+ghost use Rattle.scan_values.specs.Selections.{is_among};
 ghost use Rattle.scan_drive.specs.Drives.{DesksAgree, SourcesMove, IsIdle, NoneOf, EachLinked, SlotsKeep, BringsFileNearer, desk_at};
 ghost use Rattle.scan_drive.specs.Grounds.{SlotsFollow};
 ghost use Rattle.scan_drive.specs.Desks.{IsAwaited};
 ghost use Rattle.scan_drive.specs.Ledger.{FilesKeepLedger, KeepsAllBalance};
 ghost use Rattle.scan_drive.specs.Losses.{FilesKeepCounts};
 ghost use Rattle.scan_drive.specs.Measures.{EachAdvances};
-ghost use Rattle.scan_drive.specs.Slots.{HasNews};
+ghost use Rattle.scan_drive.specs.Order.{by_file};
 ghost use Rattle.scan_drive.specs.Trades.{FilesTrade};
 ghost use Rattle.scan_drive.specs.Wants.{Cache};
 
@@ -18,7 +20,6 @@ use crate::work::SplitWork;
 use scan_segments::{KeyedSegmentCache, SegmentSource};
 use scan_values::NoMemory;
 use std::alloc::Global;
-use std::collections::VecDeque;
 
 /// A desk for each file.
 pub fn make_desks<O, S: SegmentSource>(
@@ -29,8 +30,8 @@ pub fn make_desks<O, S: SegmentSource>(
     ensures { IfOk result (λ desks. DesksAgree S.state files.now.items desks.items) }
 {
     let mut desks = Vec::new(alloc);
-    for _ in 0..files.len() {
-        desks.push(Desk::new(alloc))?;
+    for file in 0..files.len() {
+        desks.push(Desk::new(alloc, file))?;
     }
     Ok(desks)
 }
@@ -54,14 +55,34 @@ pub fn close_all<O: Drop, S: SegmentSource + Drop>(
     }
 }
 
-/// Polls each live request of the files from one place to another once, and hands over what has come.
+/// The desks from one place to another, by their files: each file with its place.
+fn desks_by_file(
+    alloc: Global,
+    desks: &Vec<Desk>,
+    first: usize,
+    last: usize,
+) -> Result<Vec<(usize, usize)>, NoMemory>
+    requires { last ≤ length desks.now.items }
+    ensures within { IfOk result (λ found. All (λ p. p.1 < last) found.items) }
+    ensures order { IfOk result (λ found. IsSorted by_file found.items) }
+    ensures all { IfOk result (λ found. (k : ℕ) → first ≤ k → k < last → is_among (map (λ p. p.1) found.items) k ≡ true) }
+{
+    let mut found = Vec::new(alloc);
+    for place in first..last {
+        found.push((desks[place].file(), place))?;
+    }
+    found.sort_unstable();
+    Ok(found)
+}
+
+/// Polls each live request of the files from one place to another once, by file and then by segment, and hands over what
+/// has come.
 pub fn fetch_files<W: SplitWork + Drop, O: Drop, S: SegmentSource + Drop, C: KeyedSegmentCache>(
     alloc: Global,
     files: &mut Vec<ScanFile<O, S>>,
     desks: &mut Vec<Desk>,
     cache: &mut C,
     slots: &mut Vec<Slot<W, W::Rows>>,
-    news: &mut VecDeque<usize>,
     first: usize,
     last: usize,
 ) -> Result<(), NoMemory>
@@ -75,25 +96,18 @@ pub fn fetch_files<W: SplitWork + Drop, O: Drop, S: SegmentSource + Drop, C: Key
         (C.cache cache.old) (C.cache cache.new) slots.new.items) }
     ensures keeps { OnOk result (SlotsKeep S.state W.split W.comes W.items files.old.items slots.old.items slots.new.items) }
     ensures links { OnOk result (EachLinked desks.new.items slots.new.items) }
-    ensures news { OnOk result (HasNews slots.old.items news.old.items → HasNews slots.new.items news.new.items) }
     ensures follows { OnOk result (SlotsFollow S.state (C.cache cache.old) files.old.items files.new.items
         slots.old.items slots.new.items) }
     ensures advances { OnOk result (EachAdvances W.split slots.old.items slots.new.items) }
-    ensures nearer { OnOk result (first < last → BringsFileNearer S.state W.split first files.old.items files.new.items
-        desks.old.items slots.old.items slots.new.items) }
+    ensures nearer { OnOk result ((k : ℕ) → first ≤ k → k < last → BringsFileNearer S.state W.split k
+        files.old.items files.new.items desks.old.items slots.old.items slots.new.items) }
 {
-    for k in first..last {
+    let found = desks_by_file(alloc, desks, first, last)?;
+    for i in 0..found.len() {
+        let (_, k) = found[i];
         let file = &mut files[k];
         let desk = &mut desks[k];
-        fetch(
-            alloc,
-            &file.source_id,
-            &mut file.source,
-            desk,
-            cache,
-            slots,
-            news,
-        )?;
+        fetch(alloc, &file.source_id, &mut file.source, desk, cache, slots)?;
     }
     Ok(())
 }

@@ -7,7 +7,6 @@ ghost use Rattle.scan_drive.specs.Grounds.{SourceFollows};
 ghost use Rattle.scan_drive.specs.Links.{Linked, StaysLinked, KeepsTold};
 ghost use Rattle.scan_drive.specs.Losses.{KeepsCounts};
 ghost use Rattle.scan_drive.specs.Measures.{EachAdvances};
-ghost use Rattle.scan_drive.specs.Slots.{HasNews};
 ghost use Rattle.scan_drive.specs.Sources.{SourceMoves, NoId};
 ghost use Rattle.scan_drive.specs.Trades.{Trades};
 
@@ -17,7 +16,6 @@ use crate::work::SplitWork;
 use scan_segments::{KeyedSegmentCache, SegmentId, SegmentKey, SegmentSource, SegmentSourceId};
 use scan_values::NoMemory;
 use std::alloc::Global;
-use std::collections::VecDeque;
 
 /// Polls a live id, and hands over what has come. Where the source has failed, the splits that wait are given up.
 fn poll_one<W: SplitWork + Drop, S: SegmentSource, C: KeyedSegmentCache>(
@@ -27,7 +25,6 @@ fn poll_one<W: SplitWork + Drop, S: SegmentSource, C: KeyedSegmentCache>(
     desk: &mut Desk,
     cache: &mut C,
     slots: &mut Vec<Slot<W, W::Rows>>,
-    news: &mut VecDeque<usize>,
 ) -> Result<(), NoMemory>
     requires agree { Agree (S.state source.old).live desk.old }
     requires links { (file : ℕ) × Linked file desk.old slots.old.items }
@@ -41,7 +38,6 @@ fn poll_one<W: SplitWork + Drop, S: SegmentSource, C: KeyedSegmentCache>(
     ensures keeps { OnOk result (KeepsTold W.split W.comes W.items (S.state source.old).holds
         slots.old.items slots.new.items) }
     ensures links { OnOk result (StaysLinked desk.old desk.new slots.old.items slots.new.items) }
-    ensures news { OnOk result (HasNews slots.old.items news.old.items → HasNews slots.new.items news.new.items) }
     ensures follows { OnOk result (SourceFollows (S.state source.old) (S.state source.new) slots.old.items slots.new.items) }
     ensures advances { OnOk result (EachAdvances W.split slots.old.items slots.new.items) }
     ensures waits { OnOk result (WaitOn key.now.segment desk.old desk.new) }
@@ -51,7 +47,7 @@ fn poll_one<W: SplitWork + Drop, S: SegmentSource, C: KeyedSegmentCache>(
     match desk.collect(alloc, key, source, cache) {
         Reply::Pending => Ok(()),
         Reply::NoMemory => Err(NoMemory),
-        Reply::Came(arrival, places) => hand(slots, places.as_slice(), key.segment, &arrival, news),
+        Reply::Came(arrival, places) => hand(slots, places.as_slice(), key.segment, &arrival),
         Reply::Failed(places) => {
             lose(slots, places.as_slice(), key.segment);
             Ok(())
@@ -68,7 +64,6 @@ fn poll_all<W: SplitWork + Drop, S: SegmentSource, C: KeyedSegmentCache>(
     desk: &mut Desk,
     cache: &mut C,
     slots: &mut Vec<Slot<W, W::Rows>>,
-    news: &mut VecDeque<usize>,
 ) -> Result<(), NoMemory>
     requires agree { Agree (S.state source.old).live desk.old }
     requires links { (file : ℕ) × Linked file desk.old slots.old.items }
@@ -81,7 +76,6 @@ fn poll_all<W: SplitWork + Drop, S: SegmentSource, C: KeyedSegmentCache>(
     ensures keeps { OnOk result (KeepsTold W.split W.comes W.items (S.state source.old).holds
         slots.old.items slots.new.items) }
     ensures links { OnOk result (StaysLinked desk.old desk.new slots.old.items slots.new.items) }
-    ensures news { OnOk result (HasNews slots.old.items news.old.items → HasNews slots.new.items news.new.items) }
     ensures follows { OnOk result (SourceFollows (S.state source.old) (S.state source.new) slots.old.items slots.new.items) }
     ensures advances { OnOk result (EachAdvances W.split slots.old.items slots.new.items) }
     ensures nearer { OnOk result ((id : ℕ) → is_among ids.now id ≡ true →
@@ -92,7 +86,7 @@ fn poll_all<W: SplitWork + Drop, S: SegmentSource, C: KeyedSegmentCache>(
             continue;
         }
         key.segment = *id;
-        poll_one(alloc, key, source, desk, cache, slots, news)?;
+        poll_one(alloc, key, source, desk, cache, slots)?;
     }
     Ok(())
 }
@@ -105,7 +99,6 @@ pub fn fetch<W: SplitWork + Drop, S: SegmentSource, C: KeyedSegmentCache>(
     desk: &mut Desk,
     cache: &mut C,
     slots: &mut Vec<Slot<W, W::Rows>>,
-    news: &mut VecDeque<usize>,
 ) -> Result<(), NoMemory>
     requires agree { Agree (S.state source.old).live desk.old }
     requires links { (file : ℕ) × Linked file desk.old slots.old.items }
@@ -118,7 +111,6 @@ pub fn fetch<W: SplitWork + Drop, S: SegmentSource, C: KeyedSegmentCache>(
     ensures keeps { OnOk result (KeepsTold W.split W.comes W.items (S.state source.old).holds
         slots.old.items slots.new.items) }
     ensures links { OnOk result (StaysLinked desk.old desk.new slots.old.items slots.new.items) }
-    ensures news { OnOk result (HasNews slots.old.items news.old.items → HasNews slots.new.items news.new.items) }
     ensures follows { OnOk result (SourceFollows (S.state source.old) (S.state source.new) slots.old.items slots.new.items) }
     ensures advances { OnOk result (EachAdvances W.split slots.old.items slots.new.items) }
     ensures nearer { OnOk result ((id : ℕ) →
@@ -129,5 +121,5 @@ pub fn fetch<W: SplitWork + Drop, S: SegmentSource, C: KeyedSegmentCache>(
         source_id: name.try_clone()?,
         segment: SegmentId::default(),
     };
-    poll_all(alloc, &mut key, &ids, source, desk, cache, slots, news)
+    poll_all(alloc, &mut key, &ids, source, desk, cache, slots)
 }

@@ -50,6 +50,6 @@ pub use rounds::{Round, make_round, run_rounds};
 pub use run::{Run, RunPoll};
 pub use settling::RoundFault;
 pub use slot::{Halt, Slot, Stage, hand, lose};
-pub use wants::want_news;
+pub use wants::want_slots;
 pub use work::SplitWork;
-pub use workers::poll_news;
+pub use workers::poll_fresh;

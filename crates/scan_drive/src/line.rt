@@ -15,7 +15,7 @@ use crate::desk::Desk;
 use crate::driving::DriveOutput;
 use crate::files::ScanFile;
 use crate::phase::Phase;
-use crate::round::{Drive, finished, window};
+use crate::round::{Drive, window_end};
 use crate::settling::RoundFault;
 use crate::work::SplitWork;
 use scan_values::NoMemory;
@@ -102,12 +102,21 @@ pub(crate) fn bring_forward<O: Drop, S: Drop, W: SplitWork + Drop, F: Drop>(
         files.old.items files.new.items desks.old.items desks.new.items drive.old drive.new }
     ensures order { drive.old.ordered ≡ true → exchanges.new.items ≡ exchanges.old.items }
 {
-    let done = finished(&drive.active.turns, &drive.active.slots, drive.first);
     if drive.ordered {
         return Ok(());
     }
-    let last = window(done, workers, files.len());
     let first = drive.first;
+    let last = window_end(
+        false,
+        &drive.active.turns,
+        &drive.active.slots,
+        first,
+        workers,
+        files.len(),
+    );
+    if last <= first {
+        return Ok(());
+    }
     bring_between(files, desks, drive, exchanges, first, last)
 }
 

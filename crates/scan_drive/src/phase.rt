@@ -6,7 +6,6 @@ ghost use Rattle.scan_drive.specs.Files.{Told, AllTell};
 ghost use Rattle.scan_drive.specs.Filling.{Fills};
 ghost use Rattle.scan_drive.specs.Phases.{SpentBelow, Takes, PhasesOk, rest, unopened, is_unopened, phase_at};
 ghost use Rattle.scan_drive.specs.declared.phase.Phase.TheVariants as held;
-ghost use Rattle.scan_drive.specs.Slots.{HasNews};
 ghost use Rattle.scan_drive.specs.Turns.{Counts, FitsIn, IsTally, SeatsOn, IsStuck};
 
 use crate::active::Active;
@@ -110,8 +109,6 @@ pub fn activate<W: SplitWork + Drop, F: Drop>(
     ensures opened { unopened phases.new.items ≤ unopened phases.old.items }
     ensures below { IfOk result (λ n. (n ≤ length phases.new.items) × SpentBelow phases.new.items n) }
     ensures seated { OnOk result (Seated active.new) }
-    ensures news { OnOk result (HasNews active.old.slots.items active.old.news.items →
-        HasNews active.new.slots.items active.new.news.items) }
     ensures left { OnOk result ((tale : List (Told Item)) → length tale ≡ length phases.old.items →
         groups_left W.split W.comes W.items tale active.new ++ rest W.split W.comes tale phases.new.items
         ≡ groups_left W.split W.comes W.items tale active.old ++ rest W.split W.comes tale phases.old.items) }

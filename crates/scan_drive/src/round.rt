@@ -1,5 +1,5 @@
 //! A round over all files. An own type: the Rust runs the tasks of one file after the other.
-ghost use Rattle.std.specs.Prelude.{◌≡◌, ◌≤◌, ◌<◌, ◌+◌, ◌++◌, ◌⊎◌, ◌∷◌, [], ℕ, List, true, false, OnOk, IfOk, IfErr, IfSome, MatchOption, length};
+ghost use Rattle.std.specs.Prelude.{◌≡◌, ◌≤◌, ◌<◌, ◌+◌, ◌^◌, ◌++◌, ◌⊎◌, ◌∷◌, [], ℕ, List, true, false, OnOk, IfOk, IfErr, IfSome, MatchOption, length};
 ghost use Rattle.scan_drive.specs.Actives.{AreSeats, AllOk};
 ghost use Rattle.scan_drive.specs.Asks.{EachLinkedBut, IsWantedBy};
 ghost use Rattle.scan_drive.specs.Chunks.{HasRoom, KeepsFiles, KeepsRows, IsMore, IsCut, IsDeliverFault, IsCause};
@@ -17,12 +17,13 @@ ghost use Rattle.scan_drive.specs.Moves.{EachMoves, KeepsSources, HoldsWhy, tell
 ghost use Rattle.scan_drive.specs.Openers.{as_number};
 ghost use Rattle.scan_drive.specs.Phases.{unopened};
 ghost use Rattle.scan_drive.specs.Polls.{PollsStand, PollsOn};
-ghost use Rattle.scan_drive.specs.Rounds.{IsReady, AreAsking, IsFrontFile, Stands, IsEnd, Sound, AskNamed, ServesFront, steps_left, files_turns};
-ghost use Rattle.scan_drive.specs.Slots.{HasNews, slot_at, is_reading};
+ghost use Rattle.scan_drive.specs.Rounds.{IsReady, AreAsking, IsFrontFile, Stands, IsEnd, Sound, AskNamed, ServesFront, ServesAll, steps_left, files_turns};
+ghost use Rattle.scan_drive.specs.Slots.{slot_at, is_reading};
 ghost use Rattle.scan_drive.specs.Trades.{CacheAgrees, FilesTrade};
 ghost use Rattle.scan_drive.specs.Turns.{FrontWaits, TurnsWait};
 ghost use Rattle.scan_drive.specs.declared.files.ScanFile.{ScanFile};
 ghost use Rattle.scan_drive.specs.Wants.{Cache};
+ghost use Rattle.scan_drive.specs.Windows.{AreBusy, IsWindow};
 ghost use Rattle.scan_splits.specs.Wanted.{no_repeats};
 
 use crate::active::{Active, first_of};
@@ -36,7 +37,7 @@ use crate::opening::SplitOpener;
 use crate::phase::{Phase, Tally, activate};
 use crate::report::ScanReport;
 use crate::slot::Slot;
-use crate::wants::want_news;
+use crate::wants::want_slots;
 use crate::work::SplitWork;
 use crate::workers::poll_in;
 use scan_segments::{KeyedSegmentCache, SegmentSource};
@@ -75,7 +76,7 @@ fn front_file<W: Drop, R: Drop>(turns: &VecDeque<usize>, slots: &Vec<Slot<W, R>>
 }
 
 /// Below which file all is given: that of the split whose turn it is, or else this one.
-pub(crate) fn finished<W: Drop, R: Drop>(
+fn finished<W: Drop, R: Drop>(
     turns: &VecDeque<usize>,
     slots: &Vec<Slot<W, R>>,
     first: usize,
@@ -90,15 +91,12 @@ pub(crate) fn finished<W: Drop, R: Drop>(
     }
 }
 
-/// Up to which file requests are polled: those from the front on, as far as splits have become active.
+/// Up to which file requests are polled: all that may have an active split.
 fn fetch_end(first: usize, front: usize, files: usize) -> usize
     ensures within { result ≤ files }
-    ensures some { front < files → front < result }
+    ensures all { (k : ℕ) → (k ≤ front) ⊎ (k ≤ first) → k < files → k < result }
 {
-    if first < files && front < first {
-        return first + 1;
-    }
-    front.saturating_add(1).min(files)
+    first.max(front).saturating_add(1).min(files)
 }
 
 /// How many splits may be active.
@@ -109,13 +107,68 @@ fn room_for(workers: usize) -> usize
     workers.saturating_mul(4)
 }
 
-/// Up to which file openers are polled, where so many at the front are done.
-pub(crate) fn window(done: usize, workers: usize, files: usize) -> usize
-    ensures within { result ≤ files }
-    ensures some { done < files → 0 < workers → done < result }
-    ensures most { result ≤ done + workers }
+/// One more than before, where a file is below this one and is not the last that was counted.
+fn count_file(busy: usize, file: usize, last: usize, first: usize) -> usize
+    requires { busy + 1 < 2 ^ 64 }
+    ensures { ((file < first) × (result ≡ busy + 1)) ⊎ (((first ≤ file) ⊎ (file ≡ last)) × (result ≡ busy)) }
 {
-    done.saturating_add(workers).min(files)
+    if file >= first || file == last {
+        return busy;
+    }
+    busy + 1
+}
+
+/// How many files below this one have active splits, of which those of one file stand together.
+fn count_busy<W: Drop, R: Drop>(
+    turns: &VecDeque<usize>,
+    slots: &Vec<Slot<W, R>>,
+    first: usize,
+) -> usize
+    requires { (free : List ℕ) × AreSeats turns.now.items free slots.now.items }
+    ensures few { result ≤ length turns.now.items }
+    ensures busy { AreBusy turns.now.items slots.now.items first result }
+{
+    let mut busy = 0;
+    let mut last = first;
+    for i in 0..turns.len() {
+        let place = turns[i];
+        let file = slots[place].file;
+        busy = count_file(busy, file, last, first);
+        last = file;
+    }
+    busy
+}
+
+/// Up to which file openers are polled, so many files from one on.
+fn window(from: usize, room: usize, files: usize) -> usize
+    ensures within { result ≤ files }
+    ensures some { from < files → 0 < room → from < result }
+    ensures most { result ≤ from + room }
+{
+    from.saturating_add(room).min(files)
+}
+
+/// Up to which file openers are polled, so that no more files are unfinished than there are workers: in order those from
+/// the front on, and in no order a file that is finished frees its place.
+pub(crate) fn window_end<W: Drop, R: Drop>(
+    ordered: bool,
+    turns: &VecDeque<usize>,
+    slots: &Vec<Slot<W, R>>,
+    first: usize,
+    workers: usize,
+    files: usize,
+) -> usize
+    requires { (free : List ℕ) × AreSeats turns.now.items free slots.now.items }
+    ensures within { result ≤ files }
+    ensures some { turns.now.items ≡ [] → first < files → 0 < workers → first < result }
+    ensures window { IsWindow ordered workers turns.now.items slots.now.items first result }
+{
+    if ordered {
+        let done = finished(turns, slots, first);
+        return window(done, workers, files);
+    }
+    let busy = count_busy(turns, slots, first);
+    window(first, workers.saturating_sub(busy), files)
 }
 
 /// Polls the openers of the files in the window, and makes splits active. It says whether an opener has answered.
@@ -159,8 +212,14 @@ pub(crate) fn bring_in<X: SplitOpener<O, W, F>, O, W: SplitWork + Drop, F: Drop,
         drive.old.phases.items files.old.items files.new.items }
 {
     let first = drive.first;
-    let done = finished(&drive.active.turns, &drive.active.slots, first);
-    let last = window(done, workers, files.len());
+    let last = window_end(
+        drive.ordered,
+        &drive.active.turns,
+        &drive.active.slots,
+        first,
+        workers,
+        files.len(),
+    );
     let opened = open_files(alloc, context, files, &mut drive.phases, first, last)?;
     let room = room_for(workers);
     drive.first = activate(
@@ -174,7 +233,7 @@ pub(crate) fn bring_in<X: SplitOpener<O, W, F>, O, W: SplitWork + Drop, F: Drop,
     Ok(opened)
 }
 
-/// Polls the splits with news, and gives the rows of those whose turn it is, or in no order of all that are read, which of
+/// Polls the splits that wait for nothing, and gives the rows of those whose turn it is, or in no order of all that are read, which of
 /// a limit a budget has granted. It answers the places of the splits that wait for other segments now, or nothing once the
 /// limit is met.
 pub(crate) fn give_out<R: Threads + Sync, W: SplitWork + Drop + Send, G: Gate>(
@@ -228,7 +287,7 @@ pub(crate) fn give_out<R: Threads + Sync, W: SplitWork + Drop + Send, G: Gate>(
         workers,
         budget,
         &mut active.slots,
-        &mut active.news,
+        &active.turns,
     ) {
         Ok(polled) => polled,
         Err(_) => return Err(DriveFault::NoMemory),
@@ -251,7 +310,6 @@ pub(crate) fn serve<W: SplitWork + Drop, O: Drop, S: SegmentSource + Drop, C: Ke
     desks: &mut Vec<Desk>,
     cache: &mut C,
     slots: &mut Vec<Slot<W, W::Rows>>,
-    news: &mut VecDeque<usize>,
     turns: &VecDeque<usize>,
     asking: &mut VecDeque<usize>,
     report: &mut ScanReport,
@@ -274,15 +332,16 @@ pub(crate) fn serve<W: SplitWork + Drop, O: Drop, S: SegmentSource + Drop, C: Ke
     ensures nearer { OnOk result ((place : ℕ) (later : List ℕ) → turns.now.items ≡ place ∷ later →
         is_reading (slot_at slots.old.items place).stage ≡ true →
         ServesFront S.state W.split place files.old.items files.new.items slots.old.items slots.new.items) }
+    ensures serves { OnOk result (ServesAll S.state W.split turns.now.items first files.old.items files.new.items
+        slots.old.items slots.new.items) }
     ensures links { OnOk result (EachLinked desks.new.items slots.new.items) }
-    ensures news { OnOk result (HasNews slots.old.items news.old.items → HasNews slots.new.items news.new.items) }
     ensures follows { OnOk result (SlotsFollow S.state (C.cache cache.old) files.old.items files.new.items
         slots.old.items slots.new.items) }
 {
-    want_news(alloc, asking, files, desks, cache, slots, news, report)?;
+    want_slots(alloc, asking, files, desks, cache, slots, report)?;
     let Some(front) = front_file(turns, slots) else {
         return Ok(());
     };
     let last = fetch_end(first, front, files.len());
-    fetch_files(alloc, files, desks, cache, slots, news, front, last)
+    fetch_files(alloc, files, desks, cache, slots, front, last)
 }

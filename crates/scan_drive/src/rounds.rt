@@ -111,7 +111,6 @@ pub fn make_round<
         desks,
         cache,
         &mut drive.active.slots,
-        &mut drive.active.news,
         &drive.active.turns,
         &mut asking,
         &mut drive.report,

@@ -1,5 +1,5 @@
 //! A split that is being read, and what has arrived for it. An own type: the Rust awaits a task.
-ghost use Rattle.std.specs.Prelude.{◌≡◌, true, OnOk, OnErr, IfOk};
+ghost use Rattle.std.specs.Prelude.{◌≡◌, true, OnOk, OnErr};
 ghost use Rattle.scan_splits.specs.Wanted.{no_repeats};
 ghost use Rattle.scan_drive.specs.Runs.{RunData, new_run, with_arrival, run_waits, is_ready, PollsRun};
 ghost use Rattle.scan_drive.specs.Splits.{SameSplit};
@@ -85,17 +85,15 @@ impl<W> Run<W> {
         }
     }
 
-    /// Takes what has arrived of an id that it waits for, and answers whether it waits for nothing now.
-    /// After a refusal the run is as before.
-    pub fn deliver(&mut self, id: SegmentId, arrival: Arrival) -> Result<bool, NoMemory>
+    /// Takes what has arrived of an id that it waits for. After a refusal the run is as before.
+    pub fn deliver(&mut self, id: SegmentId, arrival: Arrival) -> Result<(), NoMemory>
         requires { run_waits self.old id ≡ true }
         ensures ok { OnOk result (self.new ≡ with_arrival id arrival self.old) }
-        ensures ready { IfOk result (λ b. b ≡ is_ready self.new) }
         ensures err { OnErr result (self.new ≡ self.old) }
     {
         self.inbox.deliver(id, arrival)?;
         self.left -= 1;
-        Ok(self.left == 0)
+        Ok(())
     }
 }
 

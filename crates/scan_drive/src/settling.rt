@@ -84,7 +84,7 @@ fn end_of<W: Drop, F: Drop>(phases: &mut Vec<Phase<W, F>>, first: usize, tally: 
     }
 }
 
-/// Polls the splits with news, and gives the rows of those whose turn it is, or in no order of all that are read. It answers
+/// Polls the splits that wait for nothing, and gives the rows of those whose turn it is, or in no order of all that are read. It answers
 /// the places of the splits that wait for other segments now, or nothing once all is given or the limit is met.
 pub(crate) fn settle<R: Threads + Sync, W: SplitWork + Drop + Send, F: Drop, G: Gate>(
     rt: &R,

@@ -1,7 +1,7 @@
 //! The slots of the splits that are read at once, over all files. An own type: the Rust buffers tasks.
 ghost use Rattle.std.specs.Prelude.{◌≡◌, true, false, IfOk, OnOk, MatchOption};
 ghost use Rattle.scan_splits.specs.Wanted.{no_repeats};
-ghost use Rattle.scan_drive.specs.Slots.{is_fresh, is_read, stage_given_up, handed, given_up, at_each, MayTake, AllTake, HasNews, also_if};
+ghost use Rattle.scan_drive.specs.Slots.{is_fresh, is_read, stage_given_up, handed, given_up, at_each, MayTake, AllTake, also_if};
 ghost use Rattle.scan_drive.specs.declared.slot.Halt.TheVariants as halt;
 ghost use Rattle.scan_drive.specs.declared.slot.Stage.TheVariants as stage;
 
@@ -99,20 +99,18 @@ fn share(arrival: &Arrival) -> Result<Arrival, NoMemory>
     }
 }
 
-/// Hands what arrived of an id to the split in a slot, and answers whether the split waits for nothing now. A split that
-/// is given up takes nothing.
+/// Hands what arrived of an id to the split in a slot. A split that is given up takes nothing.
 pub(crate) fn hand_one<W: Drop, R: Drop>(
     slot: &mut Slot<W, R>,
     id: SegmentId,
     arrival: &Arrival,
-) -> Result<bool, NoMemory>
+) -> Result<(), NoMemory>
     requires { MayTake id slot.old }
-    ensures ok { OnOk result (slot.new ≡ handed id arrival.now slot.old) }
-    ensures fresh { IfOk result (λ b. b ≡ is_fresh slot.new.stage) }
+    ensures { OnOk result (slot.new ≡ handed id arrival.now slot.old) }
 {
     match &mut slot.stage {
         Stage::Reads(run) => run.deliver(id, share(arrival)?),
-        Stage::Halted(_, _) => Ok(false),
+        Stage::Halted(_, _) => Ok(()),
         Stage::Empty | Stage::Read(_) => unreachable!(),
     }
 }
@@ -128,23 +126,19 @@ pub(crate) fn list_if(yes: bool, place: usize, list: &mut VecDeque<usize>) -> Re
     Ok(())
 }
 
-/// Hands what arrived of an id to the splits at these places, which wait for it. Those that wait for nothing now have
-/// news.
+/// Hands what arrived of an id to the splits at these places, which wait for it.
 pub fn hand<W: Drop, R: Drop>(
     slots: &mut Vec<Slot<W, R>>,
     places: &[usize],
     id: SegmentId,
     arrival: &Arrival,
-    news: &mut VecDeque<usize>,
 ) -> Result<(), NoMemory>
     requires wait { AllTake id places.now slots.old.items }
     requires distinct { no_repeats places.now ≡ true }
-    ensures slots { OnOk result (slots.new.items ≡ at_each (handed id arrival.now) places.now slots.old.items) }
-    ensures news { OnOk result (HasNews slots.old.items news.old.items → HasNews slots.new.items news.new.items) }
+    ensures { OnOk result (slots.new.items ≡ at_each (handed id arrival.now) places.now slots.old.items) }
 {
     for place in places {
-        let ready = hand_one(&mut slots[*place], id, arrival)?;
-        list_if(ready, *place, news)?;
+        hand_one(&mut slots[*place], id, arrival)?;
     }
     Ok(())
 }

@@ -14,7 +14,7 @@ ghost use Rattle.scan_drive.specs.Links.{Among};
 ghost use Rattle.scan_drive.specs.Looks.{WaitsForAll};
 ghost use Rattle.scan_drive.specs.Lost.{Follows};
 ghost use Rattle.scan_drive.specs.Measures.{Advances, EachAdvances};
-ghost use Rattle.scan_drive.specs.Slots.{SlotKeeps, HasNews, slot_at, is_fresh, stage_waits, wanted_in};
+ghost use Rattle.scan_drive.specs.Slots.{SlotKeeps, slot_at, stage_waits, wanted_in};
 ghost use Rattle.scan_drive.specs.Sources.{SourceMoves, NoId};
 ghost use Rattle.scan_drive.specs.Trades.{Trusts, Trades, FilesTrade, CacheAgrees};
 ghost use Rattle.scan_drive.specs.Wants.{OnlyLoses};
@@ -23,7 +23,7 @@ use crate::cached::Wanted;
 use crate::desk::Desk;
 use crate::files::ScanFile;
 use crate::report::ScanReport;
-use crate::slot::{Slot, Stage, hand_one, list_if};
+use crate::slot::{Slot, Stage, hand_one};
 use crate::work::SplitWork;
 use scan_segments::{KeyedSegmentCache, SegmentId, SegmentKey, SegmentSource, SegmentSourceId};
 use scan_splits::Arrival;
@@ -124,7 +124,7 @@ fn want_slot<W: SplitWork + Drop, S: SegmentSource, C: KeyedSegmentCache>(
     cache: &mut C,
     slot: &mut Slot<W, W::Rows>,
     report: &mut ScanReport,
-) -> Result<bool, NoMemory>
+) -> Result<(), NoMemory>
     requires agree { Agree (S.state source.old).live desk.old }
     requires new { (id : ℕ) → waits desk.old id place ≡ false }
     requires waiting { WaitsForAll slot.old }
@@ -139,7 +139,6 @@ fn want_slot<W: SplitWork + Drop, S: SegmentSource, C: KeyedSegmentCache>(
         SlotKeeps W.split W.comes W.items p store slot.old slot.new) }
     ensures advances { OnOk result (Advances W.split slot.old slot.new) }
     ensures there { OnOk result (WaitsThere place slot.new desk.old desk.new) }
-    ensures fresh { IfOk result (λ b. b ≡ is_fresh slot.new.stage) }
     ensures loses { OnOk result (OnlyLoses (C.cache cache.old) (C.cache cache.new)) }
     ensures follows { OnOk result (Follows (IsKeptIn (C.cache cache.old) name.now) NoId slot.old slot.new) }
 {
@@ -151,19 +150,17 @@ fn want_slot<W: SplitWork + Drop, S: SegmentSource, C: KeyedSegmentCache>(
     want_all(
         alloc, &mut key, &ids, place, source, desk, cache, slot, report,
     )?;
-    Ok(slot.is_fresh())
+    Ok(())
 }
 
-/// Wants all that the splits at these places want, each of the source of its file. Those whose wants the cache has have
-/// news then.
-pub fn want_news<W: SplitWork + Drop, O: Drop, S: SegmentSource + Drop, C: KeyedSegmentCache>(
+/// Wants all that the splits at these places want, one after the other, each of the source of its file.
+pub fn want_slots<W: SplitWork + Drop, O: Drop, S: SegmentSource + Drop, C: KeyedSegmentCache>(
     alloc: Global,
     asking: &mut VecDeque<usize>,
     files: &mut Vec<ScanFile<O, S>>,
     desks: &mut Vec<Desk>,
     cache: &mut C,
     slots: &mut Vec<Slot<W, W::Rows>>,
-    news: &mut VecDeque<usize>,
     report: &mut ScanReport,
 ) -> Result<(), NoMemory>
     requires agree { DesksAgree S.state files.old.items desks.old.items }
@@ -182,7 +179,6 @@ pub fn want_news<W: SplitWork + Drop, O: Drop, S: SegmentSource + Drop, C: Keyed
         SlotsKeep S.state W.split W.comes W.items files.old.items slots.old.items slots.new.items) }
     ensures advances { OnOk result (EachAdvances W.split slots.old.items slots.new.items) }
     ensures links { OnOk result (EachLinked desks.new.items slots.new.items) }
-    ensures news { OnOk result (HasNews slots.old.items news.old.items → HasNews slots.new.items news.new.items) }
     ensures loses { OnOk result (OnlyLoses (C.cache cache.old) (C.cache cache.new)) }
     ensures follows { OnOk result (SlotsFollow S.state (C.cache cache.old) files.old.items files.new.items
         slots.old.items slots.new.items) }
@@ -192,7 +188,7 @@ pub fn want_news<W: SplitWork + Drop, O: Drop, S: SegmentSource + Drop, C: Keyed
         let file = &mut files[k];
         let desk = &mut desks[k];
         let slot = &mut slots[place];
-        let ready = want_slot(
+        want_slot(
             alloc,
             &file.source_id,
             place,
@@ -202,7 +198,6 @@ pub fn want_news<W: SplitWork + Drop, O: Drop, S: SegmentSource + Drop, C: Keyed
             slot,
             report,
         )?;
-        list_if(ready, place, news)?;
     }
     Ok(())
 }

@@ -1,6 +1,6 @@
-//! The splits that have news are polled by workers, in phases that are joined. After the Rust's tasks, of which a runtime
+//! The splits that wait for nothing are polled by workers, in phases that are joined. After the Rust's tasks, of which a runtime
 //! polls as many at once as it has threads.
-ghost use Rattle.std.specs.Prelude.{◌≡◌, ◌≤◌, ◌<◌, ◌+◌, ◌*◌, ◌^◌, [], true, false, All, OnOk, IfOk, IfSome, MatchOption, Some, ℕ, length, map, option_copied, slice_index_or};
+ghost use Rattle.std.specs.Prelude.{◌≡◌, ◌≤◌, ◌<◌, ◌+◌, ◌*◌, ◌^◌, true, false, All, OnOk, IfOk, IfSome, MatchOption, Some, ℕ, length, map, option_copied, slice_index_or};
 ghost use Rattle.scan_limit.specs.Seats.{after_split};
 ghost use Rattle.scan_segments.specs.Source.{Store};
 ghost use Rattle.scan_splits.specs.Wanted.{no_repeats};
@@ -8,8 +8,8 @@ ghost use Rattle.scan_drive.specs.Budgets.{IsOpen, IsPhase, GrantsAll, GrantsIn,
 ghost use Rattle.scan_drive.specs.Claimed.{IsSeated, JobClaims, JobWorked, PhaseGrants, all_joined, joined, seated, unseated};
 ghost use Rattle.scan_drive.specs.Files.{Item, Part};
 ghost use Rattle.scan_drive.specs.Looks.{EachPolled};
-ghost use Rattle.scan_drive.specs.Slots.{EachKeeps, HasNews, slot_at, is_fresh, nothing};
-ghost use Rattle.scan_drive.specs.Workers.{AreJobs, JobPolled, TakesJob, IsWithin, listed, places_of, put_back};
+ghost use Rattle.scan_drive.specs.Slots.{EachKeeps, HasFresh, slot_at, is_fresh, nothing};
+ghost use Rattle.scan_drive.specs.Workers.{AreInTurn, AreJobs, JobPolled, TakesJob, IsWithin, listed, places_of, put_back};
 ghost use Rattle.scan_drive.specs.declared.workers.Job.{Job};
 
 use crate::budget::Budget;
@@ -25,7 +25,7 @@ use std::collections::VecDeque;
 use std::thread;
 use std::thread::Threads;
 
-/// A split that has news, out of its slot while a worker has it.
+/// A split that waits for nothing, out of its slot while a worker has it.
 #[derive(Drop)]
 pub(crate) struct Job<W, R> {
     place: usize,
@@ -73,20 +73,20 @@ fn take_job<W: Drop, R: Drop>(
     Ok(())
 }
 
-/// Takes the splits that have news out of their slots. Room for them is made first.
+/// Takes the splits that wait for nothing out of their slots, in turn.
 fn take_jobs<W: Drop, R: Drop>(
     alloc: Global,
     slots: &mut Vec<Slot<W, R>>,
-    news: &mut VecDeque<usize>,
+    turns: &VecDeque<usize>,
 ) -> Result<Vec<Job<W, R>>, NoMemory>
-    requires { HasNews slots.old.items news.old.items }
+    requires { HasFresh slots.old.items turns.now.items }
     ensures jobs { IfOk result (λ jobs. AreJobs jobs.items slots.old.items slots.new.items) }
-    ensures all { IfOk result (λ jobs. HasNews slots.old.items (places_of jobs.items)) }
-    ensures empty { OnOk result (news.new.items ≡ []) }
+    ensures all { IfOk result (λ jobs. HasFresh slots.old.items (places_of jobs.items)) }
+    ensures order { IfOk result (λ jobs. AreInTurn (places_of jobs.items) turns.now.items) }
 {
-    let mut jobs = Vec::with_capacity(alloc, news.len())?;
-    'news: while let Some(place) = news.pop_front() {
-        take_job(slots, place, &mut jobs)?;
+    let mut jobs = Vec::new(alloc);
+    for i in 0..turns.len() {
+        take_job(slots, turns[i], &mut jobs)?;
     }
     Ok(jobs)
 }
@@ -271,7 +271,7 @@ fn grant_phase<R: Threads + Sync, W: SplitWork + Drop + Send, G: Gate>(
     Ok(Budget::of_parts(limit, seat))
 }
 
-/// Puts splits back into their slots. The places of those that wait for other segments now are listed.
+/// Puts splits back into their slots. The places of those that wait for other segments now are listed, in their order.
 fn put_jobs<W: Drop, R: Drop>(
     slots: &mut Vec<Slot<W, R>>,
     jobs: Vec<Job<W, R>>,
@@ -294,28 +294,28 @@ fn put_jobs<W: Drop, R: Drop>(
     Ok(())
 }
 
-/// Polls the splits that have news, in one phase of at most so many workers, and answers the places of those that wait for
-/// other segments now. Where a thread can't be made its part is polled by the caller.
-pub fn poll_news<R: Threads + Sync, W: SplitWork + Drop + Send, G: Gate>(
+/// Polls the splits that wait for nothing, in one phase of at most so many workers, and answers the places of those that
+/// wait for other segments now, in turn. Where a thread can't be made its part is polled by the caller.
+pub fn poll_fresh<R: Threads + Sync, W: SplitWork + Drop + Send, G: Gate>(
     rt: &R,
     alloc: Global,
     gate: &G,
     workers: usize,
     slots: &mut Vec<Slot<W, W::Rows>>,
-    news: &mut VecDeque<usize>,
+    turns: &VecDeque<usize>,
 ) -> Result<VecDeque<usize>, NoMemory>
     requires workers { 0 < workers }
-    requires news { HasNews slots.old.items news.old.items }
+    requires turns { HasFresh slots.old.items turns.now.items }
     ensures polled { IfOk result (λ asking.
         EachPolled W.split W.comes W.items asking.items slots.old.items slots.new.items) }
     ensures once { IfOk result (λ asking. no_repeats asking.items ≡ true) }
     ensures keeps { OnOk result ((p : Part Item) (store : Store) →
         EachKeeps W.split W.comes W.items p store slots.old.items slots.new.items) }
     ensures settled { OnOk result ((place : ℕ) → is_fresh (slot_at slots.new.items place).stage ≡ false) }
-    ensures empty { OnOk result (news.new.items ≡ []) }
+    ensures order { IfOk result (λ asking. AreInTurn asking.items turns.now.items) }
 {
-    let mut asking = VecDeque::with_capacity(alloc, news.len())?;
-    let mut jobs = take_jobs(alloc, slots, news)?;
+    let mut jobs = take_jobs(alloc, slots, turns)?;
+    let mut asking = VecDeque::with_capacity(alloc, jobs.len())?;
     run_phase(rt, alloc, gate, workers, None, jobs.as_mut_slice());
     put_jobs(slots, jobs, &mut asking)?;
     Ok(asking)
@@ -330,19 +330,19 @@ pub(crate) fn poll_granted<R: Threads + Sync, W: SplitWork + Drop + Send, G: Gat
     workers: usize,
     budget: Budget,
     slots: &mut Vec<Slot<W, W::Rows>>,
-    news: &mut VecDeque<usize>,
+    turns: &VecDeque<usize>,
 ) -> Result<Option<(Budget, VecDeque<usize>)>, NoMemory>
     requires workers { 0 < workers }
-    requires news { HasNews slots.old.items news.old.items }
+    requires turns { HasFresh slots.old.items turns.now.items }
     requires open { IsOpen budget }
     ensures polled { IfOk result (λ o. MatchOption o
         (UsesUp W.split W.comes W.items budget slots.old.items slots.new.items)
         (λ p. IsPhase W.split W.comes W.items p.1.items slots.old.items slots.new.items)) }
     ensures grants { IfOk result (λ o. IfSome o (λ p. GrantsAll W.items budget p.0 slots.new.items)) }
-    ensures empty { OnOk result (news.new.items ≡ []) }
+    ensures order { IfOk result (λ o. IfSome o (λ p. AreInTurn p.1.items turns.now.items)) }
 {
-    let mut asking = VecDeque::with_capacity(alloc, news.len())?;
-    let mut jobs = take_jobs(alloc, slots, news)?;
+    let mut jobs = take_jobs(alloc, slots, turns)?;
+    let mut asking = VecDeque::with_capacity(alloc, jobs.len())?;
     let budget = grant_phase(rt, alloc, gate, workers, budget, jobs.as_mut_slice())?;
     put_jobs(slots, jobs, &mut asking)?;
     match budget.if_open() {
@@ -351,7 +351,7 @@ pub(crate) fn poll_granted<R: Threads + Sync, W: SplitWork + Drop + Send, G: Gat
     }
 }
 
-/// Polls the splits that have news, and where there is a budget lets the workers claim of it. It answers nothing once the
+/// Polls the splits that wait for nothing, and where there is a budget lets the workers claim of it. It answers nothing once the
 /// budget is used up.
 pub(crate) fn poll_in<R: Threads + Sync, W: SplitWork + Drop + Send, G: Gate>(
     rt: &R,
@@ -360,21 +360,21 @@ pub(crate) fn poll_in<R: Threads + Sync, W: SplitWork + Drop + Send, G: Gate>(
     workers: usize,
     budget: &mut Option<Budget>,
     slots: &mut Vec<Slot<W, W::Rows>>,
-    news: &mut VecDeque<usize>,
+    turns: &VecDeque<usize>,
 ) -> Result<Option<VecDeque<usize>>, NoMemory>
     requires workers { 0 < workers }
-    requires news { HasNews slots.old.items news.old.items }
+    requires turns { HasFresh slots.old.items turns.now.items }
     requires open { IfSome budget.old IsOpen }
     ensures polled { IfOk result (λ o. MatchOption o
         (UsesUpIn W.split W.comes W.items budget.old slots.old.items slots.new.items)
         (λ asking. IsPhase W.split W.comes W.items asking.items slots.old.items slots.new.items)) }
     ensures grants { IfOk result (λ o. IfSome o (λ asking. GrantsIn W.items budget.old budget.new slots.new.items)) }
-    ensures empty { OnOk result (news.new.items ≡ []) }
+    ensures order { IfOk result (λ o. IfSome o (λ asking. AreInTurn asking.items turns.now.items)) }
 {
     let Some(open) = budget.take() else {
-        return Ok(Some(poll_news(rt, alloc, gate, workers, slots, news)?));
+        return Ok(Some(poll_fresh(rt, alloc, gate, workers, slots, turns)?));
     };
-    match poll_granted(rt, alloc, gate, workers, open, slots, news)? {
+    match poll_granted(rt, alloc, gate, workers, open, slots, turns)? {
         Some((open, asking)) => {
             *budget = Some(open);
             Ok(Some(asking))

@@ -63,7 +63,6 @@ turns-preserved g c =
     let given = subst (λ (d : Delivered). Gives g.W.SplitWork.items c.in-Ok-Rows.file (g.W.SplitWork.items c.in-Ok-Rows.rows) c.turns.chunks.items c.give.new.chunks.items c.turns.left c.give.new.left d) c.in-Ok-More.field-0-is c.in-Ok-More.ensures.gives in
     record {
       seated = f.seated;
-      news = λ h. f.news (c.turns.invariant.news h);
       ok = λ tale ok. front_ok g.W.SplitWork.split g.W.SplitWork.comes g.W.SplitWork.items tale c.in-Ok-Rows.file c.in-Ok-Rows.rows c.turns.active c.take_front.new.self c.turns.invariant.seated f (c.turns.invariant.ok tale ok);
       some = λ h. c.in-Ok-More.ensures.some (c.turns.invariant.some h);
       files = files_rows c.in-Ok-Rows.file c.in-Ok-Rows.rows c.args.active.now.slots.items c.turns.active c.take_front.new.self c.args.chunks.now.items c.turns.chunks.items c.give.new.chunks.items c.turns.invariant.gives.at f c.turns.invariant.files c.in-Ok-More.ensures.file;

@@ -3,14 +3,12 @@ use Rattle.scan_drive.specs.Files.{Item}
 use Rattle.scan_drive.specs.Actives.{Seated, AllOk}
 use Rattle.scan_drive.specs.Chunks.{IsMore, KeepsRows, KeepsFiles}
 use Rattle.scan_drive.specs.Files.{Told}
-use Rattle.scan_drive.specs.Slots.{HasNews}
 use Rattle.scan_drive.specs.Turns.{GivesOn}
 use Rattle.scan_drive.proofs.delivery.deliver.Given as goal
 
 abbrev pub invariant-turns : goal.invariant-turns
 invariant-turns g l = record {
   seated : Seated l.active;
-  news : HasNews l.fn.active.slots.items l.fn.active.news.items → HasNews l.active.slots.items l.active.news.items;
   ok : (tale : List (Told Item)) → AllOk g.W.SplitWork.split g.W.SplitWork.comes g.W.SplitWork.items tale l.fn.active → AllOk g.W.SplitWork.split g.W.SplitWork.comes g.W.SplitWork.items tale l.active;
   files : KeepsFiles l.fn.active.slots.items l.fn.chunks.items l.chunks.items;
   some : KeepsRows g.W.SplitWork.items l.fn.chunks.items l.chunks.items;

@@ -32,11 +32,6 @@ returns-in-Ok-Full-clause-seated g c =
     let f = subst (λ (x : Front g.row.W-Rows.Denot). IsNext c.loop.active c.take_next.new.self x) c.in-Ok-Rows.field-0-is c.in-Ok-Rows.ensures in
     f.seated
 
-pub returns-in-Ok-Full-clause-news : goal.returns-in-Ok-Full-clause-news
-returns-in-Ok-Full-clause-news g c h =
-    let f = subst (λ (x : Front g.row.W-Rows.Denot). IsNext c.loop.active c.take_next.new.self x) c.in-Ok-Rows.field-0-is c.in-Ok-Rows.ensures in
-    f.news (c.loop.invariant.news h)
-
 pub returns-in-Ok-Full-clause-ok : goal.returns-in-Ok-Full-clause-ok
 returns-in-Ok-Full-clause-ok g c tale ok =
     let f = subst (λ (x : Front g.row.W-Rows.Denot). IsNext c.loop.active c.take_next.new.self x) c.in-Ok-Rows.field-0-is c.in-Ok-Rows.ensures in
@@ -94,9 +89,6 @@ returns-in-Some-clause-stops g c = subst (λ o. IfSome o (StopsOver c.args.activ
 
 pub returns-in-None-clause-seated : goal.returns-in-None-clause-seated
 returns-in-None-clause-seated g c = c.loop.invariant.seated
-
-pub returns-in-None-clause-news : goal.returns-in-None-clause-news
-returns-in-None-clause-news g c = c.loop.invariant.news
 
 pub returns-in-None-clause-ok : goal.returns-in-None-clause-ok
 returns-in-None-clause-ok g c = c.loop.invariant.ok

@@ -5,12 +5,12 @@ use Rattle.scan_drive.specs.Links.{StaysLinked, KeepsTold}
 use Rattle.scan_drive.specs.Losses.{HasHalted}
 use Rattle.scan_drive.specs.Measures.{EachAdvances}
 use Rattle.scan_drive.specs.declared.desk.Reply.TheVariants as reply
-use Rattle.scan_drive.specs.Slots.{at_each, handed, given_up, HasNews}
+use Rattle.scan_drive.specs.Slots.{at_each, handed, given_up}
 use Rattle.scan_drive.specs.declared.slot.Halt.TheVariants as halt
 use Rattle.scan_drive.specs.declared.slot.Slot.{Slot}
 use Rattle.scan_drive.proofs.Bringing.{on_stay, on_ended, came_advances, lost_advances, came_nearer, lost_nearer, pending_nearer}
 use Rattle.scan_drive.proofs.Failing.{source_self, source_came, source_lost}
-use Rattle.scan_drive.proofs.Linking.{on_ok, told_handed, told_lost, linked_handed, linked_lost, news_lost, take_all}
+use Rattle.scan_drive.proofs.Linking.{on_ok, told_handed, told_lost, linked_handed, linked_lost, take_all}
 use Rattle.scan_drive.proofs.Losing.{counts_reply, has_lost}
 use Rattle.scan_drive.proofs.Nearing.{all_refl}
 use Rattle.scan_drive.proofs.Trading.{trades_came}
@@ -33,7 +33,7 @@ returns-in-Came-clause-keeps g c =
     let once = c.as_slice.ensures.distinct in
     let now : List ℕ → List (Slot g.row.W.Denot g.row.W-Rows.Denot) = λ xs. at_each (handed id c.in-Came.arrival) xs slots in
     on_ok c.hand.result (λ (e : c.hand.new.slots.items ≡ now c.as_slice.result.now). subst (λ (ss : List (Slot g.row.W.Denot g.row.W-Rows.Denot)). KeepsTold split comes items s.holds slots ss)
-    (sym (e ∙ ap now c.as_slice.ensures.places)) (told_handed split comes items file s id c.in-Came.arrival ps d slots links r.0 once r.2)) c.hand.ensures.slots
+    (sym (e ∙ ap now c.as_slice.ensures.places)) (told_handed split comes items file s id c.in-Came.arrival ps d slots links r.0 once r.2)) c.hand.ensures
 
 pub returns-in-Came-clause-links : goal.returns-in-Came-clause-links
 returns-in-Came-clause-links g c =
@@ -52,7 +52,7 @@ returns-in-Came-clause-links g c =
     let once = c.as_slice.ensures.distinct in
     let now : List ℕ → List (Slot g.row.W.Denot g.row.W-Rows.Denot) = λ xs. at_each (handed id c.in-Came.arrival) xs slots in
     on_ok c.hand.result (λ (e : c.hand.new.slots.items ≡ now c.as_slice.result.now). subst (λ (ss : List (Slot g.row.W.Denot g.row.W-Rows.Denot)). StaysLinked d c.collect.new.self slots ss)
-    (sym (e ∙ ap now c.as_slice.ensures.places)) (linked_handed id c.in-Came.arrival ps d c.collect.new.self slots r.0 r.1 once)) c.hand.ensures.slots
+    (sym (e ∙ ap now c.as_slice.ensures.places)) (linked_handed id c.in-Came.arrival ps d c.collect.new.self slots r.0 r.1 once)) c.hand.ensures
 
 pub returns-in-Came-clause-advances : goal.returns-in-Came-clause-advances
 returns-in-Came-clause-advances g c =
@@ -71,7 +71,7 @@ returns-in-Came-clause-advances g c =
     let once = c.as_slice.ensures.distinct in
     let now : List ℕ → List (Slot g.row.W.Denot g.row.W-Rows.Denot) = λ xs. at_each (handed id c.in-Came.arrival) xs slots in
     on_ok c.hand.result (λ (e : c.hand.new.slots.items ≡ now c.as_slice.result.now). subst (λ (ss : List (Slot g.row.W.Denot g.row.W-Rows.Denot)). EachAdvances split slots ss)
-    (sym (e ∙ ap now c.as_slice.ensures.places)) (came_advances split file id c.in-Came.arrival ps d slots links r.0 once)) c.hand.ensures.slots
+    (sym (e ∙ ap now c.as_slice.ensures.places)) (came_advances split file id c.in-Came.arrival ps d slots links r.0 once)) c.hand.ensures
 
 pub returns-in-Came-clause-nearer : goal.returns-in-Came-clause-nearer
 returns-in-Came-clause-nearer g c =
@@ -90,7 +90,7 @@ returns-in-Came-clause-nearer g c =
     let once = c.as_slice.ensures.distinct in
     let now : List ℕ → List (Slot g.row.W.Denot g.row.W-Rows.Denot) = λ xs. at_each (handed id c.in-Came.arrival) xs slots in
     on_ok c.hand.result (λ (e : c.hand.new.slots.items ≡ now c.as_slice.result.now). subst (λ (ss : List (Slot g.row.W.Denot g.row.W-Rows.Denot)). BringsNearer split id s t d slots ss)
-    (sym (e ∙ ap now c.as_slice.ensures.places)) (came_nearer split file id c.in-Came.arrival ps s t d slots links r.0 once)) c.hand.ensures.slots
+    (sym (e ∙ ap now c.as_slice.ensures.places)) (came_nearer split file id c.in-Came.arrival ps s t d slots links r.0 once)) c.hand.ensures
 
 pub returns-in-Came-clause-waits : goal.returns-in-Came-clause-waits
 returns-in-Came-clause-waits g c =
@@ -108,7 +108,7 @@ returns-in-Came-clause-waits g c =
     let links = c.requires.links.1 in
     let once = c.as_slice.ensures.distinct in
     let now : List ℕ → List (Slot g.row.W.Denot g.row.W-Rows.Denot) = λ xs. at_each (handed id c.in-Came.arrival) xs slots in
-    on_ok c.hand.result (λ (e : c.hand.new.slots.items ≡ now c.as_slice.result.now). on_ended id d c.collect.new.self r.1) c.hand.ensures.slots
+    on_ok c.hand.result (λ (e : c.hand.new.slots.items ≡ now c.as_slice.result.now). on_ended id d c.collect.new.self r.1) c.hand.ensures
 
 pub returns-in-Failed-clause-keeps : goal.returns-in-Failed-clause-keeps
 returns-in-Failed-clause-keeps g c =
@@ -205,25 +205,6 @@ returns-in-Failed-clause-waits g c =
     let e : c.lose.new.slots.items ≡ now ps = c.lose.ensures ∙ ap now c.as_slice-in-Failed.ensures.places in
     on_ended id d c.collect.new.self r.1
 
-pub returns-in-Failed-clause-news : goal.returns-in-Failed-clause-news
-returns-in-Failed-clause-news g c has =
-    let split = g.W.SplitWork.split in
-    let comes = g.W.SplitWork.comes in
-    let items = g.W.SplitWork.items in
-    let id = c.args.key.now.segment in
-    let d = c.args.desk.now in
-    let s = g.S.SegmentSource.state c.args.source.now in
-    let t = g.S.SegmentSource.state c.collect.new.source in
-    let slots = c.args.slots.now.items in
-    let ps = c.in-Failed.places in
-    let r = c.in-Failed.ensures.replies in
-    let file = c.requires.links.0 in
-    let links = c.requires.links.1 in
-    let once = c.as_slice-in-Failed.ensures.distinct in
-    let now : List ℕ → List (Slot g.row.W.Denot g.row.W-Rows.Denot) = λ xs. at_each (given_up (halt.Source id)) xs slots in
-    let e : c.lose.new.slots.items ≡ now ps = c.lose.ensures ∙ ap now c.as_slice-in-Failed.ensures.places in
-    subst (λ (ss : List (Slot g.row.W.Denot g.row.W-Rows.Denot)). HasNews ss c.args.news.now.items) (sym e) (news_lost id (halt.Source id) ps slots c.args.news.now.items (take_all file id ps d slots links r.0) once has)
-
 pub returns-in-Pending-clause-nearer : goal.returns-in-Pending-clause-nearer
 returns-in-Pending-clause-nearer g c =
     let split = g.W.SplitWork.split in
@@ -284,7 +265,7 @@ returns-in-Came-clause-counts g c =
     let was = g.C.KeyedSegmentCache.cache c.args.cache.now in
     let now = g.C.KeyedSegmentCache.cache c.collect.new.cache in
     on_ok c.hand.result (λ (e : c.hand.new.slots.items ≡ at_each (handed c.args.key.now.segment c.in-Came.arrival) c.as_slice.result.now c.args.slots.now.items).
-    counts_reply c.args.key.now.source_id s t was now c.hand.new.slots.items (reply.Came c.in-Came.arrival c.in-Came.places) c.in-Came.ensures.balance (λ f. absurd cc)) c.hand.ensures.slots
+    counts_reply c.args.key.now.source_id s t was now c.hand.new.slots.items (reply.Came c.in-Came.arrival c.in-Came.places) c.in-Came.ensures.balance (λ f. absurd cc)) c.hand.ensures
 
 pub returns-in-Pending-clause-counts : goal.returns-in-Pending-clause-counts
 returns-in-Pending-clause-counts g c =
@@ -327,7 +308,7 @@ returns-in-Came-clause-follows g c =
     let once = c.as_slice.ensures.distinct in
     let now : List ℕ → List (Slot g.row.W.Denot g.row.W-Rows.Denot) = λ xs. at_each (handed id c.in-Came.arrival) xs slots in
     on_ok c.hand.result (λ (e : c.hand.new.slots.items ≡ now c.as_slice.result.now). subst (λ (ss : List (Slot g.row.W.Denot g.row.W-Rows.Denot)). SourceFollows s t slots ss)
-    (sym (e ∙ ap now c.as_slice.ensures.places)) (source_came file id c.in-Came.arrival ps s t d slots links c.requires.agree r.0 once)) c.hand.ensures.slots
+    (sym (e ∙ ap now c.as_slice.ensures.places)) (source_came file id c.in-Came.arrival ps s t d slots links c.requires.agree r.0 once)) c.hand.ensures
 
 pub returns-in-Failed-clause-follows : goal.returns-in-Failed-clause-follows
 returns-in-Failed-clause-follows g c =

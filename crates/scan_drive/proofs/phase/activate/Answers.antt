@@ -32,7 +32,6 @@ loop-first-preserved g c =
       below = subst (λ (qs : List (Phase g.row.W.Denot g.row.F.Denot)). SpentBelow qs (i + 1)) (sym same) (below_more ps i x lt v inv.below spent.0);
       opened = let u = ap unopened same in let w = inv.opened in omega arith;
       seated = inv.seated;
-      news = inv.news;
       left = λ tale n. ap (λ qs. groups_left split comes g.W.SplitWork.items tale c.loop-first.active ++ rest split comes tale qs) same ∙ inv.left tale n;
       counted = λ tale n p a old. (let o = inv.ok tale n p a in tally_next tale i c.loop-first.tally c.count.new.self (phase_at ps i) (omega (arith, n, inv.len, lt)) (rows_ok split comes (told_at tale i) (phase_at ps i) (o.0 i))
           (subst (λ (q : Phase g.row.W.Denot g.row.F.Denot). IsCounted i c.loop-first.tally c.count.new.self q) (c.index.ensures ∙ get_or_default ps i c.index.result.now phases.Unopened lt)
@@ -70,7 +69,6 @@ loop-first-preserved-in-Continue-1 g c =
       below = below_set ps i i y (omega arith) inv.below;
       opened = let u = unopened_set ps i x y lt v c.take_split.ensures.opened in let o = inv.opened in omega arith;
       seated = seats.seated;
-      news = λ h. seats.news (inv.news h);
       left = λ tale n. activated split comes items tale old new ps i x y w lt (n ∙ sym inv.len) inv.below v taken seats ∙ inv.left tale n;
       counted = λ tale n p a old. (let o = inv.ok tale n p a in tally_next tale i c.loop-first.tally c.count.new.self (phase_at ps i) (omega (arith, n, inv.len, lt)) (rows_ok split comes (told_at tale i) (phase_at ps i) (o.0 i))
           (subst (λ (q : Phase g.row.W.Denot g.row.F.Denot). IsCounted i c.loop-first.tally c.count.new.self q) (c.index.ensures ∙ get_or_default ps i c.index.result.now phases.Unopened lt)

@@ -5,7 +5,6 @@ use Rattle.scan_drive.specs.Files.{Told}
 use Rattle.scan_drive.specs.Filling.{Fills}
 use Rattle.scan_drive.specs.Phases.{SpentBelow, PhasesOk, rest, unopened, phase_at}
 use Rattle.scan_drive.specs.declared.phase.Phase.TheVariants as phases
-use Rattle.scan_drive.specs.Slots.{HasNews}
 use Rattle.scan_drive.specs.Turns.{IsTally, SeatsOn}
 use Rattle.scan_drive.proofs.phase.activate.Given as goal
 
@@ -16,7 +15,6 @@ invariant-loop-first g l = record {
   below : SpentBelow l.phases.items l.first;
   opened : unopened l.phases.items ≤ unopened l.fn.phases.items;
   seated : Seated l.active;
-  news : HasNews l.fn.active.slots.items l.fn.active.news.items → HasNews l.active.slots.items l.active.news.items;
   left : (tale : List (Told Item)) → length tale ≡ length l.fn.phases.items → groups_left g.W.SplitWork.split g.W.SplitWork.comes g.W.SplitWork.items tale l.active ++ rest g.W.SplitWork.split g.W.SplitWork.comes tale l.phases.items ≡ groups_left g.W.SplitWork.split g.W.SplitWork.comes
       g.W.SplitWork.items tale l.fn.active ++ rest g.W.SplitWork.split g.W.SplitWork.comes tale l.fn.phases.items;
   ok : (tale : List (Told Item)) → length tale ≡ length l.fn.phases.items → PhasesOk g.W.SplitWork.split g.W.SplitWork.comes tale l.fn.phases.items → AllOk g.W.SplitWork.split g.W.SplitWork.comes g.W.SplitWork.items tale l.fn.active →

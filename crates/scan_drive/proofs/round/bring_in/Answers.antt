@@ -1,20 +1,21 @@
 use Rattle.std.proofs.Common.{◌≡◌, ◌∙◌, List, length, sym, subst, refl, arith}
+use Rattle.std.proofs.lemmas.List.{length-map}
 use Rattle.scan_drive.specs.Ends.{limit_in}
-use Rattle.scan_drive.specs.Moves.{tells}
+use Rattle.scan_drive.specs.Moves.{tell, tells}
 use Rattle.scan_drive.specs.Phases.{phase_at, rest}
 use Rattle.scan_drive.specs.declared.phase.Phase.{Phase}
 use Rattle.scan_drive.specs.declared.round.Drive.{Drive}
 use Rattle.scan_drive.specs.declared.files.ScanFile.{ScanFile}
 use Rattle.scan_drive.proofs.Halting.{halts_seats}
 use Rattle.scan_drive.proofs.Lasting.{brought, stands_new, sound_new, why_after}
-use Rattle.scan_drive.proofs.Leading.{gives_done}
 use Rattle.scan_drive.proofs.Standing.{linked_seated}
 use Rattle.scan_drive.proofs.Tracking.{stand_phases, late_polled}
 use Rattle.scan_drive.proofs.Tracing.{brought_grounds}
+use Rattle.scan_drive.proofs.Windows.{gives_in_window}
 use Rattle.scan_drive.proofs.round.bring_in.Goals as goal
 
-pub finished-done-requires : goal.finished-done-requires
-finished-done-requires g c = (c.args.drive.now.active.free.items, c.requires.stands.ready.seated)
+pub window_end-last-requires : goal.window_end-last-requires
+window_end-last-requires g c = (c.args.drive.now.active.free.items, c.requires.stands.ready.seated)
 
 pub activate-requires-clause-below : goal.activate-requires-clause-below
 activate-requires-clause-below g c κs lives k lt =
@@ -28,7 +29,7 @@ returns-clause-stands g c =
     let a = c.in_ok-drive.ensures in
     stands_new g.W.SplitWork.split (length c.args.files.now.items) c.args.drive.now (record c.args.drive.now
     { phases = c.activate.new.phases; active = c.activate.new.active; tally = c.activate.new.tally; first = c.in_ok-drive.field-0 }) c.open_files.new.phases.items c.requires.stands
-    c.open_files.ensures.len a.len a.below a.seated a.news a.seats refl refl refl
+    c.open_files.ensures.len a.len a.below a.seated a.seats refl refl refl
 
 pub returns-clause-links : goal.returns-clause-links
 returns-clause-links g c desks l =
@@ -54,11 +55,11 @@ pub returns-clause-steps : goal.returns-clause-steps
 returns-clause-steps g c is =
     let a = c.in_ok-drive.ensures in
     let o = c.in_ok-opened.ensures in
-    brought (g.X.SplitOpener.state c.args.context.now) g.X.SplitOpener.polls g.S.SegmentSource.state g.W.SplitWork.split c.args.workers c.room_for-room.result c.window-last.result
+    brought (g.X.SplitOpener.state c.args.context.now) g.X.SplitOpener.polls g.S.SegmentSource.state g.W.SplitWork.split c.args.workers c.room_for-room.result c.window_end-last.result
     c.args.files.now.items c.open_files.new.files.items c.args.drive.now
     (record c.args.drive.now { phases = c.activate.new.phases; active = c.activate.new.active; tally = c.activate.new.tally; first = c.in_ok-drive.field-0 }) c.open_files.new.phases.items
     c.room_for-room.ensures o.moves (o.same is) c.requires.stands.lens (o.waits is)
-    (λ none lt. (let f = c.finished-done.ensures.none none in let w = c.window-last.ensures.some (omega (arith, f, lt, c.len.ensures)) c.requires.workers in omega (arith, f, w))) a.seats a.stuck
+    (λ none lt. c.window_end-last.ensures.some none (omega (arith, lt, c.len.ensures)) c.requires.workers) a.seats a.stuck
 
 pub returns-clause-halts : goal.returns-clause-halts
 returns-clause-halts g c =
@@ -81,8 +82,9 @@ returns-clause-polls g c = record {
   late = λ h start l.
       (let d : Drive g.row.W.Denot g.row.W-Rows.Denot g.row.F.Denot = c.args.drive.now in
       let tale = tells (g.X.SplitOpener.state c.args.context.now) g.S.SegmentSource.state c.args.files.now.items in
-      late_polled (g.X.SplitOpener.state c.args.context.now) g.W.SplitWork.items d.ordered c.args.workers d.first c.window-last.result c.finished-done.result (limit_in g.W.SplitWork.split g.W.SplitWork.comes g.W.SplitWork.items d) tale start c.args.files.now.items c.open_files.new.files.items
-      c.open_files.ensures.rest c.window-last.ensures.most (gives_done g.W.SplitWork.split g.W.SplitWork.comes g.W.SplitWork.items tale d c.finished-done.result h.0 h.1 c.requires.stands.below c.requires.stands.room h.2 c.finished-done.ensures.done) l);
+      late_polled (g.X.SplitOpener.state c.args.context.now) g.W.SplitWork.items d.ordered c.args.workers d.first c.window_end-last.result (limit_in g.W.SplitWork.split g.W.SplitWork.comes g.W.SplitWork.items d) tale start c.args.files.now.items c.open_files.new.files.items
+      c.open_files.ensures.rest (gives_in_window g.W.SplitWork.split g.W.SplitWork.comes g.W.SplitWork.items c.args.workers c.window_end-last.result tale d h.0 h.1 h.2 c.requires.stands.below c.requires.stands.room
+      (let n = length-map c.args.files.now.items (tell (g.X.SplitOpener.state c.args.context.now) g.S.SegmentSource.state) in let f = c.requires.stands.first in omega (arith, n, f)) c.window_end-last.ensures.window) l);
 }
 
 pub returns-in_err-opened-clause-polls : goal.returns-in_err-opened-clause-polls
@@ -92,8 +94,9 @@ returns-in_err-opened-clause-polls g c = record {
   late = λ h start l.
       (let d : Drive g.row.W.Denot g.row.W-Rows.Denot g.row.F.Denot = c.args.drive.now in
       let tale = tells (g.X.SplitOpener.state c.args.context.now) g.S.SegmentSource.state c.args.files.now.items in
-      late_polled (g.X.SplitOpener.state c.args.context.now) g.W.SplitWork.items d.ordered c.args.workers d.first c.window-last.result c.finished-done.result (limit_in g.W.SplitWork.split g.W.SplitWork.comes g.W.SplitWork.items d) tale start c.args.files.now.items c.open_files.new.files.items
-      c.open_files.ensures.rest c.window-last.ensures.most (gives_done g.W.SplitWork.split g.W.SplitWork.comes g.W.SplitWork.items tale d c.finished-done.result h.0 h.1 c.requires.stands.below c.requires.stands.room h.2 c.finished-done.ensures.done) l);
+      late_polled (g.X.SplitOpener.state c.args.context.now) g.W.SplitWork.items d.ordered c.args.workers d.first c.window_end-last.result (limit_in g.W.SplitWork.split g.W.SplitWork.comes g.W.SplitWork.items d) tale start c.args.files.now.items c.open_files.new.files.items
+      c.open_files.ensures.rest (gives_in_window g.W.SplitWork.split g.W.SplitWork.comes g.W.SplitWork.items c.args.workers c.window_end-last.result tale d h.0 h.1 h.2 c.requires.stands.below c.requires.stands.room
+      (let n = length-map c.args.files.now.items (tell (g.X.SplitOpener.state c.args.context.now) g.S.SegmentSource.state) in let f = c.requires.stands.first in omega (arith, n, f)) c.window_end-last.ensures.window) l);
 }
 
 pub returns-in_err-drive-clause-polls : goal.returns-in_err-drive-clause-polls
@@ -103,8 +106,9 @@ returns-in_err-drive-clause-polls g c = record {
   late = λ h start l.
       (let d : Drive g.row.W.Denot g.row.W-Rows.Denot g.row.F.Denot = c.args.drive.now in
       let tale = tells (g.X.SplitOpener.state c.args.context.now) g.S.SegmentSource.state c.args.files.now.items in
-      late_polled (g.X.SplitOpener.state c.args.context.now) g.W.SplitWork.items d.ordered c.args.workers d.first c.window-last.result c.finished-done.result (limit_in g.W.SplitWork.split g.W.SplitWork.comes g.W.SplitWork.items d) tale start c.args.files.now.items c.open_files.new.files.items
-      c.open_files.ensures.rest c.window-last.ensures.most (gives_done g.W.SplitWork.split g.W.SplitWork.comes g.W.SplitWork.items tale d c.finished-done.result h.0 h.1 c.requires.stands.below c.requires.stands.room h.2 c.finished-done.ensures.done) l);
+      late_polled (g.X.SplitOpener.state c.args.context.now) g.W.SplitWork.items d.ordered c.args.workers d.first c.window_end-last.result (limit_in g.W.SplitWork.split g.W.SplitWork.comes g.W.SplitWork.items d) tale start c.args.files.now.items c.open_files.new.files.items
+      c.open_files.ensures.rest (gives_in_window g.W.SplitWork.split g.W.SplitWork.comes g.W.SplitWork.items c.args.workers c.window_end-last.result tale d h.0 h.1 h.2 c.requires.stands.below c.requires.stands.room
+      (let n = length-map c.args.files.now.items (tell (g.X.SplitOpener.state c.args.context.now) g.S.SegmentSource.state) in let f = c.requires.stands.first in omega (arith, n, f)) c.window_end-last.ensures.window) l);
 }
 
 pub returns-clause-grounds : goal.returns-clause-grounds

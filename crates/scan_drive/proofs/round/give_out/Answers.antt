@@ -13,7 +13,11 @@ use Rattle.scan_drive.proofs.Halting.{halts_polled, halts_gives}
 use Rattle.scan_drive.proofs.Losing.{halts_then}
 use Rattle.scan_drive.proofs.Polling.{polled_follows, all_gone_follow}
 use Rattle.scan_drive.proofs.Standing.{keeps_each, ready_mid, ready_new, asking_new, links_new, asks_named, more_mid, steps_mid}
+use Rattle.scan_drive.proofs.Working.{fresh_in_turn}
 use Rattle.scan_drive.proofs.round.give_out.Goals as goal
+
+pub poll_in-requires-clause-turns : goal.poll_in-requires-clause-turns
+poll_in-requires-clause-turns g c κs lives = fresh_in_turn c.args.active.now.turns.items c.args.active.now.free.items c.args.active.now.slots.items c.requires.ready.1.seated
 
 pub poll_in-requires-clause-open : goal.poll_in-requires-clause-open
 poll_in-requires-clause-open g c κs lives = open_in c.args.ordered c.args.left.now c.args.budget.now c.requires.budget
@@ -24,7 +28,7 @@ deliver_in-requires-clause-seated g c κs lives =
     let comes = g.W.SplitWork.comes in
     let items = g.W.SplitWork.items in
     let old : Active g.row.W.Denot g.row.W-Rows.Denot = c.args.active.now in
-    let mid : Active g.row.W.Denot g.row.W-Rows.Denot = record old { slots = c.poll_in.new.slots; news = c.poll_in.new.news } in
+    let mid : Active g.row.W.Denot g.row.W-Rows.Denot = record old { slots = c.poll_in.new.slots } in
     let asks : VecDeque ℕ Global → List ℕ = λ v. v.items in
     let r : Reached split comes items old.slots.items mid.slots.items = reached split comes items asks c.args.budget.now c.in-Ok.polled old.slots.items mid.slots.items c.in-Ok.ensures.polled in
     reached_seats split comes items old.turns.items old.free.items old.slots.items mid.slots.items r c.requires.ready.1.seated
@@ -35,7 +39,7 @@ unreachable-unreachable g c =
     let comes = g.W.SplitWork.comes in
     let items = g.W.SplitWork.items in
     let old : Active g.row.W.Denot g.row.W-Rows.Denot = c.args.active.now in
-    let mid : Active g.row.W.Denot g.row.W-Rows.Denot = record old { slots = c.poll_in.new.slots; news = c.poll_in.new.news } in
+    let mid : Active g.row.W.Denot g.row.W-Rows.Denot = record old { slots = c.poll_in.new.slots } in
     let asks : VecDeque ℕ Global → List ℕ = λ v. v.items in
     let d = c.in-Ok-More.ensures in
     let more : IsMore split comes items c.args.ordered mid c.deliver_in.new.active c.args.chunks.now.items c.deliver_in.new.chunks.items c.args.left.now c.deliver_in.new.left = rw c.in-Ok-More.field-0-is at d.delivered in
@@ -49,7 +53,7 @@ returns-in-Some-clause-ready g c n r =
     let comes = g.W.SplitWork.comes in
     let items = g.W.SplitWork.items in
     let old : Active g.row.W.Denot g.row.W-Rows.Denot = c.args.active.now in
-    let mid : Active g.row.W.Denot g.row.W-Rows.Denot = record old { slots = c.poll_in.new.slots; news = c.poll_in.new.news } in
+    let mid : Active g.row.W.Denot g.row.W-Rows.Denot = record old { slots = c.poll_in.new.slots } in
     let asks : VecDeque ℕ Global → List ℕ = λ v. v.items in
     let p = c.in-Ok.ensures in
     let phase : IsPhase split comes items c.in-Some.asking.items old.slots.items mid.slots.items = rw c.in-Some.is at p.polled in
@@ -59,7 +63,7 @@ returns-in-Some-clause-ready g c n r =
     let d = c.in-Ok-More.ensures in
     let gives = d.gives c.in-Ok-More.field-0-is in
     let more : IsMore split comes items c.args.ordered mid new c.args.chunks.now.items c.deliver_in.new.chunks.items c.args.left.now c.deliver_in.new.left = rw c.in-Ok-More.field-0-is at d.delivered in
-    ready_new split comes items n mid new d.seated gives.0 d.news (ready_mid split comes items n asking old mid refl refl polled phase.settled r)
+    ready_new split comes items n mid new d.seated gives.0 (ready_mid split comes items n asking old mid refl refl polled r)
 
 pub returns-in-Some-clause-asks : goal.returns-in-Some-clause-asks
 returns-in-Some-clause-asks g c =
@@ -67,7 +71,7 @@ returns-in-Some-clause-asks g c =
     let comes = g.W.SplitWork.comes in
     let items = g.W.SplitWork.items in
     let old : Active g.row.W.Denot g.row.W-Rows.Denot = c.args.active.now in
-    let mid : Active g.row.W.Denot g.row.W-Rows.Denot = record old { slots = c.poll_in.new.slots; news = c.poll_in.new.news } in
+    let mid : Active g.row.W.Denot g.row.W-Rows.Denot = record old { slots = c.poll_in.new.slots } in
     let asks : VecDeque ℕ Global → List ℕ = λ v. v.items in
     let p = c.in-Ok.ensures in
     let phase : IsPhase split comes items c.in-Some.asking.items old.slots.items mid.slots.items = rw c.in-Some.is at p.polled in
@@ -85,7 +89,7 @@ returns-in-Some-clause-once g c =
     let comes = g.W.SplitWork.comes in
     let items = g.W.SplitWork.items in
     let old : Active g.row.W.Denot g.row.W-Rows.Denot = c.args.active.now in
-    let mid : Active g.row.W.Denot g.row.W-Rows.Denot = record old { slots = c.poll_in.new.slots; news = c.poll_in.new.news } in
+    let mid : Active g.row.W.Denot g.row.W-Rows.Denot = record old { slots = c.poll_in.new.slots } in
     let asks : VecDeque ℕ Global → List ℕ = λ v. v.items in
     let p = c.in-Ok.ensures in
     let phase : IsPhase split comes items c.in-Some.asking.items old.slots.items mid.slots.items = rw c.in-Some.is at p.polled in
@@ -103,7 +107,7 @@ returns-in-Some-clause-links g c desks l =
     let comes = g.W.SplitWork.comes in
     let items = g.W.SplitWork.items in
     let old : Active g.row.W.Denot g.row.W-Rows.Denot = c.args.active.now in
-    let mid : Active g.row.W.Denot g.row.W-Rows.Denot = record old { slots = c.poll_in.new.slots; news = c.poll_in.new.news } in
+    let mid : Active g.row.W.Denot g.row.W-Rows.Denot = record old { slots = c.poll_in.new.slots } in
     let asks : VecDeque ℕ Global → List ℕ = λ v. v.items in
     let p = c.in-Ok.ensures in
     let phase : IsPhase split comes items c.in-Some.asking.items old.slots.items mid.slots.items = rw c.in-Some.is at p.polled in
@@ -121,7 +125,7 @@ returns-in-Some-clause-named g c tale ok =
     let comes = g.W.SplitWork.comes in
     let items = g.W.SplitWork.items in
     let old : Active g.row.W.Denot g.row.W-Rows.Denot = c.args.active.now in
-    let mid : Active g.row.W.Denot g.row.W-Rows.Denot = record old { slots = c.poll_in.new.slots; news = c.poll_in.new.news } in
+    let mid : Active g.row.W.Denot g.row.W-Rows.Denot = record old { slots = c.poll_in.new.slots } in
     let asks : VecDeque ℕ Global → List ℕ = λ v. v.items in
     let p = c.in-Ok.ensures in
     let phase : IsPhase split comes items c.in-Some.asking.items old.slots.items mid.slots.items = rw c.in-Some.is at p.polled in
@@ -139,7 +143,7 @@ returns-in-Some-clause-halts g c =
     let comes = g.W.SplitWork.comes in
     let items = g.W.SplitWork.items in
     let old : Active g.row.W.Denot g.row.W-Rows.Denot = c.args.active.now in
-    let mid : Active g.row.W.Denot g.row.W-Rows.Denot = record old { slots = c.poll_in.new.slots; news = c.poll_in.new.news } in
+    let mid : Active g.row.W.Denot g.row.W-Rows.Denot = record old { slots = c.poll_in.new.slots } in
     let asks : VecDeque ℕ Global → List ℕ = λ v. v.items in
     let p = c.in-Ok.ensures in
     let phase : IsPhase split comes items c.in-Some.asking.items old.slots.items mid.slots.items = rw c.in-Some.is at p.polled in
@@ -157,7 +161,7 @@ returns-in-Some-clause-ok g c tale ok =
     let comes = g.W.SplitWork.comes in
     let items = g.W.SplitWork.items in
     let old : Active g.row.W.Denot g.row.W-Rows.Denot = c.args.active.now in
-    let mid : Active g.row.W.Denot g.row.W-Rows.Denot = record old { slots = c.poll_in.new.slots; news = c.poll_in.new.news } in
+    let mid : Active g.row.W.Denot g.row.W-Rows.Denot = record old { slots = c.poll_in.new.slots } in
     let asks : VecDeque ℕ Global → List ℕ = λ v. v.items in
     let r : Reached split comes items old.slots.items mid.slots.items = reached split comes items asks c.args.budget.now c.in-Ok.polled old.slots.items mid.slots.items c.in-Ok.ensures.polled in
     c.in-Ok-More.ensures.ok tale (reached_ok split comes items tale old.turns.items old.slots.items mid.slots.items r ok)
@@ -168,7 +172,7 @@ returns-in-Some-clause-gives g c =
     let comes = g.W.SplitWork.comes in
     let items = g.W.SplitWork.items in
     let old : Active g.row.W.Denot g.row.W-Rows.Denot = c.args.active.now in
-    let mid : Active g.row.W.Denot g.row.W-Rows.Denot = record old { slots = c.poll_in.new.slots; news = c.poll_in.new.news } in
+    let mid : Active g.row.W.Denot g.row.W-Rows.Denot = record old { slots = c.poll_in.new.slots } in
     let asks : VecDeque ℕ Global → List ℕ = λ v. v.items in
     let p = c.in-Ok.ensures in
     let phase : IsPhase split comes items c.in-Some.asking.items old.slots.items mid.slots.items = rw c.in-Some.is at p.polled in
@@ -192,7 +196,7 @@ returns-in-Some-clause-files g c n w all =
     let comes = g.W.SplitWork.comes in
     let items = g.W.SplitWork.items in
     let old : Active g.row.W.Denot g.row.W-Rows.Denot = c.args.active.now in
-    let mid : Active g.row.W.Denot g.row.W-Rows.Denot = record old { slots = c.poll_in.new.slots; news = c.poll_in.new.news } in
+    let mid : Active g.row.W.Denot g.row.W-Rows.Denot = record old { slots = c.poll_in.new.slots } in
     let asks : VecDeque ℕ Global → List ℕ = λ v. v.items in
     let r : Reached split comes items old.slots.items mid.slots.items = reached split comes items asks c.args.budget.now c.in-Ok.polled old.slots.items mid.slots.items c.in-Ok.ensures.polled in
     c.in-Ok-More.ensures.files n (reached_within split comes items old.slots.items mid.slots.items n r w) all
@@ -203,7 +207,7 @@ returns-in-Ok-Full-clause-files g c n w all =
     let comes = g.W.SplitWork.comes in
     let items = g.W.SplitWork.items in
     let old : Active g.row.W.Denot g.row.W-Rows.Denot = c.args.active.now in
-    let mid : Active g.row.W.Denot g.row.W-Rows.Denot = record old { slots = c.poll_in.new.slots; news = c.poll_in.new.news } in
+    let mid : Active g.row.W.Denot g.row.W-Rows.Denot = record old { slots = c.poll_in.new.slots } in
     let asks : VecDeque ℕ Global → List ℕ = λ v. v.items in
     let r : Reached split comes items old.slots.items mid.slots.items = reached split comes items asks c.args.budget.now c.in-Ok.polled old.slots.items mid.slots.items c.in-Ok.ensures.polled in
     c.in-Ok-Full.ensures.files n (reached_within split comes items old.slots.items mid.slots.items n r w) all
@@ -214,7 +218,7 @@ returns-in-Some-clause-follows g c =
     let comes = g.W.SplitWork.comes in
     let items = g.W.SplitWork.items in
     let old : Active g.row.W.Denot g.row.W-Rows.Denot = c.args.active.now in
-    let mid : Active g.row.W.Denot g.row.W-Rows.Denot = record old { slots = c.poll_in.new.slots; news = c.poll_in.new.news } in
+    let mid : Active g.row.W.Denot g.row.W-Rows.Denot = record old { slots = c.poll_in.new.slots } in
     let asks : VecDeque ℕ Global → List ℕ = λ v. v.items in
     let p = c.in-Ok.ensures in
     let phase : IsPhase split comes items c.in-Some.asking.items old.slots.items mid.slots.items = rw c.in-Some.is at p.polled in
@@ -232,7 +236,7 @@ returns-in-Some-clause-steps g c =
     let comes = g.W.SplitWork.comes in
     let items = g.W.SplitWork.items in
     let old : Active g.row.W.Denot g.row.W-Rows.Denot = c.args.active.now in
-    let mid : Active g.row.W.Denot g.row.W-Rows.Denot = record old { slots = c.poll_in.new.slots; news = c.poll_in.new.news } in
+    let mid : Active g.row.W.Denot g.row.W-Rows.Denot = record old { slots = c.poll_in.new.slots } in
     let asks : VecDeque ℕ Global → List ℕ = λ v. v.items in
     let p = c.in-Ok.ensures in
     let phase : IsPhase split comes items c.in-Some.asking.items old.slots.items mid.slots.items = rw c.in-Some.is at p.polled in
@@ -250,7 +254,7 @@ returns-in-Some-clause-budget g c =
     let comes = g.W.SplitWork.comes in
     let items = g.W.SplitWork.items in
     let old : Active g.row.W.Denot g.row.W-Rows.Denot = c.args.active.now in
-    let mid : Active g.row.W.Denot g.row.W-Rows.Denot = record old { slots = c.poll_in.new.slots; news = c.poll_in.new.news } in
+    let mid : Active g.row.W.Denot g.row.W-Rows.Denot = record old { slots = c.poll_in.new.slots } in
     let asks : VecDeque ℕ Global → List ℕ = λ v. v.items in
     let p = c.in-Ok.ensures in
     let phase : IsPhase split comes items c.in-Some.asking.items old.slots.items mid.slots.items = rw c.in-Some.is at p.polled in
@@ -270,7 +274,7 @@ returns-in-Ok-Full-clause-ok g c tale ok =
     let comes = g.W.SplitWork.comes in
     let items = g.W.SplitWork.items in
     let old : Active g.row.W.Denot g.row.W-Rows.Denot = c.args.active.now in
-    let mid : Active g.row.W.Denot g.row.W-Rows.Denot = record old { slots = c.poll_in.new.slots; news = c.poll_in.new.news } in
+    let mid : Active g.row.W.Denot g.row.W-Rows.Denot = record old { slots = c.poll_in.new.slots } in
     let asks : VecDeque ℕ Global → List ℕ = λ v. v.items in
     let r : Reached split comes items old.slots.items mid.slots.items = reached split comes items asks c.args.budget.now c.in-Ok.polled old.slots.items mid.slots.items c.in-Ok.ensures.polled in
     c.in-Ok-Full.ensures.ok tale (reached_ok split comes items tale old.turns.items old.slots.items mid.slots.items r ok)
@@ -281,7 +285,7 @@ returns-in-Ok-Full-clause-gives g c =
     let comes = g.W.SplitWork.comes in
     let items = g.W.SplitWork.items in
     let old : Active g.row.W.Denot g.row.W-Rows.Denot = c.args.active.now in
-    let mid : Active g.row.W.Denot g.row.W-Rows.Denot = record old { slots = c.poll_in.new.slots; news = c.poll_in.new.news } in
+    let mid : Active g.row.W.Denot g.row.W-Rows.Denot = record old { slots = c.poll_in.new.slots } in
     let asks : VecDeque ℕ Global → List ℕ = λ v. v.items in
     let cut : IsCut split comes items c.args.ordered mid c.args.chunks.now.items c.deliver_in.new.chunks.items c.args.left.now = rw c.in-Ok-Full.field-0-is at c.in-Ok-Full.ensures.delivered in
     cut_reached split comes items asks c.args.ordered c.args.left.now c.args.budget.now c.in-Ok.polled old mid c.args.chunks.now.items c.deliver_in.new.chunks.items refl c.requires.budget c.in-Ok.ensures.polled cut
@@ -296,7 +300,7 @@ returns-in-Err-deliver_in-clause-fault g c is =
     let comes = g.W.SplitWork.comes in
     let items = g.W.SplitWork.items in
     let old : Active g.row.W.Denot g.row.W-Rows.Denot = c.args.active.now in
-    let mid : Active g.row.W.Denot g.row.W-Rows.Denot = record old { slots = c.poll_in.new.slots; news = c.poll_in.new.news } in
+    let mid : Active g.row.W.Denot g.row.W-Rows.Denot = record old { slots = c.poll_in.new.slots } in
     let asks : VecDeque ℕ Global → List ℕ = λ v. v.items in
     fault_reached split comes items asks c.args.ordered c.args.left.now c.deliver_in.new.left c.args.budget.now c.in-Ok.polled old mid c.deliver_in.new.active c.args.chunks.now.items c.deliver_in.new.chunks.items c.in-Err-deliver_in.fault refl
     c.requires.budget c.in-Ok.ensures.polled is (c.in-Err-deliver_in.ensures.fault is)
@@ -307,7 +311,7 @@ returns-in-Err-deliver_in-clause-cause g c tale ok =
     let comes = g.W.SplitWork.comes in
     let items = g.W.SplitWork.items in
     let old : Active g.row.W.Denot g.row.W-Rows.Denot = c.args.active.now in
-    let mid : Active g.row.W.Denot g.row.W-Rows.Denot = record old { slots = c.poll_in.new.slots; news = c.poll_in.new.news } in
+    let mid : Active g.row.W.Denot g.row.W-Rows.Denot = record old { slots = c.poll_in.new.slots } in
     let asks : VecDeque ℕ Global → List ℕ = λ v. v.items in
     let r : Reached split comes items old.slots.items mid.slots.items = reached split comes items asks c.args.budget.now c.in-Ok.polled old.slots.items mid.slots.items c.in-Ok.ensures.polled in
     c.in-Err-deliver_in.ensures.cause tale (reached_ok split comes items tale old.turns.items old.slots.items mid.slots.items r ok)
@@ -318,7 +322,7 @@ returns-in-Err-deliver_in-clause-stops g c =
     let comes = g.W.SplitWork.comes in
     let items = g.W.SplitWork.items in
     let old : Active g.row.W.Denot g.row.W-Rows.Denot = c.args.active.now in
-    let mid : Active g.row.W.Denot g.row.W-Rows.Denot = record old { slots = c.poll_in.new.slots; news = c.poll_in.new.news } in
+    let mid : Active g.row.W.Denot g.row.W-Rows.Denot = record old { slots = c.poll_in.new.slots } in
     let asks : VecDeque ℕ Global → List ℕ = λ v. v.items in
     let r : Reached split comes items old.slots.items mid.slots.items = reached split comes items asks c.args.budget.now c.in-Ok.polled old.slots.items mid.slots.items c.in-Ok.ensures.polled in
     record { mid = mid.slots.items; follows = reached_follows split comes items old.slots.items mid.slots.items r; stops = c.in-Err-deliver_in.ensures.stops }

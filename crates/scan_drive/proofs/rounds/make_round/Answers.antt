@@ -363,11 +363,11 @@ returns-then-opened-clause-round g c =
     let stands = s.stands (length files0) k.stands in
     let files2 : List (ScanFile g.row.O.Denot g.row.S.Denot) = c.serve.new.files.items in
     let r = c.serve.ensures in
-    let d3 : Drive g.row.W.Denot g.row.W-Rows.Denot g.row.F.Denot = record d2 { active = record d2.active { slots = c.serve.new.slots; news = c.serve.new.news }; report = c.serve.new.report } in
+    let d3 : Drive g.row.W.Denot g.row.W-Rows.Denot g.row.F.Denot = record d2 { active = record d2.active { slots = c.serve.new.slots }; report = c.serve.new.report } in
     let v = c.in-Ok-serve.ensures in
     let trade = trade_kept state polls source (Unit {0}) files0 files1 (cache c.args.cache.now) b.sources b.moves in
     record {
-      stands = stands_served state polls source split comes items (length files0) d2 d3 v.advances v.news refl refl refl refl refl refl refl stands;
+      stands = stands_served state polls source split comes items (length files0) d2 d3 v.advances refl refl refl refl refl refl refl stands;
       links = v.links;
       limit = s.limit ∙ limit;
       opened = subst (λ ps. Rattle.std.proofs.Common.◌≤◌ (Rattle.std.proofs.Common.◌+◌ (Rattle.scan_drive.specs.Phases.unopened ps) 1) (Rattle.scan_drive.specs.Phases.unopened d0.phases.items))
@@ -403,11 +403,11 @@ returns-clause-round g c =
     let stands = s.stands (length files0) k.stands in
     let files2 : List (ScanFile g.row.O.Denot g.row.S.Denot) = c.serve.new.files.items in
     let r = c.serve.ensures in
-    let d3 : Drive g.row.W.Denot g.row.W-Rows.Denot g.row.F.Denot = record d2 { active = record d2.active { slots = c.serve.new.slots; news = c.serve.new.news }; report = c.serve.new.report } in
+    let d3 : Drive g.row.W.Denot g.row.W-Rows.Denot g.row.F.Denot = record d2 { active = record d2.active { slots = c.serve.new.slots }; report = c.serve.new.report } in
     let v = c.in-Ok-serve.ensures in
     let trade = trade_kept state polls source (Unit {0}) files0 files1 (cache c.args.cache.now) b.sources b.moves in (
       record {
-        stands = stands_served state polls source split comes items (length files0) d2 d3 v.advances v.news refl refl refl refl refl refl refl stands;
+        stands = stands_served state polls source split comes items (length files0) d2 d3 v.advances refl refl refl refl refl refl refl stands;
         links = v.links;
         limit = s.limit ∙ limit;
         opened = subst (λ ps. Rattle.std.proofs.Common.◌≤◌ (Rattle.std.proofs.Common.◌+◌ (Rattle.scan_drive.specs.Phases.unopened ps) 0) (Rattle.scan_drive.specs.Phases.unopened d0.phases.items))
@@ -524,7 +524,7 @@ returns-then-opened-clause-grounds g c first before h =
     let k = c.in-Ok.ensures in
     let files2 : List (ScanFile g.row.O.Denot g.row.S.Denot) = c.serve.new.files.items in
     let d2 : Drive g.row.W.Denot g.row.W-Rows.Denot g.row.F.Denot = c.settle.new.drive in
-    let d3 : Drive g.row.W.Denot g.row.W-Rows.Denot g.row.F.Denot = record d2 { active = record d2.active { slots = c.serve.new.slots; news = c.serve.new.news }; report = c.serve.new.report } in
+    let d3 : Drive g.row.W.Denot g.row.W-Rows.Denot g.row.F.Denot = record d2 { active = record d2.active { slots = c.serve.new.slots }; report = c.serve.new.report } in
     let asking = c.in-Ok-Some.asking.items in
     let s = rw c.in-Ok-Some.field-0-is at c.in-Ok-Some.ensures.waits in
     let polled = rw c.in-Ok-Some.field-0-is at c.in-Ok-Some.ensures.follows in
@@ -545,7 +545,7 @@ returns-clause-grounds g c first before h =
     let k = c.in-Ok.ensures in
     let files2 : List (ScanFile g.row.O.Denot g.row.S.Denot) = c.serve.new.files.items in
     let d2 : Drive g.row.W.Denot g.row.W-Rows.Denot g.row.F.Denot = c.settle.new.drive in
-    let d3 : Drive g.row.W.Denot g.row.W-Rows.Denot g.row.F.Denot = record d2 { active = record d2.active { slots = c.serve.new.slots; news = c.serve.new.news }; report = c.serve.new.report } in
+    let d3 : Drive g.row.W.Denot g.row.W-Rows.Denot g.row.F.Denot = record d2 { active = record d2.active { slots = c.serve.new.slots }; report = c.serve.new.report } in
     let asking = c.in-Ok-Some.asking.items in
     let s = rw c.in-Ok-Some.field-0-is at c.in-Ok-Some.ensures.waits in
     let polled = rw c.in-Ok-Some.field-0-is at c.in-Ok-Some.ensures.follows in

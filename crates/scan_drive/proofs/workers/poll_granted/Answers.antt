@@ -5,7 +5,8 @@ use Rattle.scan_drive.specs.Budgets.{BudgetData, GrantsAll, IsOpen}
 use Rattle.scan_drive.specs.Claimed.{PhaseGrants}
 use Rattle.scan_drive.specs.Workers.{IsWithin}
 use Rattle.scan_drive.specs.declared.workers.Job.{Job}
-use Rattle.scan_drive.proofs.Granting.{granted_within, phase_open, phase_used, put_as}
+use Rattle.scan_drive.proofs.Granting.{granted_places, granted_within, phase_open, phase_used, put_as}
+use Rattle.scan_drive.proofs.Working.{listed_in_turn}
 use Rattle.scan_drive.proofs.workers.poll_granted.Goals as goal
 
 pub put_jobs-requires : goal.put_jobs-requires
@@ -79,3 +80,18 @@ returns-in-None-clause-polled g c =
     c.in_ok-asking.ensures.items c.in_ok-jobs.ensures.jobs c.in_ok-jobs.ensures.all is c.in_ok-put_jobs.ensures.asking c.in_ok-put_jobs.ensures.slots in
     phase_used split comes items jobs jobs' c.in_ok-asking.asking.items c.put_jobs.new.asking.items c.args.slots.now.items c.take_jobs.new.slots.items c.put_jobs.new.slots.items
     b d put grants c.requires.open c.in-None.ensures
+
+pub returns-in-Some-clause-order : goal.returns-in-Some-clause-order
+returns-in-Some-clause-order g c =
+    let split = g.W.SplitWork.split in
+    let comes = g.W.SplitWork.comes in
+    let items = g.W.SplitWork.items in
+    let v = c.in_ok-jobs.jobs in
+    let jobs : List (Job g.row.W.Denot g.row.W-Rows.Denot) = v.items in
+    let jobs' : List (Job g.row.W.Denot g.row.W-Rows.Denot) = c.grant_phase.new.jobs in
+    let n : length jobs' ≡ length jobs = c.grant_phase.auto.jobs ∙ ap length c.as_mut_slice.ensures.value in
+    let is = with_items_is v jobs' (omega (arith, n, v.ok)) in
+    let b : BudgetData = c.args.budget in
+    let d : BudgetData = c.in_ok-budget.budget in
+    let grants : PhaseGrants split comes items b d jobs jobs' = subst (λ (xs : List (Job g.row.W.Denot g.row.W-Rows.Denot)). PhaseGrants split comes items b d xs jobs') c.as_mut_slice.ensures.value c.in_ok-budget.ensures in
+    listed_in_turn jobs jobs' _ c.in_ok-asking.asking.items c.put_jobs.new.asking.items c.args.turns.now.items c.in_ok-asking.ensures.items (granted_places split comes items jobs jobs' b d grants) is c.in_ok-put_jobs.ensures.asking c.in_ok-jobs.ensures.order

@@ -1,10 +1,9 @@
 use Rattle.std.proofs.Common.{List, ℕ, sym, subst}
 use Rattle.scan_drive.specs.Actives.{AreSeats, Becomes}
 use Rattle.scan_drive.specs.Runs.{RunData, new_run}
-use Rattle.scan_drive.specs.Slots.{HasNews}
 use Rattle.scan_drive.specs.declared.slot.Slot.{Slot}
 use Rattle.scan_drive.specs.declared.slot.Stage.TheVariants as stage
-use Rattle.scan_drive.proofs.Seating.{free_within, seated_room, news_more}
+use Rattle.scan_drive.proofs.Seating.{free_within, seated_room}
 use Rattle.scan_drive.proofs.active.Active.seat.Goals as goal
 
 pub put-requires : goal.put-requires
@@ -24,5 +23,4 @@ returns g c =
       unused = room.1;
       becomes = b;
       seated = subst (λ (turns : List ℕ). AreSeats turns c.put.new.free.items new) (sym c.in_ok-push_back.ensures.items) room.0;
-      news = λ h. subst (λ (news : List ℕ). HasNews new news) (sym c.in_ok-push_back-2.ensures.items) (news_more place s old.slots.items new old.news.items b h);
     }

@@ -3,7 +3,7 @@ use Rattle.scan_drive.specs.Actives.{AreSeats, Becomes}
 use Rattle.scan_drive.specs.Slots.{is_read, is_halted}
 use Rattle.scan_drive.specs.declared.slot.Slot.{Slot}
 use Rattle.scan_drive.specs.declared.slot.Stage.TheVariants as stage
-use Rattle.scan_drive.proofs.Seating.{first_within, seated_freed, slot_is, becomes_set, news_same, found, set_again, none_of}
+use Rattle.scan_drive.proofs.Seating.{first_within, seated_freed, slot_is, becomes_set, found, set_again, none_of}
 use Rattle.scan_drive.proofs.active.Active.take_front.Goals as goal
 
 pub index-requires : goal.index-requires
@@ -27,7 +27,7 @@ returns-in-Some-halt_of g c =
     let same : x ≡ y = sym at ∙ found old.slots.items place y lt c.index-2.ensures in
     let run = c.in-Some-halt_of.ensures.some.0 in
     let why : x.stage ≡ stage.Halted run c.in-Some-halt_of.halt = ap (λ (s : Slot g.row.W.Denot g.row.R.Denot). s.stage) same ∙ c.in-Some-halt_of.ensures.some.1 in
-    (record { place = place; later = drop 1 old.turns.items; run = run; turns = c.in-Some.ensures; was = at ∙ slot_is x (stage.Halted run c.in-Some-halt_of.halt) why }, record { slots = refl; turns = refl; free = refl; news = refl })
+    (record { place = place; later = drop 1 old.turns.items; run = run; turns = c.in-Some.ensures; was = at ∙ slot_is x (stage.Halted run c.in-Some-halt_of.halt) why }, record { slots = refl; turns = refl; free = refl })
 
 pub index_mut-requires : goal.index_mut-requires
 index_mut-requires g c =
@@ -47,7 +47,6 @@ returns-in-None g c =
         slots = set_again old.slots.items place x c.take_rows.new.slot c.index_mut.ensures.value c.in-None.ensures.0;
         turns = refl;
         free = refl;
-        news = refl;
       },
       record {
         place = place;
@@ -81,5 +80,4 @@ returns-in_ok-push_back-in-Some-take_rows g c =
       becomes = b;
       seated = subst (λ (free : List ℕ). AreSeats c.pop_front.new.self.items free new) (sym c.in_ok-push_back-in-Some-take_rows.ensures.items) (seated_freed old.turns.items c.pop_front.new.self.items old.free.items place empty old.slots.items new c.requires turns refl b
           (length-set old.slots.items place c.take_rows.new.slot));
-      news = news_same place empty old.slots.items new old.news.items b refl;
     }

@@ -3,7 +3,7 @@ use Rattle.scan_drive.specs.Actives.{AreSeats, Becomes}
 use Rattle.scan_drive.specs.Slots.{is_read, is_halted}
 use Rattle.scan_drive.specs.declared.slot.Slot.{Slot}
 use Rattle.scan_drive.specs.declared.slot.Stage.TheVariants as stage
-use Rattle.scan_drive.proofs.Seating.{first_within, seated_freed, slot_is, becomes_set, news_same, found, set_again, none_of}
+use Rattle.scan_drive.proofs.Seating.{first_within, seated_freed, slot_is, becomes_set, found, set_again, none_of}
 use Rattle.scan_drive.proofs.active.Active.take_next.Goals as goal
 
 pub index-requires : goal.index-requires
@@ -30,7 +30,7 @@ returns-in-Some-halt_of g c =
     let run = c.in-Some-halt_of.ensures.some.0 in
     let why : x.stage ≡ stage.Halted run c.in-Some-halt_of.halt = ap (λ (s : Slot g.row.W.Denot g.row.R.Denot). s.stage) same ∙ c.in-Some-halt_of.ensures.some.1 in (
       record { place = place; later = later; run = run; turns = turns; was = at ∙ slot_is x (stage.Halted run c.in-Some-halt_of.halt) why },
-      record { place = place; later = later; turns = turns; turned = c.in_ok-push_back.ensures.items; slots = refl; free = refl; news = refl },
+      record { place = place; later = later; turns = turns; turned = c.in_ok-push_back.ensures.items; slots = refl; free = refl },
     )
 
 pub index_mut-requires : goal.index_mut-requires
@@ -56,7 +56,6 @@ returns-in_ok-push_back-in-None g c =
         turned = c.in_ok-push_back-in-None.ensures.items;
         slots = set_again old.slots.items place x c.take_rows.new.slot c.index_mut.ensures.value c.in-None.ensures.0;
         free = refl;
-        news = refl;
       },
       record {
         place = place;
@@ -90,5 +89,4 @@ returns-in_ok-push_back-in-Some-take_rows g c =
       becomes = b;
       seated = subst (λ (free : List ℕ). AreSeats c.pop_front.new.self.items free new) (sym c.in_ok-push_back-in-Some-take_rows.ensures.items) (seated_freed old.turns.items c.pop_front.new.self.items old.free.items place empty old.slots.items new c.requires turns refl b
           (length-set old.slots.items place c.take_rows.new.slot));
-      news = news_same place empty old.slots.items new old.news.items b refl;
     }

@@ -18,11 +18,3 @@ invariant_of-self-2 g c =
     let l = left_delivered c.self.inside.inbox c.deliver.new.self c.args.id c.args.arrival (listed c.self.inside.wanted) c.in_ok-deliver.ensures.ok c.self.invariant.distinct w in
     let e = c.self.invariant.left in
     record { distinct = c.self.invariant.distinct; left = omega arith }
-
-pub returns-clause-ready : goal.returns-clause-ready
-returns-clause-ready g c =
-    let w : run_waits (record { work = c.self.inside.work; inbox = c.self.inside.inbox; wanted = listed c.self.inside.wanted }) c.args.id ≡ true = ap (λ (r : RunData g.row.W.Denot). run_waits r c.args.id) c.self.view_is ∙ c.requires in
-    let l = left_delivered c.self.inside.inbox c.deliver.new.self c.args.id c.args.arrival (listed c.self.inside.wanted) c.in_ok-deliver.ensures.ok c.self.invariant.distinct w in
-    let e = c.self.invariant.left in
-    let is : c.self.inside.left - 1 ≡ length (filter (lacks c.deliver.new.self) (listed c.self.inside.wanted)) = omega arith in
-    ap (λ n. nat_eq n 0) is ∙ nil_length (filter (lacks c.deliver.new.self) (listed c.self.inside.wanted))

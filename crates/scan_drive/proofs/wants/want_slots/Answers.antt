@@ -15,11 +15,11 @@ use Rattle.scan_drive.specs.declared.slot.Slot.{Slot}
 use Rattle.scan_drive.proofs.Asked.{Remains, remains_next, reading_within, reading_there, but_new, but_set, all_set, kept_set}
 use Rattle.scan_drive.proofs.Asking.{moves_weaker}
 use Rattle.scan_drive.proofs.Filing.{files_report, files_report_then}
-use Rattle.scan_drive.proofs.Handing.{among_head, has_next}
+use Rattle.scan_drive.proofs.Handing.{among_head}
 use Rattle.scan_drive.proofs.Rounding.{agree_at, agree_set, sources_moved}
 use Rattle.scan_drive.proofs.Serving.{loses_then, wanted_next}
 use Rattle.scan_drive.proofs.Trading.{files_set, files_then}
-use Rattle.scan_drive.proofs.wants.want_news.Goals as goal
+use Rattle.scan_drive.proofs.wants.want_slots.Goals as goal
 
 pub index-requires : goal.index-requires
 index-requires g c =
@@ -168,8 +168,8 @@ want_slot-requires-clause-waiting g c κs lives =
     let s_at : s ≡ slot_at slots place = c.index_mut-slot.ensures.value ∙ get_or_default slots place s nothing lt in
     subst WaitsForAll (sym s_at) waiting
 
-pub returns-in_err-ready-clause-sources : goal.returns-in_err-ready-clause-sources
-returns-in_err-ready-clause-sources g c =
+pub returns-in_err-want_slot-clause-sources : goal.returns-in_err-want_slot-clause-sources
+returns-in_err-want_slot-clause-sources g c =
     let source = g.S.SegmentSource.state in
     let inv = c.asking.invariant in
     let place = c.in-Some.place in
@@ -207,81 +207,8 @@ returns-in_err-ready-clause-sources g c =
       wanted = subst (λ (z : Slot g.row.W.Denot g.row.W-Rows.Denot). is_among (wanted_in z.stage) id ≡ true) (s_at ∙ same) w;
     }) c.want_slot.ensures.source)
 
-pub returns-in_err-ready-clause-trades : goal.returns-in_err-ready-clause-trades
-returns-in_err-ready-clause-trades g c =
-    let source = g.S.SegmentSource.state in
-    let inv = c.asking.invariant in
-    let place = c.in-Some.place in
-    let slots0 : List (Slot g.row.W.Denot g.row.W-Rows.Denot) = c.args.slots.now.items in
-    let slots : List (Slot g.row.W.Denot g.row.W-Rows.Denot) = c.asking.slots.items in
-    let rest = c.pop_front.new.self.items in
-    let remains : Remains (place ∷ rest) c.args.asking.now.items slots0 slots = subst (λ (xs : List ℕ). Remains xs c.args.asking.now.items slots0 slots) c.in-Some.ensures.items inv.remains in
-    let m : is_among (place ∷ rest) place ≡ true = among_head place rest in
-    let same : slot_at slots place ≡ slot_at slots0 place = remains.same place m in
-    let waiting : WaitsForAll (slot_at slots place) = subst WaitsForAll (sym same) (c.requires.waiting place (remains.among place m)) in
-    let lt : place < length slots = reading_within slots place waiting.reading in
-    let files0 : List (ScanFile g.row.O.Denot g.row.S.Denot) = c.args.files.now.items in
-    let files : List (ScanFile g.row.O.Denot g.row.S.Denot) = c.asking.files.items in
-    let desks : List Waiters = c.asking.desks.items in
-    let at : c.index.result.now ≡ slot_at slots place = c.index.ensures ∙ get_or_default slots place c.index.result.now nothing lt in
-    let k = c.index.result.now.file in
-    let is : k ≡ (slot_at slots place).file = ap (λ (s : Slot g.row.W.Denot g.row.W-Rows.Denot). s.file) at in
-    let is0 : k ≡ (slot_at slots0 place).file = is ∙ ap (λ (s : Slot g.row.W.Denot g.row.W-Rows.Denot). s.file) same in
-    let within = c.requires.within place (reading_there (slot_at slots0 place).stage (c.requires.waiting place (remains.among place m)).reading) in
-    let klt : k < length files = omega (arith, within, is0, inv.sources.len) in
-    let dlt : k < length desks = omega (arith, inv.agree.len, klt) in
-    let x : ScanFile g.row.O.Denot g.row.S.Denot = c.index_mut-file.result.now in
-    let y : ScanFile g.row.O.Denot g.row.S.Denot = record x { source = c.want_slot.new.source } in
-    let d = c.index_mut-desk.result.now in
-    let e = c.want_slot.new.desk in
-    let s : Slot g.row.W.Denot g.row.W-Rows.Denot = c.index_mut-slot.result.now in
-    let t : Slot g.row.W.Denot g.row.W-Rows.Denot = c.want_slot.new.slot in
-    let s_at : s ≡ slot_at slots place = c.index_mut-slot.ensures.value ∙ get_or_default slots place s nothing lt in
-    let cache = g.C.KeyedSegmentCache.cache in
-    files_then source files0 files (set files k y) (cache c.args.cache.now) (cache c.asking.cache) (cache c.want_slot.new.cache) inv.trades
-    (files_set source files k x y (cache c.asking.cache) (cache c.want_slot.new.cache) klt c.index_mut-file.ensures.value refl c.want_slot.ensures.source.holds c.want_slot.ensures.trades)
-
-pub returns-in_err-list_if-clause-sources : goal.returns-in_err-list_if-clause-sources
-returns-in_err-list_if-clause-sources g c =
-    let source = g.S.SegmentSource.state in
-    let inv = c.asking.invariant in
-    let place = c.in-Some.place in
-    let slots0 : List (Slot g.row.W.Denot g.row.W-Rows.Denot) = c.args.slots.now.items in
-    let slots : List (Slot g.row.W.Denot g.row.W-Rows.Denot) = c.asking.slots.items in
-    let rest = c.pop_front.new.self.items in
-    let remains : Remains (place ∷ rest) c.args.asking.now.items slots0 slots = subst (λ (xs : List ℕ). Remains xs c.args.asking.now.items slots0 slots) c.in-Some.ensures.items inv.remains in
-    let m : is_among (place ∷ rest) place ≡ true = among_head place rest in
-    let same : slot_at slots place ≡ slot_at slots0 place = remains.same place m in
-    let waiting : WaitsForAll (slot_at slots place) = subst WaitsForAll (sym same) (c.requires.waiting place (remains.among place m)) in
-    let lt : place < length slots = reading_within slots place waiting.reading in
-    let files0 : List (ScanFile g.row.O.Denot g.row.S.Denot) = c.args.files.now.items in
-    let files : List (ScanFile g.row.O.Denot g.row.S.Denot) = c.asking.files.items in
-    let desks : List Waiters = c.asking.desks.items in
-    let at : c.index.result.now ≡ slot_at slots place = c.index.ensures ∙ get_or_default slots place c.index.result.now nothing lt in
-    let k = c.index.result.now.file in
-    let is : k ≡ (slot_at slots place).file = ap (λ (s : Slot g.row.W.Denot g.row.W-Rows.Denot). s.file) at in
-    let is0 : k ≡ (slot_at slots0 place).file = is ∙ ap (λ (s : Slot g.row.W.Denot g.row.W-Rows.Denot). s.file) same in
-    let within = c.requires.within place (reading_there (slot_at slots0 place).stage (c.requires.waiting place (remains.among place m)).reading) in
-    let klt : k < length files = omega (arith, within, is0, inv.sources.len) in
-    let dlt : k < length desks = omega (arith, inv.agree.len, klt) in
-    let x : ScanFile g.row.O.Denot g.row.S.Denot = c.index_mut-file.result.now in
-    let y : ScanFile g.row.O.Denot g.row.S.Denot = record x { source = c.want_slot.new.source } in
-    let d = c.index_mut-desk.result.now in
-    let e = c.want_slot.new.desk in
-    let s : Slot g.row.W.Denot g.row.W-Rows.Denot = c.index_mut-slot.result.now in
-    let t : Slot g.row.W.Denot g.row.W-Rows.Denot = c.want_slot.new.slot in
-    let s_at : s ≡ slot_at slots place = c.index_mut-slot.ensures.value ∙ get_or_default slots place s nothing lt in
-    sources_moved source (IsWantedBy c.args.asking.now.items slots0) files0 files k x y inv.sources klt c.index_mut-file.ensures.value refl refl
-    (moves_weaker (Among (wanted_in s.stage)) (IsWantedBy c.args.asking.now.items slots0 k) (source x.source) (source y.source)
-    (λ id w. record {
-      place = place;
-      listed = remains.among place m;
-      file_is = sym is0;
-      wanted = subst (λ (z : Slot g.row.W.Denot g.row.W-Rows.Denot). is_among (wanted_in z.stage) id ≡ true) (s_at ∙ same) w;
-    }) c.want_slot.ensures.source)
-
-pub returns-in_err-list_if-clause-trades : goal.returns-in_err-list_if-clause-trades
-returns-in_err-list_if-clause-trades g c =
+pub returns-in_err-want_slot-clause-trades : goal.returns-in_err-want_slot-clause-trades
+returns-in_err-want_slot-clause-trades g c =
     let source = g.S.SegmentSource.state in
     let inv = c.asking.invariant in
     let place = c.in-Some.place in
@@ -348,7 +275,7 @@ asking-preserved g c =
     let split = g.W.SplitWork.split in
     let comes = g.W.SplitWork.comes in
     let items = g.W.SplitWork.items in
-    let ok = c.in_ok-ready.ensures in
+    let ok = c.in_ok-want_slot.ensures in
     let adv : Advances split (slot_at slots place) t = subst (λ (z : Slot g.row.W.Denot g.row.W-Rows.Denot). Advances split z t) s_at ok.advances in
     record {
       agree = agree_set source files desks k y e inv.agree klt c.want_slot.ensures.agree;
@@ -373,5 +300,4 @@ asking-preserved g c =
       advances = all_set split slots0 slots place t inv.advances lt adv;
       remains = remains_next place rest c.args.asking.now.items slots0 slots t remains;
       links = but_set place rest desks slots k d e t (subst (λ (xs : List ℕ). Rattle.scan_drive.specs.Asks.EachLinkedBut xs desks slots) c.in-Some.ensures.items inv.links) remains.once dlt c.index_mut-desk.ensures.value lt is adv.file_is ok.there;
-      news = λ h. has_next slots place t c.in_ok-ready.ready c.asking.news.items c.list_if.new.list.items lt ok.fresh c.in_ok-list_if.ensures (inv.news h);
     }

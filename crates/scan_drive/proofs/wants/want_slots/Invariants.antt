@@ -4,11 +4,10 @@ use Rattle.scan_drive.specs.Drives.{DesksAgree, SourcesMove, SlotsKeep}
 use Rattle.scan_drive.specs.Grounds.{SlotsFollow}
 use Rattle.scan_drive.specs.Ledger.{FilesKeepReport}
 use Rattle.scan_drive.specs.Measures.{EachAdvances}
-use Rattle.scan_drive.specs.Slots.{HasNews}
 use Rattle.scan_drive.specs.Trades.{CacheAgrees, FilesTrade}
 use Rattle.scan_drive.specs.Wants.{OnlyLoses}
 use Rattle.scan_drive.proofs.Asked.{Remains}
-use Rattle.scan_drive.proofs.wants.want_news.Given as goal
+use Rattle.scan_drive.proofs.wants.want_slots.Given as goal
 
 abbrev pub invariant-asking : goal.invariant-asking
 invariant-asking g l = record {
@@ -22,7 +21,6 @@ invariant-asking g l = record {
   advances : EachAdvances g.W.SplitWork.split l.fn.slots.items l.slots.items;
   remains : Remains l.asking.items l.fn.asking.items l.fn.slots.items l.slots.items;
   links : EachLinkedBut l.asking.items l.desks.items l.slots.items;
-  news : HasNews l.fn.slots.items l.fn.news.items → HasNews l.slots.items l.news.items;
 }
 
 abbrev pub decreases-asking : goal.decreases-asking
