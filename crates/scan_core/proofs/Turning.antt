@@ -1,22 +1,44 @@
 -- Plans of the conjuncts of a filter.
-use Rattle.std.proofs.Common.{◌≡◌, ℕ, zero, suc, ◌+◌, ◌≤◌, Bool, true, false, not, List, [], ◌∷◌, ◌++◌, length, drop, filter, Result, Ok, Err, IfOk, refl, ap, sym, subst, ◌∙◌, arith}
+use Rattle.std.proofs.Common.{◌≡◌, ℕ, zero, suc, ◌+◌, ◌<◌, ◌≤◌, Bool, true, false, not, List, [], ◌∷◌, ◌++◌, length, drop, filter, get_or, append_assoc, Result, Ok, Err, IfOk, refl, ap, sym, subst, ◌∙◌, arith}
 use Rattle.std.specs.declared.alloc.Global.{Global}
 use Rattle.std.specs.declared.sync.Arc.{Arc}
 use Rattle.std.proofs.lemmas.List.{append-nil}
 use Rattle.scan_expr.specs.Bound.{Bound}
 use Rattle.scan_plans.specs.PlanData.{PlanData, plans_of}
 use Rattle.scan_plans.specs.Pruning.{is_numbered}
+use Rattle.scan_plans.proofs.OffsetChecks.{next_item}
+use Rattle.scan_readers.specs.PlanOf.{IsPlanOf}
 use Rattle.scan_readers.specs.Readers.{ReaderState, numbers_alone}
+use Rattle.scan_readers.specs.RowIdxData.{numbered_state}
 use Rattle.scan_core.specs.BuilderData.{AreFilters}
 use Rattle.scan_core.specs.Prepared.{numbered_first}
 use Rattle.scan_core.specs.SplitMeaning.{ArePlansOf, in_turn}
 
 -- ---- expression by expression
--- the first i expressions over a reader have these plans; the reader's state stayed
-pub record Walked (s t : ReaderState) (es : List Bound) (i : ℕ) (made : List PlanData) : Type 0 where
+-- the first i expressions have these plans over a reader whose rows are numbered from n on; the reader's state stayed
+pub record Walked (n : ℕ) (s t : ReaderState) (es : List Bound) (i : ℕ) (made : List PlanData) : Type 0 where
   pub same : t ≡ s
   pub filters : AreFilters s.dtype (drop i es)
-  pub plans : (rest : List PlanData) → ArePlansOf s (drop i es) rest → ArePlansOf s es (made ++ rest)
+  pub plans : (rest : List PlanData) → ArePlansOf (numbered_state n s) (drop i es) rest → ArePlansOf (numbered_state n s) es (made ++ rest)
+
+-- one more of them
+pub walk_step : (n : ℕ) (s t u : ReaderState) (es : List Bound) (i : ℕ) (made : List PlanData) (e : Bound) (p : PlanData)
+    → Walked n s t es i made → i < length es → e ≡ get_or es i e → u ≡ t → IsPlanOf (numbered_state n t) e p → Walked n s u es (i + 1) (made ++ p ∷ [])
+walk_step n s t u es i made e p w below at same plan =
+    let numbered = numbered_state n s in
+    let next : drop i es ≡ e ∷ drop (i + 1) es = next_item i es e below at in
+    let own : IsPlanOf numbered e p = subst (λ (z : ReaderState). IsPlanOf (numbered_state n z) e p) w.same plan in
+    let filters : AreFilters s.dtype (e ∷ drop (i + 1) es) = subst (λ (xs : List Bound). AreFilters s.dtype xs) next w.filters in
+    record {
+      same = same ∙ w.same;
+      filters = filters.1;
+      plans = λ rest h. subst (λ (ps : List PlanData). ArePlansOf numbered es ps) (sym (append_assoc made (p ∷ []) rest))
+          (w.plans (p ∷ rest) (subst (λ (xs : List Bound). ArePlansOf numbered xs (p ∷ rest)) (sym next) ((own, (filters.0).bool), h)));
+    }
+
+pub pushed_plan : (made : List (Arc PlanData Global)) (a : Arc PlanData Global) → plans_of (made ++ a ∷ []) ≡ plans_of made ++ a.value ∷ []
+pushed_plan [] a = refl
+pushed_plan (x ∷ made) a = ap (λ (ps : List PlanData). x.value ∷ ps) (pushed_plan made a)
 
 dropped_all : (es : List Bound) (i : ℕ) → length es ≤ i → drop i es ≡ []
 dropped_all [] zero l = refl
@@ -24,10 +46,11 @@ dropped_all [] (suc i) l = refl
 dropped_all (e ∷ es) zero l = absurd (omega arith)
 dropped_all (e ∷ es) (suc i) l = dropped_all es i (omega arith)
 
-pub walk_end : (s t : ReaderState) (es : List Bound) (i : ℕ) (made : List PlanData) → Walked s t es i made → length es ≤ i → ArePlansOf s es made
-walk_end s t es i made w l =
-    let none : ArePlansOf s (drop i es) [] = subst (λ (xs : List Bound). ArePlansOf s xs []) (sym (dropped_all es i l)) tt in
-    subst (λ (ps : List PlanData). ArePlansOf s es ps) (append-nil made) (w.plans [] none)
+pub walk_end : (n : ℕ) (s t : ReaderState) (es : List Bound) (i : ℕ) (made : List PlanData) → Walked n s t es i made → length es ≤ i → ArePlansOf (numbered_state n s) es made
+walk_end n s t es i made w l =
+    let numbered = numbered_state n s in
+    let none : ArePlansOf numbered (drop i es) [] = subst (λ (xs : List Bound). ArePlansOf numbered xs []) (sym (dropped_all es i l)) tt in
+    subst (λ (ps : List PlanData). ArePlansOf numbered es ps) (append-nil made) (w.plans [] none)
 
 -- ---- in turn
 plans_append : (s : ReaderState) (es fs : List Bound) (ps qs : List PlanData) → ArePlansOf s es ps → ArePlansOf s fs qs → ArePlansOf s (es ++ fs) (ps ++ qs)

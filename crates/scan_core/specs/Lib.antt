@@ -11,6 +11,7 @@ pub mod Prepared
 pub mod RowRanges
 pub mod ScanCode
 pub mod ScanData
+pub mod Settings
 pub mod Setup
 pub mod SplitData
 pub mod SplitMeaning

@@ -16,8 +16,8 @@ ghost use Rattle.scan_core.specs.Setup.{Refuses, checked, setup_fault, size_faul
 ghost use Rattle.scan_core.specs.SplitRanges.{rows};
 
 use crate::field_masks::referenced_field_masks;
-use crate::planning::{cut_points, plan_numbered};
-use crate::repeated::{RepeatedScan, ScanOptions};
+use crate::repeated::RepeatedScan;
+use crate::settings::ScanSettings;
 use crate::split::SplitFuture;
 use crate::split_by::SplitBy;
 use crate::splits::is_past;
@@ -376,29 +376,20 @@ impl<'r, R: LayoutReader + Drop, M: Drop> ScanBuilder<'r, R, M> {
             concurrency,
             step,
         } = self;
-        let row_count = reader.row_count();
-        let asked = filter.as_ref();
-        let points = cut_points(
-            alloc,
-            &mut *reader,
-            &projection,
-            asked,
-            natural_splits,
-            split_by,
-            &row_range,
-        )?;
-        let plans = plan_numbered(alloc, reader, row_offset, &projection, asked)?;
-        let plans = Arc::new(alloc, plans)?;
-        let step = Arc::new(alloc, step)?;
-        let selection = Arc::new(alloc, selection)?;
-        let options = ScanOptions {
+        let settings = ScanSettings {
+            projection,
+            filter,
+            ordered,
             row_range,
             selection,
+            row_offset,
+            split_by,
+            natural_splits,
             limit,
-            ordered,
             concurrency,
+            step,
         };
-        Ok(RepeatedScan::new(plans, row_count, points, options, step))
+        settings.prepare(alloc, reader)
     }
 
     /// A future of each split of all that it scans, in order.

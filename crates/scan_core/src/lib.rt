@@ -11,6 +11,7 @@ mod name_set;
 mod planning;
 mod repeated;
 mod scan_iter;
+mod settings;
 mod split;
 mod split_by;
 mod split_rows;
@@ -33,6 +34,7 @@ pub use scan_streams::{
     ArrayIter, Claims, Identity, MapStep, Mapped, ScanPlans, ScanStream, SetupFault, StreamFault,
     StreamPoll,
 };
+pub use settings::ScanSettings;
 pub use split::{SplitFuture, SplitPoll};
 pub use split_by::SplitBy;
 pub use splits::{intersect_ranges, span_of, split_ranges};

@@ -1,5 +1,5 @@
 //! What a builder sets up: the plans of a scan, and the boundaries of its splits.
-ghost use Rattle.std.specs.Prelude.{◌≡◌, ◌≤◌, ◌<◌, ◌+◌, ◌++◌, ◌^◌, IfOk, IfSome, is_some, false, true};
+ghost use Rattle.std.specs.Prelude.{◌≡◌, ◌≤◌, ◌<◌, ◌+◌, ◌++◌, ◌^◌, IfOk, IfSome, false, true};
 ghost use Rattle.scan_values.specs.StrictSorted.{is_rising};
 ghost use Rattle.scan_expr.specs.Bound.{bound_conjuncts};
 ghost use Rattle.scan_plans.specs.PlanData.{plans_of};
@@ -16,14 +16,15 @@ use crate::field_masks::referenced_field_masks;
 use crate::split_by::SplitBy;
 use scan_expr::BoundExpression;
 use scan_plans::Plan;
-use scan_readers::{LayoutReader, RowIdxLayoutReader};
+use scan_readers::{LayoutReader, plan_with_numbers};
 use scan_streams::{ScanPlans, SetupFault};
 use scan_values::NoMemory;
 use std::alloc::Global;
 use std::ops::Range;
 use std::sync::Arc;
 
-/// The plans of a scan over a reader whose rows are numbered from an offset on.
+/// The plans of a scan over a reader whose rows are numbered from an offset on: of the filter's conjuncts, in the order
+/// in which they run, and of the projection.
 pub(crate) fn plan_numbered<R: LayoutReader + Drop>(
     alloc: Global,
     reader: &mut R,
@@ -34,32 +35,13 @@ pub(crate) fn plan_numbered<R: LayoutReader + Drop>(
     requires offset { row_offset + (R.state reader.old).rows < 2 ^ 64 }
     requires over { IsOver (R.state reader.old).dtype projection.now }
     requires filter { IfSome (lent_filter filter) (IsFilter (R.state reader.old).dtype) }
-    ensures { IfOk result (λ p. IsScanOf (numbered_state row_offset (R.state reader.old))
+    ensures plans { IfOk result (λ p. IsScanOf (numbered_state row_offset (R.state reader.old))
         (in_turn (numbered_state row_offset (R.state reader.old)) (conjuncts_in (lent_filter filter.entry)))
         projection.now p) }
+    ensures same { R.state reader.new ≡ R.state reader.old }
 {
-    match RowIdxLayoutReader::new(alloc, row_offset, reader) {
-        Ok(mut numbered) => plan_scan(alloc, &mut numbered, projection, filter),
-        Err(_) => Err(NoMemory),
-    }
-}
-
-/// The plans of a scan over a reader that numbers its rows: of the filter's conjuncts, in the order in which they run,
-/// and of the projection.
-fn plan_scan<R: LayoutReader>(
-    alloc: Global,
-    reader: &mut R,
-    projection: &BoundExpression,
-    filter: Option<&BoundExpression>,
-) -> Result<ScanPlans, NoMemory>
-    requires numbers { is_some (R.state reader.old).first_number ≡ true }
-    requires over { IsOver (R.state reader.old).dtype projection.now }
-    requires filter { IfSome (lent_filter filter) (IsFilter (R.state reader.old).dtype) }
-    ensures { IfOk result (λ p. IsScanOf (R.state reader.old)
-        (in_turn (R.state reader.old) (conjuncts_in (lent_filter filter.entry))) projection.now p) }
-{
-    let conjuncts = plan_filter(alloc, reader, filter)?;
-    let projection = reader.plan(alloc, projection)?;
+    let conjuncts = plan_filter(alloc, reader, row_offset, filter)?;
+    let projection = plan_with_numbers(alloc, reader, row_offset, projection)?;
     Ok(ScanPlans::new(conjuncts, projection))
 }
 
@@ -67,16 +49,18 @@ fn plan_scan<R: LayoutReader>(
 fn plan_filter<R: LayoutReader>(
     alloc: Global,
     reader: &mut R,
+    row_offset: u64,
     filter: Option<&BoundExpression>,
 ) -> Result<Vec<Arc<Plan>>, NoMemory>
-    requires numbers { is_some (R.state reader.old).first_number ≡ true }
+    requires offset { row_offset + (R.state reader.old).rows < 2 ^ 64 }
     requires filter { IfSome (lent_filter filter) (IsFilter (R.state reader.old).dtype) }
-    ensures plans { IfOk result (λ v. ArePlansOf (R.state reader.old)
-        (in_turn (R.state reader.old) (conjuncts_in (lent_filter filter.entry))) (plans_of v.items)) }
+    ensures plans { IfOk result (λ v. ArePlansOf (numbered_state row_offset (R.state reader.old))
+        (in_turn (numbered_state row_offset (R.state reader.old)) (conjuncts_in (lent_filter filter.entry)))
+        (plans_of v.items)) }
     ensures same { R.state reader.new ≡ R.state reader.old }
 {
     match filter {
-        Some(filter) => plan_conjuncts(alloc, reader, filter),
+        Some(filter) => plan_conjuncts(alloc, reader, row_offset, filter),
         None => Ok(Vec::new(alloc)),
     }
 }
@@ -85,16 +69,17 @@ fn plan_filter<R: LayoutReader>(
 fn plan_conjuncts<R: LayoutReader>(
     alloc: Global,
     reader: &mut R,
+    row_offset: u64,
     filter: &BoundExpression,
 ) -> Result<Vec<Arc<Plan>>, NoMemory>
-    requires numbers { is_some (R.state reader.old).first_number ≡ true }
+    requires offset { row_offset + (R.state reader.old).rows < 2 ^ 64 }
     requires filter { IsFilter (R.state reader.old).dtype filter.now }
-    ensures plans { IfOk result (λ v. ArePlansOf (R.state reader.old)
-        (in_turn (R.state reader.old) (bound_conjuncts filter.now)) (plans_of v.items)) }
+    ensures plans { IfOk result (λ v. ArePlansOf (numbered_state row_offset (R.state reader.old))
+        (in_turn (numbered_state row_offset (R.state reader.old)) (bound_conjuncts filter.now)) (plans_of v.items)) }
     ensures same { R.state reader.new ≡ R.state reader.old }
 {
     let conjuncts = filter.conjuncts(alloc)?;
-    let plans = plan_each(alloc, reader, &conjuncts)?;
+    let plans = plan_each(alloc, reader, row_offset, &conjuncts)?;
     numbered_first(alloc, plans)
 }
 
@@ -102,16 +87,18 @@ fn plan_conjuncts<R: LayoutReader>(
 fn plan_each<R: LayoutReader>(
     alloc: Global,
     reader: &mut R,
+    row_offset: u64,
     conjuncts: &[BoundExpression],
 ) -> Result<Vec<Arc<Plan>>, NoMemory>
-    requires numbers { is_some (R.state reader.old).first_number ≡ true }
+    requires offset { row_offset + (R.state reader.old).rows < 2 ^ 64 }
     requires filters { AreFilters (R.state reader.old).dtype conjuncts.now }
-    ensures plans { IfOk result (λ v. ArePlansOf (R.state reader.old) conjuncts.now (plans_of v.items)) }
+    ensures plans { IfOk result (λ v. ArePlansOf (numbered_state row_offset (R.state reader.old)) conjuncts.now
+        (plans_of v.items)) }
     ensures same { R.state reader.new ≡ R.state reader.old }
 {
     let mut plans = Vec::with_capacity(alloc, conjuncts.len())?;
     for conjunct in conjuncts {
-        plans.push(reader.plan(alloc, conjunct)?)?;
+        plans.push(plan_with_numbers(alloc, reader, row_offset, conjunct)?)?;
     }
     Ok(plans)
 }

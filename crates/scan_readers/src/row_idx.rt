@@ -1,5 +1,5 @@
 //! Readers that number the rows of another. After the crate's `layouts/row_idx`.
-ghost use Rattle.std.specs.Prelude.{◌≡◌, ◌≤◌, ◌+◌, ◌^◌, ◌<◌, ◌↔◌, [], Err, IfOk, None, Some, length, true, false};
+ghost use Rattle.std.specs.Prelude.{◌≡◌, ◌≤◌, ◌+◌, ◌^◌, ◌<◌, ◌↔◌, [], Err, IfOk, OnErr, None, Some, length, true, false};
 ghost use Rattle.scan_expr.specs.Expr.{uses_row_index};
 ghost use Rattle.scan_partition.specs.Partable.{IsPartable, ArePartable};
 ghost use Rattle.scan_partition.specs.RowSplit.{IsPartOver, PartsOver, read_type};
@@ -59,6 +59,7 @@ impl<R: LayoutReader + Drop> RowIdxLayoutReader<R> {
     pub fn new(alloc: Global, row_offset: u64, child: R) -> Result<Self, RowIdxFault>
         ensures made { IfOk result (λ r. r ≡ row_idx_data row_offset child []) }
         ensures fault { (result ≡ Err RowIdxFault.RowOffset) ↔ (2 ^ 64 ≤ row_offset + (R.state child).rows) }
+        ensures alone { OnErr result (result ≡ Err RowIdxFault.RowOffset) }
     {
         if row_offset.checked_add(child.row_count()).is_none() {
             return Err(RowIdxFault::RowOffset);
@@ -143,6 +144,28 @@ fn numbered_node<R: LayoutReader>(
             Ok(PlanNode::over(root, nodes))
         }
     }
+}
+
+/// The plan of an expression in which row numbers may stand, over a reader whose rows are numbered from this number on.
+/// A reader that numbers them makes the same. Nothing is kept but what the other reader keeps.
+pub fn plan_with_numbers<R: LayoutReader>(
+    alloc: Global,
+    child: &mut R,
+    first: u64,
+    expr: &BoundExpression,
+) -> Result<Arc<Plan>, NoMemory>
+    requires numbers { first + (R.state child.old).rows < 2 ^ 64 }
+    requires scope { expr.now.scope ≡ (R.state child.old).dtype }
+    requires bound { IsPartable expr.now }
+    ensures same { R.state child.new ≡ R.state child.old }
+    ensures stay { Stay (R.kept child.old) (R.kept child.new) }
+    ensures plan { IfOk result (λ p. IsPlanOf (numbered_state first (R.state child.old)) expr.now p.value) }
+{
+    if !expr.uses_row_idx() {
+        return child.plan(alloc, expr);
+    }
+    let node = numbered_node(alloc, child, first, expr)?;
+    Ok(Arc::new(alloc, Plan::new(expr.try_clone(alloc)?, node))?)
 }
 
 impl<R: LayoutReader + Drop> RowIdxLayoutReader<R> {

@@ -1,9 +1,9 @@
 -- Structs without fields.
-use Rattle.std.proofs.Common.{◌≡◌, ℕ, zero, suc, true, refl, subst, sym, replicate}
+use Rattle.std.proofs.Common.{◌≡◌, ℕ, zero, suc, true, refl}
 use Rattle.scan_values.specs.DataType.{DataType, bool_type, int_type, utf8_type, list_type, struct_type, no_fields, field}
 use Rattle.scan_values.specs.Fits.{fits, fits_all}
 use Rattle.scan_values.specs.Marked.{struct, none}
-use Rattle.scan_values.specs.Val.{marked_all, vals_of, struct_val, no_vals}
+use Rattle.scan_values.specs.Val.{marked_all, vals_of}
 use Rattle.scan_values.specs.declared.ptype.Nullability.TheVariants.{NonNullable, Nullable}
 use Rattle.scan_sources.specs.Empties.{bare_rows}
 use Rattle.scan_sources.specs.Requests.{is_bare_struct}

@@ -1,9 +1,8 @@
 -- What binds, and why it does not.
-use Rattle.std.proofs.Common.{◌≡◌, ℕ, Bool, true, false, nat_eq, List, [], ◌∷◌, length, Option, Some, None, Result, Ok, refl, ap, sym, subst}
+use Rattle.std.proofs.Common.{◌≡◌, false, List, [], ◌∷◌, length, Some, None, Ok, refl, ap}
 use Rattle.std.specs.Prelude.{option_map}
 use Rattle.scan_values.specs.DataType.{DataType, bool_type, int_type, utf8_type, list_type, struct_type, Fields, fields_of, field, Name}
 use Rattle.scan_values.specs.Kinds.{struct_fields_of}
-use Rattle.scan_values.specs.declared.ptype.Nullability.TheVariants.{NonNullable, Nullable}
 use Rattle.scan_expr.specs.Bound.{Bound, bound_of, bound_unless}
 use Rattle.scan_expr.specs.Expr.{Expr}
 use Rattle.scan_expr.specs.Typing.{Fault, bind_fault, or_fault}

@@ -1,5 +1,5 @@
 -- Scans of which no part was given.
-use Rattle.std.proofs.Common.{◌≡◌, ℕ, Bool, true, false, not, List, [], ◌∷◌, ◌++◌, map, filter, Option, Some, None, refl, ap, sym, ◌∙◌}
+use Rattle.std.proofs.Common.{◌≡◌, ℕ, Bool, true, false, not, List, [], ◌∷◌, ◌++◌, map, filter, Option, Some, None, refl, ap, ◌∙◌}
 use Rattle.std.specs.Prelude.{cond, is_some}
 use Rattle.std.specs.declared.ops.Range.{Range}
 use Rattle.scan_expr.specs.Bound.{Bound, bound_of}

@@ -1,5 +1,5 @@
 -- The step of a scan that makes nothing else of its arrays.
-use Rattle.std.specs.Prelude.{◌≡◌, refl}
+use Rattle.std.specs.Prelude.{refl}
 use Rattle.std.specs.Coded.{Coded, code_by}
 use base.Stored.{coded_unit}
 use Rattle.scan_streams.specs.declared.map_step.Identity.{Identity}

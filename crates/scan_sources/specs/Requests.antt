@@ -1,11 +1,9 @@
 -- What is asked of a source.
-use Rattle.std.specs.Prelude.{◌≡◌, ◌&&◌, not, ℕ, min, Bool, true, false, if◌then◌else◌, Option, Some, None, IfSome, option_map, is_some, is_none}
-use Rattle.std.specs.declared.ops.Range.{Range}
+use Rattle.std.specs.Prelude.{◌&&◌, not, ℕ, min, Bool, true, false, if◌then◌else◌, Option, Some, None, IfSome, option_map, is_some, is_none}
 use Rattle.scan_values.specs.DataType.{DataType, bool_type, int_type, utf8_type, list_type, struct_type, no_fields, field}
 use Rattle.scan_values.specs.declared.ptype.Nullability.TheVariants.{NonNullable, Nullable}
 use Rattle.scan_values.specs.Selections.{row_count}
-use Rattle.scan_values.specs.declared.selection.Selection.{Selection}
-use Rattle.scan_expr.specs.Bound.{Bound, bound_of}
+use Rattle.scan_expr.specs.Bound.{bound_of}
 use Rattle.scan_expr.specs.Infer.{infer}
 use Rattle.scan_expr.specs.declared.request.ScanRequest.{ScanRequest}
 use Rattle.scan_readers.specs.Readers.{ReaderState}

@@ -18,9 +18,8 @@ use Rattle.scan_core.specs.ScanCode.{scan_code}
 use Rattle.scan_core.specs.ScanData.{ScanData, IsScan}
 use Rattle.scan_core.specs.SplitRanges.{rows}
 use Rattle.scan_core.specs.Streaming.{IsOwnSeat, first_of, limit_before, streamed, values_in}
-use Rattle.scan_sources.specs.Empties.{EmptyData, empty_data}
 use Rattle.scan_sources.specs.Faults as fault
-use Rattle.scan_sources.specs.Requests.{IsScanOfRequest, asked_count, bound_request, builder_of, reads_nothing, request_dtype, shared_limit}
+use Rattle.scan_sources.specs.Requests.{IsScanOfRequest, builder_of, shared_limit}
 use Rattle.scan_sources.specs.Splits.{ReaderSplit, reader_split, own_limit, part_of, rest_of}
 use Rattle.scan_sources.specs.declared.fault.SourceFault.{SourceFault}
 use Rattle.scan_sources.specs.declared.fault.SourceFault.TheVariants as fault_is

@@ -7,7 +7,7 @@ ghost use Rattle.scan_sources.specs.Faults.{Refuses, expr_refusal, filter_refusa
 ghost use Rattle.scan_sources.specs.Requests.{IsBoundOver, IsScanOfRequest, asked_count, bound_request, cut_by, is_bare_struct, reads_nothing, request_dtype, shared_limit};
 
 use crate::fault::SourceFault;
-use scan_core::{Identity, RepeatedScan, ScanBuilder};
+use scan_core::{Identity, RepeatedScan, ScanSettings, SplitBy};
 use scan_expr::{BindFault, BoundExpression, Expression, ScanRequest};
 use scan_readers::LayoutReader;
 use scan_values::{DType, NoMemory, Selection};
@@ -116,7 +116,7 @@ impl BoundScanRequest {
         })
     }
 
-    /// Its scan over a reader's rows, but for the limit.
+    /// Its scan over a reader's rows, but for the limit. The rows stay as they were, also where memory runs out.
     pub fn prepare<R: LayoutReader + Drop>(
         self,
         alloc: Global,
@@ -124,7 +124,8 @@ impl BoundScanRequest {
     ) -> Result<Plain, NoMemory>
         requires over { IsBoundOver (R.state reader.old).dtype self }
         requires range { is_past self.row_range (R.state reader.old).rows ≡ false }
-        ensures { IfOk result (λ s. IsScanOfRequest (R.state reader.old) self s) }
+        ensures scan { IfOk result (λ s. IsScanOfRequest (R.state reader.old) self s) }
+        ensures same { R.state reader.new ≡ R.state reader.old }
     {
         let BoundScanRequest {
             projection,
@@ -134,29 +135,22 @@ impl BoundScanRequest {
             ordered,
             ..
         } = self;
-        let builder = ScanBuilder::new(alloc, reader)?
-            .with_projection(projection)
-            .with_some_filter(filter)
-            .with_selection(selection)
-            .with_ordered(ordered);
-        match within(builder, row_range).prepare(alloc) {
-            Ok(scan) => Ok(scan),
-            Err(_) => Err(NoMemory),
-        }
-    }
-}
-
-/// The scan of a builder within a range, or over all rows.
-fn within<'r, R: LayoutReader + Drop>(
-    builder: ScanBuilder<'r, R, Identity<()>>,
-    row_range: Option<Range<u64>>,
-) -> ScanBuilder<'r, R, Identity<()>>
-    requires { builder.range ≡ None }
-    ensures { result ≡ record builder.entry { range = row_range } }
-{
-    match row_range {
-        Some(range) => builder.with_row_range(range),
-        None => builder,
+        let _rows = reader.row_count();
+        let step = Identity::new();
+        let settings = ScanSettings {
+            projection,
+            filter,
+            ordered,
+            row_range,
+            selection,
+            row_offset: 0,
+            split_by: SplitBy::Layout,
+            natural_splits: None,
+            limit: None,
+            concurrency: 4,
+            step,
+        };
+        settings.prepare(alloc, reader)
     }
 }
 

@@ -84,7 +84,7 @@ impl<R: LayoutReader + Drop> LayoutReaderDataSource<R> {
     /// The first that holds, and exactly then, unless memory runs out before: `SplitSize` where a part has no rows;
     /// `RowRange` where the range is reversed or its end passes the row count; `Bind` with the first fault of the
     /// projection, then of the filter, then `NotBool`. The first two take no memory. Each of them leaves the source as it
-    /// was. Else `NoMemory` alone.
+    /// was. Else `NoMemory` alone. Whatever is answered, the rows stay as they were: a further scan gives the same.
     pub fn scan(&mut self, alloc: Global, request: ScanRequest) -> Result<LayoutScan, SourceFault>
         ensures numbers { IfSome (number_refusal self.old.size request.row_range (R.state self.old.reader).rows)
             (λ f. result ≡ Err f) }
@@ -92,6 +92,7 @@ impl<R: LayoutReader + Drop> LayoutReaderDataSource<R> {
         ensures scan { IfOk result (λ s. Starts (R.state self.old.reader) self.old.size
             (bound_request (R.state self.old.reader).dtype request) s) }
         ensures size { self.new.size ≡ self.old.size }
+        ensures same { R.state self.new.reader ≡ R.state self.old.reader }
         ensures refused { LeavesSame self.old self.new result }
     {
         if self.split_max_row_count == 0 {
@@ -115,6 +116,7 @@ impl<R: LayoutReader + Drop> LayoutReaderDataSource<R> {
         requires range { is_past request.row_range (R.state self.old.reader).rows ≡ false }
         ensures scan { IfOk result (λ s. Starts (R.state self.old.reader) self.old.size request s) }
         ensures size { self.new.size ≡ self.old.size }
+        ensures same { R.state self.new.reader ≡ R.state self.old.reader }
     {
         let rows = self.reader.row_count();
         if request.reads_nothing() {
@@ -137,7 +139,8 @@ fn split_scan<R: LayoutReader + Drop>(
     requires size { 0 < split_size }
     requires over { IsBoundOver (R.state reader.old).dtype request }
     requires range { is_past request.row_range (R.state reader.old).rows ≡ false }
-    ensures { IfOk result (λ s. StartsScan (R.state reader.old) split_size request s) }
+    ensures starts { IfOk result (λ s. StartsScan (R.state reader.old) split_size request s) }
+    ensures same { R.state reader.new ≡ R.state reader.old }
 {
     let rows = range_or_all(&request.row_range, reader.row_count());
     let limit = request.limit;

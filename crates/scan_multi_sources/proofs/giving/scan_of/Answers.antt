@@ -21,6 +21,6 @@ returns c =
     let l = c.args.layout.now.value in
     let reader = c.in_ok-reader.reader in
     let r = c.prepare.result in
-    let named = subst (λ n. IfOk r (λ s. IsScanOfRequest (layout_state n reader.layout) c.in_ok-request.request s)) c.in_ok-reader.ensures.0 c.prepare.ensures in
+    let named = subst (λ n. IfOk r (λ s. IsScanOfRequest (layout_state n reader.layout) c.in_ok-request.request s)) c.in_ok-reader.ensures.0 c.prepare.ensures.scan in
     let placed = subst (λ z. IfOk r (λ s. IsScanOfRequest (layout_state [] z) c.in_ok-request.request s)) c.in_ok-reader.ensures.1 named in
     subst (λ q. IfOk r (λ s. IsScanOfRequest (layout_state [] l) q s)) c.in_ok-request.ensures placed

@@ -4,12 +4,12 @@ use Rattle.scan_core.specs.BuilderData.{conjuncts_in}
 use Rattle.scan_core.specs.RowRanges.{is_past}
 use Rattle.scan_core.specs.SplitMeaning.{IsScanOf, in_turn}
 use Rattle.scan_core.proofs.Preparing.{scan_is}
-use Rattle.scan_core.proofs.builder.ScanBuilder.set_up.Goals as goal
+use Rattle.scan_core.proofs.settings.ScanSettings.prepare.Goals as goal
 
 pub new-requires-4 : goal.new-requires-4
 new-requires-4 g c =
-    let b = c.self.inside in
-    let s = g.R.LayoutReader.state b.reader.now in
+    let b = c.args.self in
+    let s = g.R.LayoutReader.state c.args.reader.now in
     let cs = in_turn (numbered_state b.row_offset s) (conjuncts_in b.filter) in
     let past : is_past b.row_range s.rows ≡ false = search rules in
     let rows : c.row_count-row_count.result ≡ s.rows = search rules in
