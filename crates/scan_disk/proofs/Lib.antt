@@ -1,0 +1,5 @@
+mod JsonValues
+mod Givens
+mod Trees
+mod Contents
+mod Polls

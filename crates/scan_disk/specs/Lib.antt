@@ -1,0 +1,9 @@
+pub mod BytesAt
+pub mod Faults
+pub mod Given
+pub mod Places
+pub mod Footers
+pub mod Contents
+pub mod Segments
+pub mod SourceView
+pub mod OpenerView
