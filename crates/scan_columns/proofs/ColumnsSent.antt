@@ -13,6 +13,7 @@ use Rattle.scan_columns.specs.contracts.column.Column as Column
 use Rattle.scan_columns.specs.contracts.constant.Constant as Constant
 use Rattle.scan_columns.specs.contracts.ends.Ends as Ends
 use Rattle.scan_columns.specs.contracts.ints.Ints as Ints
+use Rattle.scan_columns.specs.contracts.texts.Texts as Texts
 use Rattle.scan_columns.specs.declared.cells.Lists.TheDeep.{the_members, member-Lists, member-Structs}
 
 ints_send : IsSend Ints.the_row
@@ -33,6 +34,12 @@ ends_send = search (sendable, cross.crosses) depth 40
 ends_sync : IsSync Ends.the_row
 ends_sync = search (sendable, cross.crosses) depth 40
 
+texts_send : IsSend Texts.the_row
+texts_send = let a = ends_send in search (sendable, cross.crosses) depth 40
+
+texts_sync : IsSync Texts.the_row
+texts_sync = let a = ends_sync in search (sendable, cross.crosses) depth 40
+
 constant_send : IsSend Constant.the_row
 constant_send = let a = Value-send in let f = Value-field-send in search (sendable, cross.crosses) depth 40
 
@@ -42,12 +49,12 @@ constant_sync = let a = Value-sync in let f = Value-field-sync in search (sendab
 module _ (p : Parts knot.frame) (h : (j : the_members) (y : (knot.frame).D j) → Loose (p j y)) where
   cells_send : IsSend (knot.at-Cells p)
   cells_send =
-      let a = ints_send in let b = bools_send in let c = Values-send in let d = constant_send in
+      let a = ints_send in let b = bools_send in let g = texts_send in let c = Values-send in let d = constant_send in
       let e = rows_send knot.frame p h member-Lists in let f = rows_send knot.frame p h member-Structs in search sendable depth 40
 
   cells_sync : IsSync (knot.at-Cells p)
   cells_sync =
-      let a = ints_sync in let b = bools_sync in let c = Values-sync in let d = constant_sync in
+      let a = ints_sync in let b = bools_sync in let g = texts_sync in let c = Values-sync in let d = constant_sync in
       let e = rows_sync knot.frame p h member-Lists in let f = rows_sync knot.frame p h member-Structs in search sendable depth 40
 
   lists_send : IsSend (knot.view-Lists p)
@@ -80,10 +87,10 @@ structs-sync = record { shared = λ x b o κ. (tied_loose knot.frame knot.step k
 
 pub Column-send : IsSend Column.the_row
 Column-send =
-    let a = cross.Arc-send _ DType-send DType-sync in let i = ints_send in let b = bools_send in let c = Values-send in let d = constant_send in
+    let a = cross.Arc-send _ DType-send DType-sync in let i = ints_send in let b = bools_send in let g = texts_send in let c = Values-send in let d = constant_send in
     let e = lists-send in let f = structs-send in search sendable depth 40
 
 pub Column-sync : IsSync Column.the_row
 Column-sync =
-    let a = cross.Arc-sync _ DType-send DType-sync in let i = ints_sync in let b = bools_sync in let c = Values-sync in let d = constant_sync in
+    let a = cross.Arc-sync _ DType-send DType-sync in let i = ints_sync in let b = bools_sync in let g = texts_sync in let c = Values-sync in let d = constant_sync in
     let e = lists-sync in let f = structs-sync in search sendable depth 40

@@ -1,13 +1,14 @@
 -- What operators make of typed cells.
-use Rattle.std.proofs.Common.{◌≡◌, ℕ, suc, ◌+◌, ℤ, Bool, true, false, not, ◌&&◌, ◌||◌, cond, List, [], ◌∷◌, ◌++◌, Some, slice_get, map, drop, length, replicate, refl, ap, sym, ◌∙◌, arith}
+use Rattle.std.proofs.Common.{◌≡◌, ℕ, zero, suc, ◌+◌, ℤ, Bool, true, false, not, ◌&&◌, ◌||◌, cond, List, [], ◌∷◌, ◌++◌, Some, slice_get, map, drop, length, replicate, refl, ap, sym, ◌∙◌, arith}
 use Rattle.std.specs.List.{zip}
-use Rattle.std.specs.Ordering.{int_cmp}
+use Rattle.std.specs.Ordering.{int_cmp, nat_cmp}
+use Rattle.std.specs.Cmp.Lexicographic.{slice_cmp}
 use Rattle.scan_values.specs.DataType.{DataType, bool_type, nullability_of, is_nullable}
 use Rattle.scan_values.specs.declared.ptype.Nullability.{Nullability}
 use Rattle.scan_values.specs.declared.ptype.Nullability.TheVariants.{Nullable}
 use Rattle.scan_values.specs.Damage.{damaged}
 use Rattle.scan_values.specs.Fits.{fits_int}
-use Rattle.scan_values.specs.Marked.{null, gone, boolean, integer, is_true}
+use Rattle.scan_values.specs.Marked.{null, gone, boolean, integer, text, is_true}
 use Rattle.scan_values.specs.Masks.{both_true, null_where_false}
 use Rattle.scan_values.specs.Val.{Val, null_val, bool_val, int_val, text_val, list_val, struct_val, marked, read_marked, read-marked}
 use Rattle.scan_expr.specs.declared.op.Unary.TheVariants.{Not, ListLength}
@@ -164,6 +165,11 @@ compare_truths op a b true true h = ap read_marked (sym (compares op (bool_type 
 compare_truths op a b true false h = ap read_marked (sym (compares op (bool_type Nullable) (boolean a) null h))
 compare_truths op a b false q h = ap read_marked (sym (compares op (bool_type Nullable) null (marked (cond q (bool_val b) null_val)) h))
 
+pub compare_texts : (op : Binary) (a b : List ℕ) (p q : Bool) → is_comparison op ≡ true → cond (p && q) (bool_val (holds op (slice_cmp nat_cmp a b))) null_val ≡ pair_val op (cond p (text_val a) null_val) (cond q (text_val b) null_val)
+compare_texts op a b true true h = ap read_marked (sym (compares op (bool_type Nullable) (text a) (text b) h))
+compare_texts op a b true false h = ap read_marked (sym (compares op (bool_type Nullable) (text a) null h))
+compare_texts op a b false q h = ap read_marked (sym (compares op (bool_type Nullable) null (marked (cond q (text_val b) null_val)) h))
+
 -- two values, of which none is damaged
 by_nulls : (p q b : Bool) → cond (not p && not q) (bool_val b) null_val ≡ read_marked (cond (p || q) null (boolean b))
 by_nulls true q b = refl
@@ -245,6 +251,13 @@ pub slots_step : {A : Type 0} (f : A → Val) (g : Val → Val → Val) (vs ws :
 slots_step f g vs ws k v w xs more bs longer z b at other m n is even inv =
     let next : paired g (drop k vs) (drop k ws) ≡ g v w ∷ paired g (drop (k + 1) vs) (drop (k + 1) ws) = λ i. paired g (drop_got vs k (k + 1) v at refl i) (drop_got ws k (k + 1) w other refl i) in
     (rw (m, n) (pushed_even xs bs z b even), rw (m, n) (typed_step f xs bs z b (g v w) (paired g (drop (k + 1) vs) (drop (k + 1) ws)) (paired g vs ws) even (sym is) (ap (λ us. typed f xs bs ++ us) (sym next) ∙ inv)))
+
+-- what stands everywhere stands beside each
+pub repeated_beside : (w v : Val) (vs ws : List Val) (k : ℕ) → Some v ≡ slice_get vs k → length ws ≡ length vs → ws ≡ replicate (length ws) w → Some w ≡ slice_get ws k
+repeated_beside w v [] ws k at e h = absurd cc
+repeated_beside w v (u ∷ vs) [] k at e h = absurd (omega (arith, e))
+repeated_beside w v (u ∷ vs) (x ∷ ws) zero at e h = let same : x ≡ w = cc in λ i. Some (sym same i)
+repeated_beside w v (u ∷ vs) (x ∷ ws) (suc k) at e h = let rest : ws ≡ replicate (length ws) w = cc in repeated_beside w v vs ws k at (omega (arith, e)) rest
 
 pub slot_step : {A : Type 0} (f : A → Val) (g : Val → Val) (vs : List Val) (k : ℕ) (v : Val) (xs more : List A) (bs longer : List Bool) (z : A) (b : Bool) → Some v ≡ slice_get vs k
     → more ≡ xs ++ (z ∷ []) → longer ≡ bs ++ (b ∷ []) → cond b (f z) null_val ≡ g v → length bs ≡ length xs → typed f xs bs ++ map g (drop k vs) ≡ map g vs

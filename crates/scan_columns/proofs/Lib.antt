@@ -17,5 +17,6 @@ pub mod PickLemmas
 pub mod LastUses
 pub mod StructLemmas
 pub mod KeptLemmas
+pub mod TextLemmas
 pub mod AccessLemmas
 pub mod ColumnsSent

@@ -6,23 +6,14 @@ use Rattle.std.proofs.lemmas.List.{length-append, length-replicate, length-take,
 use Rattle.scan_values.specs.Val.{Val, marked}
 use Rattle.scan_values.specs.Masks.{both_true, null_where_false}
 use Rattle.scan_expr.specs.Eval.{is_nothing}
+use Rattle.scan_spelling.proofs.Cutting.{cuts_append}
+pub use Rattle.scan_spelling.proofs.Cutting.{sizes_length, rises_sums, sizes_sums, sizes_onto, rises_onto, total_append, cuts_length}
+use Rattle.scan_spelling.specs.LeafColumns.{is_here}
 use Rattle.scan_columns.specs.Typed.{typed}
 use Rattle.scan_columns.specs.Nested.{Deep, of_deep, list_of, struct_of, sizes, sums, Rises, total, cuts, spread, heads, rows_of, AreLong}
-use Rattle.scan_columns.proofs.TypedLemmas.{typed_length, typed_where, typed_slice, typed_append, typed_mask, typed_nulls, where_lengths, both_lengths}
+use Rattle.scan_columns.proofs.TypedLemmas.{typed_length, typed_where, typed_slice, typed_append, typed_mask, typed_nulls, typed_here, where_lengths, both_lengths}
 
 -- ---- where lists end
-pub sizes_length : (s : ℕ) (ks : List ℕ) → length (sizes s ks) ≡ length ks
-sizes_length s [] = refl
-sizes_length s (k ∷ ks) = λ i. suc (sizes_length k ks i)
-
-pub rises_sums : (s : ℕ) (ns : List ℕ) → Rises s (sums s ns)
-rises_sums s [] = tt
-rises_sums s (n ∷ ns) = (omega arith, rises_sums (s + n) ns)
-
-pub sizes_sums : (s : ℕ) (ns : List ℕ) → sizes s (sums s ns) ≡ ns
-sizes_sums s [] = refl
-sizes_sums s (n ∷ ns) = let e : s + n - s ≡ n = omega arith in λ i. e i ∷ sizes_sums (s + n) ns i
-
 pub start_at : (s : ℕ) (ks : List ℕ) (i d : ℕ) → Rises s ks → i < length ks → get_or ks i d ≡ s + total (take (suc i) (sizes s ks))
 start_at s [] i d r h = absurd (omega (arith, h))
 start_at s (k ∷ ks) zero d r h = omega (arith, r.0)
@@ -54,14 +45,6 @@ rises_slice t ks i j r h e = rises_take t (drop i ks) (j - i) (rises_drop 0 t ks
 pub sizes_slice : (t : ℕ) (ks : List ℕ) (i j : ℕ) → Rises 0 ks → i ≤ length ks → t ≡ total (take i (sizes 0 ks)) → sizes t (slice_range ks i j) ≡ slice_range (sizes 0 ks) i j
 sizes_slice t ks i j r h e = sym (sizes_take t (drop i ks) (j - i)) ∙ (λ k. take (j - i) (sizes_drop 0 t ks i r h (omega (arith, e)) k))
 
-pub sizes_onto : (s t : ℕ) (ks ns : List ℕ) → Rises s ks → t ≡ s + total (sizes s ks) → sizes s (ks ++ sums t ns) ≡ sizes s ks ++ ns
-sizes_onto s t [] ns r e = let same : t ≡ s = omega (arith, e) in (λ i. sizes s (sums (same i) ns)) ∙ sizes_sums s ns
-sizes_onto s t (k ∷ ks) ns r e = λ i. (k - s) ∷ sizes_onto k t ks ns r.1 (omega (arith, e, r.0)) i
-
-pub rises_onto : (s t : ℕ) (ks ns : List ℕ) → Rises s ks → t ≡ s + total (sizes s ks) → Rises s (ks ++ sums t ns)
-rises_onto s t [] ns r e = let same : s ≡ t = omega (arith, e) in rw same (rises_sums t ns)
-rises_onto s t (k ∷ ks) ns r e = (r.0, rises_onto k t ks ns r.1 (omega (arith, e, r.0)))
-
 pub take_length : {A : Type 0} (xs : List A) → take (length xs) xs ≡ xs
 take_length [] = refl
 take_length (x ∷ xs) = λ i. x ∷ take_length xs i
@@ -73,10 +56,6 @@ sizes_sum t ks e =
     omega (arith, e, sums)
 
 -- ---- lists cut out of their elements
-cuts_length : (ns : List ℕ) (es : List Val) → length (cuts ns es) ≡ length ns
-cuts_length [] es = refl
-cuts_length (n ∷ ns) es = λ i. suc (cuts_length ns (drop n es) i)
-
 pub lists_length : (ns : List ℕ) (es : List Val) (bs : List Bool) → length bs ≡ length ns → length (typed list_of (cuts ns es) bs) ≡ length ns
 lists_length ns es bs h = typed_length list_of (cuts ns es) bs (h ∙ sym (cuts_length ns es)) ∙ cuts_length ns es
 
@@ -85,6 +64,9 @@ lists_count k ns es bs now e h = ap (λ (d : Deep). length d.items) (sym e) ∙ 
 
 pub list_nulls : (ns : List ℕ) (es : List Val) (bs : List Bool) → length bs ≡ length ns → map not bs ≡ map (λ v. is_nothing (marked v)) (typed list_of (cuts ns es) bs)
 list_nulls ns es bs h = typed_nulls list_of (cuts ns es) bs (λ x. refl) (h ∙ sym (cuts_length ns es))
+
+pub lists_here : (ns : List ℕ) (es : List Val) (bs : List Bool) → length bs ≡ length ns → bs ≡ map is_here (typed list_of (cuts ns es) bs)
+lists_here ns es bs h = typed_here list_of (cuts ns es) bs (λ x. refl) (h ∙ sym (cuts_length ns es))
 
 pub lists_mask : (ns : List ℕ) (es : List Val) (bs ms : List Bool) → length bs ≡ length ns → typed list_of (cuts ns es) (both_true bs ms) ≡ null_where_false ms (typed list_of (cuts ns es) bs)
 lists_mask ns es bs ms h = typed_mask list_of (cuts ns es) bs ms (h ∙ sym (cuts_length ns es))
@@ -102,19 +84,19 @@ drop_take (suc n) zero (suc k) [] h = refl
 drop_take (suc n) (suc m) (suc k) [] h = refl
 drop_take (suc n) m (suc k) (x ∷ xs) h = drop_take n m k xs (omega (arith, h))
 
-drop_sum : {A : Type 0} (a b k : ℕ) (xs : List A) → k ≡ a + b → drop k xs ≡ drop b (drop a xs)
+pub drop_sum : {A : Type 0} (a b k : ℕ) (xs : List A) → k ≡ a + b → drop k xs ≡ drop b (drop a xs)
 drop_sum zero b k xs h = let same : k ≡ b = omega (arith, h) in λ i. drop (same i) xs
 drop_sum (suc a) b zero xs h = absurd (omega (arith, h))
 drop_sum (suc a) zero (suc k) [] h = refl
 drop_sum (suc a) (suc b) (suc k) [] h = refl
 drop_sum (suc a) b (suc k) (x ∷ xs) h = drop_sum a b k xs (omega (arith, h))
 
-cuts_drop : (i : ℕ) (ns : List ℕ) (es : List Val) → cuts (drop i ns) (drop (total (take i ns)) es) ≡ drop i (cuts ns es)
+cuts_drop : {A : Type 0} (i : ℕ) (ns : List ℕ) (es : List A) → cuts (drop i ns) (drop (total (take i ns)) es) ≡ drop i (cuts ns es)
 cuts_drop zero ns es = refl
 cuts_drop (suc i) [] es = refl
 cuts_drop (suc i) (n ∷ ns) es = (λ j. cuts (drop i ns) (drop_sum n (total (take i ns)) (n + total (take i ns)) es refl j)) ∙ cuts_drop i ns (drop n es)
 
-cuts_take : (k t : ℕ) (ns : List ℕ) (es : List Val) → t ≡ total (take k ns) → cuts (take k ns) (take t es) ≡ take k (cuts ns es)
+cuts_take : {A : Type 0} (k t : ℕ) (ns : List ℕ) (es : List A) → t ≡ total (take k ns) → cuts (take k ns) (take t es) ≡ take k (cuts ns es)
 cuts_take zero t ns es h = refl
 cuts_take (suc k) t [] es h = refl
 cuts_take (suc k) t (n ∷ ns) es h =
@@ -139,7 +121,7 @@ total_take (suc j) (n ∷ ns) = omega (arith, total_take j ns)
 pub total_ordered : (i j : ℕ) (ns : List ℕ) → i ≤ j → total (take i ns) ≤ total (take j ns)
 total_ordered i j ns h = omega (arith, total_range i j ns h)
 
-cuts_slice : (i j : ℕ) (ns : List ℕ) (es : List Val) → i ≤ j → cuts (slice_range ns i j) (slice_range es (total (take i ns)) (total (take j ns))) ≡ slice_range (cuts ns es) i j
+pub cuts_slice : {A : Type 0} (i j : ℕ) (ns : List ℕ) (es : List A) → i ≤ j → cuts (slice_range ns i j) (slice_range es (total (take i ns)) (total (take j ns))) ≡ slice_range (cuts ns es) i j
 cuts_slice i j ns es h =
     let t : total (take j ns) - total (take i ns) ≡ total (take (j - i) (drop i ns)) = omega (arith, total_range i j ns h) in
     cuts_take (j - i) (total (take j ns) - total (take i ns)) (drop i ns) (drop (total (take i ns)) es) t ∙ (λ k. take (j - i) (cuts_drop i ns es k))
@@ -151,66 +133,45 @@ lists_slice i j ns es bs h e = (λ k. typed list_of (cuts_slice i j ns es h k) (
 pub slice_length : {A : Type 0} (i j : ℕ) (xs : List A) → i ≤ j → j ≤ length xs → length (slice_range xs i j) ≡ j - i
 slice_length i j xs h k = grind (arith, length-take, length-drop)
 
-pub whole_slice : (i j : ℕ) (ns : List ℕ) (es : List Val) → i ≤ j → total ns ≡ length es → total (slice_range ns i j) ≡ length (slice_range es (total (take i ns)) (total (take j ns)))
+pub whole_slice : {A : Type 0} (i j : ℕ) (ns : List ℕ) (es : List A) → i ≤ j → total ns ≡ length es → total (slice_range ns i j) ≡ length (slice_range es (total (take i ns)) (total (take j ns)))
 whole_slice i j ns es h e =
     let a = total_range i j ns h in
     let b = total_take j ns in
     omega (arith, a, slice_length (total (take i ns)) (total (take j ns)) es (total_ordered i j ns h) (omega (arith, b, e)))
 
-cuts_append : (ns ks : List ℕ) (es fs : List Val) → total ns ≡ length es → cuts (ns ++ ks) (es ++ fs) ≡ cuts ns es ++ cuts ks fs
-cuts_append [] ks [] fs h = refl
-cuts_append [] ks (e ∷ es) fs h = absurd (omega (arith, h))
-cuts_append (n ∷ ns) ks es fs h =
-    (λ i. take_first n es fs (omega (arith, h)) i ∷ cuts (ns ++ ks) (drop_first n es fs (omega (arith, h)) i))
-    ∙ (λ i. take n es ∷ cuts_append ns ks (drop n es) fs (omega (arith, h, length-drop n es)) i)
-  where
-    take_first : (n : ℕ) (xs ys : List Val) → n ≤ length xs → take n (xs ++ ys) ≡ take n xs
-    take_first zero xs ys h = refl
-    take_first (suc n) [] ys h = absurd (omega (arith, h))
-    take_first (suc n) (x ∷ xs) ys h = λ i. x ∷ take_first n xs ys (omega (arith, h)) i
-
-    drop_first : (n : ℕ) (xs ys : List Val) → n ≤ length xs → drop n (xs ++ ys) ≡ drop n xs ++ ys
-    drop_first zero xs ys h = refl
-    drop_first (suc n) [] ys h = absurd (omega (arith, h))
-    drop_first (suc n) (x ∷ xs) ys h = drop_first n xs ys (omega (arith, h))
-
 pub lists_append : (ns ks : List ℕ) (es fs : List Val) (bs cs : List Bool) → length bs ≡ length ns → total ns ≡ length es
     → typed list_of (cuts (ns ++ ks) (es ++ fs)) (bs ++ cs) ≡ typed list_of (cuts ns es) bs ++ typed list_of (cuts ks fs) cs
 lists_append ns ks es fs bs cs h e = (λ i. typed list_of (cuts_append ns ks es fs e i) (bs ++ cs)) ∙ typed_append list_of (cuts ns es) (cuts ks fs) bs cs (h ∙ sym (cuts_length ns es))
 
-pub total_append : (ns ks : List ℕ) → total (ns ++ ks) ≡ total ns + total ks
-total_append [] ks = omega arith
-total_append (n ∷ ns) ks = omega (arith, total_append ns ks)
-
 -- a filter of the lists, of their elements by lists
-where_true : (n : ℕ) (ms : List Bool) (es : List Val) → n ≤ length es → items_where_true (replicate n true ++ ms) es ≡ take n es ++ items_where_true ms (drop n es)
+pub where_true : {A : Type 0} (n : ℕ) (ms : List Bool) (es : List A) → n ≤ length es → items_where_true (replicate n true ++ ms) es ≡ take n es ++ items_where_true ms (drop n es)
 where_true zero ms es h = refl
 where_true (suc n) ms [] h = absurd (omega (arith, h))
 where_true (suc n) ms (e ∷ es) h = λ i. e ∷ where_true n ms es (omega (arith, h)) i
 
-where_false : (n : ℕ) (ms : List Bool) (es : List Val) → n ≤ length es → items_where_true (replicate n false ++ ms) es ≡ items_where_true ms (drop n es)
+pub where_false : {A : Type 0} (n : ℕ) (ms : List Bool) (es : List A) → n ≤ length es → items_where_true (replicate n false ++ ms) es ≡ items_where_true ms (drop n es)
 where_false zero ms es h = refl
 where_false (suc n) ms [] h = absurd (omega (arith, h))
 where_false (suc n) ms (e ∷ es) h = where_false n ms es (omega (arith, h))
 
-take_whole : (n : ℕ) (xs ys : List Val) → length xs ≡ n → take n (xs ++ ys) ≡ xs
+take_whole : {A : Type 0} (n : ℕ) (xs ys : List A) → length xs ≡ n → take n (xs ++ ys) ≡ xs
 take_whole zero [] ys h = refl
 take_whole (suc n) [] ys h = absurd (omega (arith, h))
 take_whole zero (x ∷ xs) ys h = absurd (omega (arith, h))
 take_whole (suc n) (x ∷ xs) ys h = λ i. x ∷ take_whole n xs ys (omega (arith, h)) i
 
-drop_whole : (n : ℕ) (xs ys : List Val) → length xs ≡ n → drop n (xs ++ ys) ≡ ys
+drop_whole : {A : Type 0} (n : ℕ) (xs ys : List A) → length xs ≡ n → drop n (xs ++ ys) ≡ ys
 drop_whole zero [] ys h = refl
 drop_whole (suc n) [] ys h = absurd (omega (arith, h))
 drop_whole zero (x ∷ xs) ys h = absurd (omega (arith, h))
 drop_whole (suc n) (x ∷ xs) ys h = drop_whole n xs ys (omega (arith, h))
 
-pub take_count : (n : ℕ) (es : List Val) → n ≤ length es → length (take n es) ≡ n
+pub take_count : {A : Type 0} (n : ℕ) (es : List A) → n ≤ length es → length (take n es) ≡ n
 take_count zero es h = refl
 take_count (suc n) [] h = absurd (omega (arith, h))
 take_count (suc n) (e ∷ es) h = λ i. suc (take_count n es (omega (arith, h)) i)
 
-cuts_where : (ms : List Bool) (ns : List ℕ) (es : List Val) → length ms ≡ length ns → total ns ≡ length es → cuts (items_where_true ms ns) (items_where_true (spread ms ns) es) ≡ items_where_true ms (cuts ns es)
+pub cuts_where : {A : Type 0} (ms : List Bool) (ns : List ℕ) (es : List A) → length ms ≡ length ns → total ns ≡ length es → cuts (items_where_true ms ns) (items_where_true (spread ms ns) es) ≡ items_where_true ms (cuts ns es)
 cuts_where [] ns es h e = refl
 cuts_where (m ∷ ms) [] es h e = absurd (omega (arith, h))
 cuts_where (true ∷ ms) (n ∷ ns) es h e =
@@ -228,7 +189,7 @@ pub lists_where : (ms : List Bool) (ns : List ℕ) (es : List Val) (bs : List Bo
     → typed list_of (cuts (items_where_true ms ns) (items_where_true (spread ms ns) es)) (items_where_true ms bs) ≡ items_where_true ms (typed list_of (cuts ns es) bs)
 lists_where ms ns es bs h k e = (λ i. typed list_of (cuts_where ms ns es h e i) (items_where_true ms bs)) ∙ typed_where list_of ms (cuts ns es) bs (k ∙ sym (cuts_length ns es))
 
-pub whole_where : (ms : List Bool) (ns : List ℕ) (es : List Val) → length ms ≡ length ns → total ns ≡ length es → total (items_where_true ms ns) ≡ length (items_where_true (spread ms ns) es)
+pub whole_where : {A : Type 0} (ms : List Bool) (ns : List ℕ) (es : List A) → length ms ≡ length ns → total ns ≡ length es → total (items_where_true ms ns) ≡ length (items_where_true (spread ms ns) es)
 whole_where [] ns es h e = refl
 whole_where (m ∷ ms) [] es h e = absurd (omega (arith, h))
 whole_where (true ∷ ms) (n ∷ ns) es h e =
@@ -262,6 +223,9 @@ structs_count k cs bs now e = ap (λ (d : Deep). length d.items) (sym e) ∙ str
 
 pub struct_nulls : (cs : List (List Val)) (bs : List Bool) → map not bs ≡ map (λ v. is_nothing (marked v)) (typed struct_of (rows_of (length bs) cs) bs)
 struct_nulls cs bs = typed_nulls struct_of (rows_of (length bs) cs) bs (λ x. refl) (sym (rows_length (length bs) cs))
+
+pub structs_here : (cs : List (List Val)) (bs : List Bool) → bs ≡ map is_here (typed struct_of (rows_of (length bs) cs) bs)
+structs_here cs bs = typed_here struct_of (rows_of (length bs) cs) bs (λ x. refl) (sym (rows_length (length bs) cs))
 
 pub structs_mask : (cs : List (List Val)) (bs ms : List Bool) → length ms ≡ length bs → typed struct_of (rows_of (length (both_true bs ms)) cs) (both_true bs ms) ≡ null_where_false ms (typed struct_of (rows_of (length bs) cs) bs)
 structs_mask cs bs ms h = (λ i. typed struct_of (rows_of (both_lengths bs ms h i) cs) (both_true bs ms)) ∙ typed_mask struct_of (rows_of (length bs) cs) bs ms (sym (rows_length (length bs) cs))

@@ -10,6 +10,7 @@ use Rattle.scan_values.proofs.MaskLemmas.{true_count-true, true_count-false}
 use Rattle.scan_values.specs.declared.ptype.Nullability.{Nullability}
 use Rattle.scan_expr.specs.declared.op.Binary.{Binary}
 use Rattle.scan_expr.specs.Eval.{comparison_value, holds, is_nothing}
+use Rattle.scan_spelling.specs.LeafColumns.{is_here}
 use Rattle.scan_columns.specs.Typed.{typed}
 use Rattle.scan_columns.specs.Compared.{compare_val}
 
@@ -143,6 +144,20 @@ int_nulls xs bs h = typed_nulls int_val xs bs (λ x. refl) h
 
 pub bool_nulls : (xs bs : List Bool) → length bs ≡ length xs → map not bs ≡ map (λ v. is_nothing (marked v)) (typed bool_val xs bs)
 bool_nulls xs bs h = typed_nulls bool_val xs bs (λ x. refl) h
+
+-- what is there
+pub typed_here : {A : Type 0} (f : A → Val) (xs : List A) (bs : List Bool) → ((x : A) → is_here (f x) ≡ true) → length bs ≡ length xs → bs ≡ map is_here (typed f xs bs)
+typed_here f [] [] there h = refl
+typed_here f [] (b ∷ bs) there h = absurd (omega (arith, h))
+typed_here f (x ∷ xs) [] there h = absurd (omega (arith, h))
+typed_here f (x ∷ xs) (true ∷ bs) there h = λ i. sym (there x) i ∷ typed_here f xs bs there (omega (arith, h)) i
+typed_here f (x ∷ xs) (false ∷ bs) there h = λ i. false ∷ typed_here f xs bs there (omega (arith, h)) i
+
+pub ints_here : (xs : List ℤ) (bs : List Bool) → length bs ≡ length xs → bs ≡ map is_here (typed int_val xs bs)
+ints_here xs bs h = typed_here int_val xs bs (λ x. refl) h
+
+pub bools_here : (xs bs : List Bool) → length bs ≡ length xs → bs ≡ map is_here (typed bool_val xs bs)
+bools_here xs bs h = typed_here bool_val xs bs (λ x. refl) h
 
 -- a truth value is true where its bit is and it is there
 pub bool_truths : (xs bs : List Bool) → both_true xs bs ≡ map (λ v. is_true (marked v)) (typed bool_val xs bs)

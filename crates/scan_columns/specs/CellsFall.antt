@@ -4,12 +4,13 @@ use Rattle.std.proofs.Common.{arith}
 use denote.Param.Weighed.{most}
 use Rattle.scan_columns.specs.Cells.{depth_in, deepest}
 use Rattle.scan_columns.specs.declared.cells.Cells.{Cells}
-use Rattle.scan_columns.specs.declared.cells.Cells.TheVariants.{Ints, Bools, Values, Constant, Lists, Structs}
+use Rattle.scan_columns.specs.declared.cells.Cells.TheVariants.{Ints, Bools, Texts, Values, Constant, Lists, Structs}
 use Rattle.scan_columns.specs.declared.cells.Lists.TheDeep.{deep-Cells}
 
 pub deep_falls : (c : Cells) → deep-Cells c ≤ depth_in c
 deep_falls (Ints vs) = omega arith
 deep_falls (Bools vs) = omega arith
+deep_falls (Texts d) = omega arith
 deep_falls (Values vs) = omega arith
 deep_falls (Constant vs) = omega arith
 deep_falls (Lists d) = omega arith

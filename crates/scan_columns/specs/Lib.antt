@@ -10,6 +10,7 @@ pub mod Joined
 pub mod Literals
 pub mod Operands
 pub mod Rows
+pub mod Texts
 pub mod Kept
 pub mod LastUses
 pub mod Access

@@ -3,6 +3,7 @@ use Rattle.std.specs.Prelude.{◌≡◌, ◌≤◌, ℕ, zero, suc, ◌+◌, ◌
 use Rattle.std.specs.List.{flat_map}
 use Rattle.std.specs.Coded.{Coded, code_by, coded×, coded_ℕ, coded_list}
 use Rattle.scan_values.specs.Val.{Val, val_code, list_val, struct_val, vals_of}
+pub use Rattle.scan_spelling.specs.Cuts.{sizes, Rises, sums, total, cuts}
 
 -- what a contract sees of a kind that holds cells: how deep cells stand in it, and its values
 pub record Deep : Type 0 where
@@ -20,31 +21,6 @@ list_of vs = list_val (vals_of vs)
 
 abbrev pub struct_of : List Val → Val
 struct_of vs = struct_val (vals_of vs)
-
--- how many elements each list has, by where each ends
-abbrev pub sizes : ℕ → List ℕ → List ℕ
-sizes start [] = []
-sizes start (k ∷ ks) = (k - start) ∷ sizes k ks
-
--- no list ends before it begins
-abbrev pub Rises : ℕ → List ℕ → Type 0
-Rises start [] = Unit {0}
-Rises start (k ∷ ks) = (start ≤ k) × Rises k ks
-
--- where each list ends, by how many elements each has
-abbrev pub sums : ℕ → List ℕ → List ℕ
-sums start [] = []
-sums start (n ∷ ns) = (start + n) ∷ sums (start + n) ns
-
--- how many elements lists of these sizes have
-abbrev pub total : List ℕ → ℕ
-total [] = 0
-total (n ∷ ns) = n + total ns
-
--- the elements, cut into lists of these sizes
-abbrev pub cuts : List ℕ → List Val → List (List Val)
-cuts [] es = []
-cuts (n ∷ ns) es = take n es ∷ cuts ns (drop n es)
 
 -- for each element, whether its list is kept
 abbrev pub spread : List Bool → List ℕ → List Bool

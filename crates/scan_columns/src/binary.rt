@@ -11,6 +11,7 @@ use crate::bools::Bools;
 use crate::by_value::{binary_of, compared_pair};
 use crate::cells::Cells;
 use crate::integers::{numbers_compared, numbers_of, numbers_summed};
+use crate::strings::{compared_with_text, text_compared_with, texts_compared};
 use crate::truths::{truths_of, truths_paired};
 use scan_expr::{ApplyFault, Binary};
 use scan_values::{DType, NoMemory, Values};
@@ -136,10 +137,31 @@ fn other_comparison(
     ensures { IfOk result (λ o. IfSome o (λ c. vals_in c ≡ paired (pair_val op) (vals_in x.now) (vals_in y.now))) }
 {
     if is_comparison(op) {
-        let truths = values_compared(alloc, op, x, y)?;
+        let truths = cells_compared(alloc, op, x, y)?;
         Ok(Some(Cells::Bools(truths)))
     } else {
         Ok(None)
+    }
+}
+
+/// The same: of texts in one buffer, or one and a text that stands everywhere, where they stand, else of one value
+/// after another.
+fn cells_compared(alloc: Global, op: Binary, x: &Cells, y: &Cells) -> Result<Bools, NoMemory>
+    requires even { length (vals_in y.now) ≡ length (vals_in x.now) }
+    requires compares { is_comparison op ≡ true }
+    ensures { IfOk result (λ v. v ≡ paired (pair_val op) (vals_in x.now) (vals_in y.now)) }
+{
+    match (x, y) {
+        (Cells::Texts(first), Cells::Texts(second)) => texts_compared(alloc, op, first, second),
+        (Cells::Texts(first), Cells::Constant(second)) => match second.text() {
+            Some(text) => compared_with_text(alloc, op, first, second, text.as_bytes()),
+            None => values_compared(alloc, op, x, y),
+        },
+        (Cells::Constant(first), Cells::Texts(second)) => match first.text() {
+            Some(text) => text_compared_with(alloc, op, first, text.as_bytes(), second),
+            None => values_compared(alloc, op, x, y),
+        },
+        _ => values_compared(alloc, op, x, y),
     }
 }
 

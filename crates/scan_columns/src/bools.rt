@@ -6,12 +6,13 @@ ghost use Rattle.scan_values.specs.Values.{val_of};
 ghost use Rattle.scan_values.specs.Val.{marked, null_val, bool_val};
 ghost use Rattle.scan_values.specs.Masks.{null_where_false};
 ghost use Rattle.scan_expr.specs.Eval.{is_nothing};
+ghost use Rattle.scan_spelling.specs.LeafColumns.{is_here};
 ghost use Rattle.scan_columns.specs.Typed.{typed, cell};
 ghost use Rattle.scan_columns.specs.Evaluated.{not_val, paired};
 ghost use Rattle.scan_columns.specs.Literals.{is_comparison, is_logic};
 ghost use Rattle.scan_columns.specs.Operands.{pair_val};
 
-use crate::slots::{both, contrary, kept};
+use crate::slots::{all_true, both, contrary, kept};
 use crate::truths::paired_slots;
 use scan_expr::Binary;
 use scan_spelling::BoolRun;
@@ -75,6 +76,26 @@ impl Bools {
         ensures { Some (cell bool_val result) ≡ slice_get self.now i }
     {
         bool_slot_at(self.values.as_slice(), self.valid.as_slice(), i)
+    }
+
+    /// For each whether it is there.
+    #[tactic(auto, using(crate::proofs::TypedLemmas::bools_here))]
+    pub fn validity(&self) -> &[bool]
+        ensures { result.now ≡ map is_here self.now }
+    {
+        self.valid.as_slice()
+    }
+
+    /// The truth values, where all are there.
+    #[tactic(auto, using(crate::proofs::KeptLemmas::typed_all))]
+    pub fn all_there<'a>(&'a self) -> Option<&'a [bool]>
+        ensures { IfSome result (λ bs. map bool_val bs.now ≡ self.entry.now) }
+    {
+        if all_true(self.valid.as_slice()) {
+            Some(self.values.as_slice())
+        } else {
+            None
+        }
     }
 
     /// The values.

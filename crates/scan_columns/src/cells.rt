@@ -9,12 +9,14 @@ ghost use Rattle.scan_expr.specs.Eval.{is_nothing};
 ghost use Rattle.scan_columns.specs.Compared.{compare_val};
 ghost use Rattle.scan_expr.specs.Lending.{lent_val};
 ghost use Rattle.scan_columns.specs.Cells.{vals_in};
+ghost use Rattle.scan_columns.specs.Texts.{texts_in};
 
 use crate::bools::{Bools, bools_of};
 use crate::compared::is_null;
 use crate::constant::Constant;
 use crate::ends::Ends;
 use crate::ints::{Ints, ints_of};
+use crate::texts::Texts;
 use crate::values::{appended, compared_values, copied, kept_values, masked_values};
 use scan_expr::{Binary, Lent};
 use scan_values::{DType, Mask, NoMemory, Value, Values};
@@ -28,6 +30,7 @@ use std::ops::Range;
 pub enum Cells {
     Ints(Ints),
     Bools(Bools),
+    Texts(Texts),
     Values(Values),
     Constant(Constant),
     Lists(Lists),
@@ -127,6 +130,7 @@ impl Cells {
         match self {
             Cells::Ints(ints) => ints.len(),
             Cells::Bools(bools) => bools.len(),
+            Cells::Texts(texts) => texts.len(),
             Cells::Values(values) => values.len(),
             Cells::Constant(constant) => constant.len(),
             Cells::Lists(lists) => lists.len(),
@@ -152,6 +156,7 @@ impl Cells {
         match self {
             Cells::Ints(ints) => Ok(Lent::Made(ints.value(i))),
             Cells::Bools(bools) => Ok(Lent::Made(bools.value(i))),
+            Cells::Texts(texts) => Ok(Lent::Made(texts.value(alloc, i)?)),
             Cells::Values(values) => Ok(Lent::Held(&values.as_slice()[i])),
             Cells::Constant(constant) => Ok(Lent::Held(constant.value(i))),
             Cells::Lists(_) | Cells::Structs(_) => Ok(Lent::Made(self.made(alloc, i)?)),
@@ -179,6 +184,7 @@ impl Cells {
         match self {
             Cells::Ints(ints) => ints.to_values(alloc),
             Cells::Bools(bools) => bools.to_values(alloc),
+            Cells::Texts(texts) => texts.to_values(alloc),
             Cells::Values(values) => Ok(values.into_vec()),
             Cells::Constant(constant) => constant.to_values(alloc),
             Cells::Lists(lists) => lists.into_values(alloc),
@@ -195,6 +201,7 @@ impl Cells {
         match self {
             Cells::Ints(ints) => Ok(Cells::Ints(ints.filter(alloc, m)?)),
             Cells::Bools(bools) => Ok(Cells::Bools(bools.filter(alloc, m)?)),
+            Cells::Texts(texts) => Ok(Cells::Texts(texts.filter(alloc, m)?)),
             Cells::Values(values) => {
                 let made = kept_values(alloc, values.as_slice(), m)?;
                 Ok(Cells::Values(Values::new(made)))
@@ -213,6 +220,7 @@ impl Cells {
         match self {
             Cells::Ints(ints) => Ok(Cells::Ints(ints.mask(alloc, m)?)),
             Cells::Bools(bools) => Ok(Cells::Bools(bools.mask(alloc, m)?)),
+            Cells::Texts(texts) => Ok(Cells::Texts(texts.mask(alloc, m)?)),
             Cells::Values(values) => {
                 let made = masked_values(alloc, values.as_slice(), m)?;
                 Ok(Cells::Values(Values::new(made)))
@@ -237,6 +245,7 @@ impl Cells {
         match self {
             Cells::Ints(ints) => Ok(Cells::Ints(ints.slice(alloc, r)?)),
             Cells::Bools(bools) => Ok(Cells::Bools(bools.slice(alloc, r)?)),
+            Cells::Texts(texts) => Ok(Cells::Texts(texts.slice(alloc, r)?)),
             Cells::Values(values) => {
                 let made = copied(alloc, values.as_slice(), r)?;
                 Ok(Cells::Values(Values::new(made)))
@@ -255,6 +264,7 @@ impl Cells {
         match (self, other) {
             (Cells::Ints(ints), Cells::Ints(others)) => Ok(Cells::Ints(ints.append(&others)?)),
             (Cells::Bools(bools), Cells::Bools(others)) => Ok(Cells::Bools(bools.append(&others)?)),
+            (Cells::Texts(texts), Cells::Texts(others)) => Ok(Cells::Texts(texts.append(&others)?)),
             (Cells::Lists(lists), Cells::Lists(others)) => {
                 Ok(Cells::Lists(lists.append(alloc, others)?))
             }
@@ -271,6 +281,7 @@ impl Cells {
         match self {
             Cells::Ints(ints) => Ok(Cells::Ints(ints.try_clone(alloc)?)),
             Cells::Bools(bools) => Ok(Cells::Bools(bools.try_clone(alloc)?)),
+            Cells::Texts(texts) => Ok(Cells::Texts(texts.try_clone(alloc)?)),
             Cells::Values(values) => Ok(Cells::Values(values.try_clone(alloc)?)),
             Cells::Constant(constant) => Ok(Cells::Constant(constant.try_clone(alloc)?)),
             Cells::Lists(lists) => Ok(Cells::Lists(lists.try_clone(alloc)?)),
@@ -286,6 +297,11 @@ impl Cells {
             Cells::Ints(ints) => Ok(Cells::Bools(ints.compare(alloc, op, literal)?)),
             Cells::Bools(bools) => {
                 let values = bools.to_values(alloc)?;
+                let made = compared_values(alloc, op, values.as_slice(), literal)?;
+                Ok(Cells::Values(Values::new(made)))
+            }
+            Cells::Texts(texts) => {
+                let values = texts.to_values(alloc)?;
                 let made = compared_values(alloc, op, values.as_slice(), literal)?;
                 Ok(Cells::Values(Values::new(made)))
             }
@@ -325,6 +341,7 @@ impl Cells {
         match self {
             Cells::Ints(ints) => ints.nulls(alloc),
             Cells::Bools(bools) => bools.nulls(alloc),
+            Cells::Texts(texts) => texts.nulls(alloc),
             Cells::Constant(constant) => constant.nulls(alloc),
             Cells::Lists(lists) => lists.nulls(alloc),
             Cells::Structs(structs) => structs.nulls(alloc),

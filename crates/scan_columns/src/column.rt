@@ -23,8 +23,8 @@ use std::marker::Model;
 use std::ops::Range;
 use std::sync::Arc;
 
-/// So many values of one dtype, kept by kind: integers as numbers, truth values as bits, one value that stands
-/// everywhere once, and anything else as values. Columns share their dtype.
+/// So many values of one dtype, kept by kind: integers as numbers, truth values as bits, texts of a leaf in one buffer,
+/// one value that stands everywhere once, and anything else as values. Columns share their dtype.
 /// Contracts see of it what they see of an `Array`. After the crate's `vortex_array::ArrayRef`.
 #[derive(Drop)]
 pub struct Column {

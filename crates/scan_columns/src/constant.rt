@@ -2,7 +2,7 @@
 ghost use Rattle.std.specs.Prelude.{◌≡◌, ◌<◌, ◌≤◌, ◌-◌, IfOk, IfSome, Some, map, length, replicate, slice_get, slice_range};
 ghost use Rattle.std.specs.List.{items_where_true};
 ghost use Rattle.scan_values.specs.Values.{val_of};
-ghost use Rattle.scan_values.specs.Val.{marked, bool_val, int_val};
+ghost use Rattle.scan_values.specs.Val.{marked, bool_val, int_val, text_val};
 ghost use Rattle.scan_expr.specs.Eval.{is_nothing};
 ghost use Rattle.scan_columns.specs.Compared.{compare_val};
 
@@ -92,6 +92,16 @@ impl Constant {
     {
         match self.value {
             Value::Bool(bit) => Some(bit),
+            _ => None,
+        }
+    }
+
+    /// The text that the value is, where it is one.
+    pub fn text<'a>(&'a self) -> Option<&'a str>
+        ensures { IfSome result (λ t. self.entry.now ≡ replicate (length self.entry.now) (text_val t.now)) }
+    {
+        match &self.value {
+            Value::Text(text) => Some(text.as_str()),
             _ => None,
         }
     }

@@ -8,7 +8,7 @@ ghost use Rattle.scan_values.specs.Values.{val_of};
 ghost use Rattle.scan_values.specs.Val.{marked, null_val, int_val};
 ghost use Rattle.scan_values.specs.Masks.{null_where_false};
 ghost use Rattle.scan_expr.specs.Eval.{is_nothing};
-ghost use Rattle.scan_spelling.specs.LeafColumns.{int_or_null};
+ghost use Rattle.scan_spelling.specs.LeafColumns.{int_or_null, is_here};
 ghost use Rattle.scan_columns.specs.Typed.{typed, cell};
 ghost use Rattle.scan_columns.specs.Kept.{numbers_in};
 ghost use Rattle.scan_columns.specs.Evaluated.{paired};
@@ -83,6 +83,14 @@ impl Ints {
         ensures { Some (cell int_val result) ≡ slice_get self.now i }
     {
         int_slot_at(&self.numbers, self.valid.as_slice(), i)
+    }
+
+    /// For each whether it is there.
+    #[tactic(auto, using(crate::proofs::TypedLemmas::ints_here))]
+    pub fn validity(&self) -> &[bool]
+        ensures { result.now ≡ map is_here self.now }
+    {
+        self.valid.as_slice()
     }
 
     /// The numbers, where all are there and they are kept as i64.

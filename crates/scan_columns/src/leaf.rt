@@ -3,15 +3,17 @@ ghost use Rattle.std.specs.Prelude.{◌≡◌, ◌<◌, ◌≤◌, ◌+◌, ◌+
 ghost use Rattle.std.specs.List.{items_where_true};
 ghost use Rattle.scan_values.specs.Arrays.{of_parts};
 ghost use Rattle.scan_values.specs.Kinds.{ptype_of};
-ghost use Rattle.scan_values.specs.Fits.{is_bool_type};
+ghost use Rattle.scan_values.specs.Fits.{is_bool_type, is_utf8_type};
 ghost use Rattle.scan_spelling.specs.LeafColumns.{int_or_null};
 ghost use Rattle.scan_columns.specs.Cells.{vals_in};
+ghost use Rattle.scan_columns.specs.Texts.{texts_in};
 
 use crate::bools::Bools;
 use crate::cells::Cells;
 use crate::column::Column;
 use crate::ints::Ints;
 use crate::kept::Kept;
+use crate::texts::Texts;
 use crate::values::appended;
 use scan_spelling::LeafColumn;
 use scan_values::{DType, NoMemory, Values};
@@ -27,8 +29,8 @@ impl Column {
         Column::of_fitting(dtype, cells)
     }
 
-    /// Of so many rows of a leaf's segment as the mask has, from a first one on, the true ones. Numbers and truth values
-    /// are had as such, and no `Value` is made of them.
+    /// Of so many rows of a leaf's segment as the mask has, from a first one on, the true ones. Numbers, truth values
+    /// and texts are had as such, and no `Value` is made of them.
     pub fn from_leaf(
         alloc: Global,
         dtype: Arc<DType>,
@@ -74,6 +76,8 @@ impl Cells {
             Cells::Ints(Ints::new(Kept::Narrow(Vec::new(alloc)), Vec::new(alloc)))
         } else if dtype.is_bool() {
             Cells::Bools(Bools::new(Vec::new(alloc), Vec::new(alloc)))
+        } else if dtype.is_utf8() {
+            Cells::Texts(Texts::empty(alloc))
         } else {
             Cells::Values(Values::new(Vec::new(alloc)))
         }
@@ -94,6 +98,7 @@ impl Cells {
         match self {
             Cells::Ints(ints) => ints_extended(alloc, ints, leaf, first, mask),
             Cells::Bools(bools) => bools_extended(alloc, bools, leaf, first, mask),
+            Cells::Texts(texts) => texts_extended(alloc, texts, leaf, first, mask),
             cells => values_extended(alloc, cells, leaf, first, mask),
         }
     }
@@ -149,6 +154,25 @@ fn bools_extended(
         Ok(Cells::Bools(more_bools(alloc, bools, leaf, first, mask)?))
     } else {
         values_extended(alloc, Cells::Bools(bools), leaf, first, mask)
+    }
+}
+
+fn texts_extended(
+    alloc: Global,
+    texts: Texts,
+    leaf: &LeafColumn,
+    first: usize,
+    mask: &[bool],
+) -> Result<Cells, NoMemory>
+    requires { first + length mask.now ≤ length leaf.now.items }
+    ensures { IfOk result (λ c. vals_in c ≡ texts_in texts
+        ++ items_where_true mask.now (slice_range leaf.now.items first (first + length mask.now))) }
+{
+    if leaf.dtype().is_utf8() {
+        let run = leaf.texts(alloc, first, mask)?;
+        Ok(Cells::Texts(texts.extend(run)?))
+    } else {
+        values_extended(alloc, Cells::Texts(texts), leaf, first, mask)
     }
 }
 

@@ -16,6 +16,7 @@ mod ints;
 mod kept;
 mod laws;
 mod leaf;
+mod lent;
 mod lists;
 mod nodes;
 mod numbers;
@@ -24,7 +25,9 @@ mod picks;
 mod rest;
 mod rows;
 mod slots;
+mod strings;
 mod structs;
+mod texts;
 mod threads;
 mod truths;
 mod unary;
@@ -38,4 +41,5 @@ pub use ints::Ints;
 pub use laws::{
     an_evaluation_gives_what_apply_gives, an_evaluation_over_parts_gives_what_apply_gives,
 };
+pub use texts::Texts;
 pub use threads::columns_cross_threads;

@@ -5,6 +5,7 @@ ghost use Rattle.scan_values.specs.Values.{val_of};
 ghost use Rattle.scan_values.specs.Val.{marked, null_val};
 ghost use Rattle.scan_values.specs.Masks.{null_where_false};
 ghost use Rattle.scan_expr.specs.Eval.{is_nothing};
+ghost use Rattle.scan_spelling.specs.LeafColumns.{is_here};
 ghost use Rattle.scan_columns.specs.Cells.{vals_in};
 ghost use Rattle.scan_columns.specs.Nested.{sizes, Rises, total, cuts, list_of};
 ghost use Rattle.scan_columns.specs.Operands.{length_val};
@@ -55,6 +56,14 @@ impl Lists {
         } = self;
         let values = Box::into_inner(elements).into_values(alloc)?;
         lists_from(alloc, ends.as_slice(), valid.as_slice(), values)
+    }
+
+    /// For each whether it is there.
+    #[tactic(auto, using(crate::proofs::NestedLemmas::lists_here))]
+    pub fn validity(&self) -> &[bool]
+        ensures { result.now ≡ map is_here self.now.items }
+    {
+        self.valid.as_slice()
     }
 
     /// Where there is no list.

@@ -5,6 +5,7 @@ ghost use Rattle.scan_values.specs.Values.{val_of};
 ghost use Rattle.scan_values.specs.Val.{marked, null_val};
 ghost use Rattle.scan_values.specs.Masks.{null_where_false};
 ghost use Rattle.scan_expr.specs.Eval.{is_nothing};
+ghost use Rattle.scan_spelling.specs.LeafColumns.{is_here};
 ghost use Rattle.scan_columns.specs.Cells.{vals_in};
 ghost use Rattle.scan_columns.specs.Nested.{rows_of, struct_of, AreLong};
 ghost use Rattle.scan_columns.specs.Operands.{field_val};
@@ -47,6 +48,14 @@ impl Structs {
             columns.push(Rest::new(field.into_values(alloc)?))?;
         }
         structs_from(alloc, valid.as_slice(), &mut columns)
+    }
+
+    /// For each whether it is there.
+    #[tactic(auto, using(crate::proofs::NestedLemmas::structs_here))]
+    pub fn validity(&self) -> &[bool]
+        ensures { result.now ≡ map is_here self.now.items }
+    {
+        self.valid.as_slice()
     }
 
     /// Where there is no struct.

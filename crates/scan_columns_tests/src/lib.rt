@@ -4,6 +4,8 @@
 #[cfg(test)]
 mod columns;
 #[cfg(test)]
+mod leaves;
+#[cfg(test)]
 mod nodes;
 #[cfg(test)]
 mod parts;
