@@ -1,4 +1,6 @@
 pub mod Pieces
+pub mod Sending
+pub mod Adding
 pub mod MemoryPieces
 pub mod Fronts
 pub mod Printing

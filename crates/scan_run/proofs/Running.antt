@@ -1,6 +1,11 @@
 -- What a run has done at each of its ends.
-use Rattle.std.proofs.Common.{◌≡◌, ◌≢◌, ◌⊎◌, inl, inr, ℕ, ◌<◌, List, ◌++◌, Option, None, Some, sym, ap, ◌∙◌, subst, arith}
-use Rattle.std.specs.Prelude.{IfSome, option_map, length}
+use Rattle.std.proofs.Common.{◌≡◌, ◌≢◌, ◌⊎◌, inl, inr, ℕ, ◌<◌, List, ◌++◌, Option, None, Some, refl, sym, ap, ◌∙◌, subst, arith}
+use Rattle.std.specs.Prelude.{IfSome, option_map, length, All}
+use Rattle.scan_values.specs.DataType.{DataType}
+use Rattle.scan_expr.specs.Infer.{infer}
+use Rattle.scan_multi.specs.Output.{ChunkData, IsChunk}
+use Rattle.scan_run.specs.Printed.{chunks_lines}
+use Rattle.scan_run.proofs.Stopping.{text_printed}
 use Rattle.scan_manifest.specs.declared.manifest.Manifest.{Manifest}
 use Rattle.scan_run.specs.declared.run.Stop.{Stop}
 use Rattle.scan_run.specs.declared.run.Stop.TheVariants.{Unbound, Unreadable, Failed, NoMemory}
@@ -123,9 +128,12 @@ module _ (s : ℕ) (old new : InputState) where
   end_below (inr (m, stop, g, i, e)) = let k = (stop_status stop).3 in omega arith
 
 -- ---- the lines were written, whole or in part
-module _ (text bytes : List ℕ) (old new : InputState) (output output' : OutputState) (same : bytes ≡ text) where
-  pub ready_done : IsReady text old new → output'.written ≡ option_map (λ before. before ++ bytes) output.written → IsDone old new output output'
-  ready_done (m, (all, g, i), t) w = done_is old new output output' all text m g i t (subst (λ xs. output'.written ≡ option_map (λ before. before ++ xs) output.written) same w)
+pub ready_chunks : (chunks : List ChunkData) (old new : InputState) → IsReady chunks old new → (d : DataType) × All (IsChunk d) chunks
+ready_chunks chunks old new (m, g, s) = (infer m.dtype m.request.projection, s.admits.chunks)
 
-  pub ready_front : IsReady text old new → WroteFront bytes output output' → WroteFrontOfLines old new output output'
-  ready_front (m, (all, g, i), t) w = front_is old new output output' all text m g i t (subst (λ xs. WroteFront xs output output') same w)
+module _ (chunks : List ChunkData) (old new : InputState) (output output' : OutputState) where
+  pub ready_done : IsReady chunks old new → output'.written ≡ option_map (λ before. before ++ chunks_lines chunks) output.written → IsDone old new output output'
+  ready_done (m, (all, g, i), s) w = done_is old new output output' all (chunks_lines chunks) m g i (text_printed m chunks (chunks_lines chunks) s refl) w
+
+  pub ready_front : IsReady chunks old new → WroteFront (chunks_lines chunks) output output' → WroteFrontOfLines old new output output'
+  ready_front (m, (all, g, i), s) w = front_is old new output output' all (chunks_lines chunks) m g i (text_printed m chunks (chunks_lines chunks) s refl) w

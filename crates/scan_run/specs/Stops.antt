@@ -75,6 +75,6 @@ Halts s old new = ((s ≡ 2) × IsRefused old new) ⊎ ((s ≡ 6) × (Rose old.f
 abbrev pub Ends : ℕ → InputState → InputState → Type 0
 Ends s old new = Halts s old new ⊎ ((m : Manifest) × (stop : Stop) × IsGiven m old new × IsStop m stop × (s ≡ status_of stop))
 
--- these are the lines of the manifest that the input is
-abbrev pub IsReady : List ℕ → InputState → InputState → Type 0
-IsReady text old new = (m : Manifest) × IsGiven m old new × IsTextOf m text
+-- these are chunks of an output that the manifest which the input is admits
+abbrev pub IsReady : List ChunkData → InputState → InputState → Type 0
+IsReady chunks old new = (m : Manifest) × IsGiven m old new × IsScanned m chunks

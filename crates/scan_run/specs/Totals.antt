@@ -1,5 +1,5 @@
 -- The number of rows that a scan of generated files gives, and the sums of their fields.
-use Rattle.std.specs.Prelude.{ℕ, ◌+◌, ℤ, pos, ◌+ℤ◌, List, [], ◌∷◌, ◌++◌, Option, None, Some, length, codes}
+use Rattle.std.specs.Prelude.{◌≡◌, ℕ, ◌+◌, ℤ, pos, ◌+ℤ◌, List, [], ◌∷◌, ◌++◌, Option, None, Some, length, map, codes}
 use Rattle.std.specs.Fmt.{decimal, signed_decimal}
 use Rattle.scan_values.specs.Val.{Val, int_val, struct_val, no_vals, val}
 use Rattle.scan_multi.specs.Answer.{Item}
@@ -35,6 +35,16 @@ with_values t (v ∷ vs) = with_values (with_row t v) vs
 abbrev pub with_chunks : Totals → List ChunkData → Totals
 with_chunks t [] = t
 with_chunks t (c ∷ cs) = with_chunks (with_values t c.values.items) cs
+
+-- the integers in the first and in the second fields of rows
+pub record HaveNumbers (ids lengths : List ℤ) (values : List Val) : Type 0 where
+  pub first : map id_in values ≡ ids
+  pub second : map length_in values ≡ lengths
+
+-- a number, and then others
+abbrev pub added : ℤ → List ℤ → ℤ
+added z [] = z
+added z (n ∷ ns) = added (z +ℤ n) ns
 
 abbrev pub no_totals : Totals
 no_totals = record { rows = 0; ids = pos 0; lengths = pos 0 }

@@ -10,3 +10,11 @@ pub record WroteFront (bytes : List ℕ) (old new : OutputState) : Type 0 where
   pub written : new.written ≡ option_map (λ before. before ++ front) old.written
   pub faults : old.faults ≤ new.faults
   pub short : old.short ≤ new.short
+
+-- Behind what was kept so far a text was made. A front of both was written, and the rest is kept now.
+pub record Sends (text kept left : List ℕ) (old new : OutputState) : Type 0 where
+  pub sent : List ℕ
+  pub parts : kept ++ text ≡ sent ++ left
+  pub written : new.written ≡ option_map (λ before. before ++ sent) old.written
+  pub faults : old.faults ≤ new.faults
+  pub short : old.short ≤ new.short

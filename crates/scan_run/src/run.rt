@@ -8,9 +8,8 @@ ghost use Rattle.scan_opener.specs.OpenerMemory.{given_of};
 ghost use Rattle.scan_multi.specs.Output.{ChunkData};
 ghost use Rattle.scan_multi.specs.declared.scan.fault.ScanFault.TheVariants as fault;
 ghost use Rattle.scan_run.specs.ReadAll.{TookMore};
-ghost use Rattle.scan_run.specs.Run.{is_scan_words, IsScanned, printed, IsDone, IsRefused, IsFound, IsUnbound, IsUnreadable, IsFailing, WroteNone};
-ghost use Rattle.scan_run.specs.Printed.{chunks_lines};
-ghost use Rattle.scan_run.specs.Stops.{stop_of, status_of, IsStop, IsTextOf, WroteFrontOfLines, IsGiven, Halts, IsReady, Ends};
+ghost use Rattle.scan_run.specs.Run.{is_scan_words, IsScanned, IsDone, IsRefused, IsFound, IsUnbound, IsUnreadable, IsFailing, WroteNone};
+ghost use Rattle.scan_run.specs.Stops.{stop_of, status_of, IsStop, WroteFrontOfLines, IsGiven, Halts, IsReady, Ends};
 ghost use Rattle.scan_run.specs.GeneratedLine.{IsGenerated, WroteFrontOfLine, AskNothing};
 ghost use Rattle.scan_run.specs.FileOf.{IsFileOf, AreFilesOf, AreReady};
 ghost use Rattle.scan_run.specs.AskedOf.{IsAsked};
@@ -21,14 +20,16 @@ ghost use Rattle.scan_manifest.specs.declared.manifest.Manifest.{Manifest};
 use crate::generate::{generated_of, generated_text};
 use crate::input::{Input, MOST_BYTES, ReadFault, read_all};
 use crate::output::{Output, WriteFault, write_all};
-use crate::print::push_chunks;
+use crate::print::write_output;
 use scan_caches::MokaSegmentCache;
 use scan_expr::ScanRequest;
 use scan_layout::LayoutRef;
 use scan_manifest::{
     CacheSpec, FileSpec, Files, LayoutTree, Manifest, ParseFault, manifest_of_bytes,
 };
-use scan_multi::{Gate, MemoryOpener, RangeFault, ScanFault, ScanFile, ScanOutput, scan_files};
+use scan_multi::{
+    ColumnOutput, Gate, MemoryOpener, RangeFault, ScanFault, ScanFile, scan_columns_of,
+};
 use scan_segments::{MemorySource, SegmentSourceId};
 use scan_values::{DType, NoMemory};
 use std::alloc::Global;
@@ -166,7 +167,7 @@ fn run_manifest<R: Threads + Sync, G: Gate, S: BuildHasher + Copy + Drop>(
     manifest: Manifest,
     gate: &G,
     hasher: S,
-) -> Result<ScanOutput, Stop>
+) -> Result<ColumnOutput, Stop>
     requires { all_agree manifest.files ≡ true }
     ensures ok { IfOk result (λ out. IsScanned manifest out.chunks) }
     ensures stop { IfErr result (λ s. IsStop manifest s) }
@@ -210,7 +211,7 @@ fn scan_made<R: Threads + Sync, G: Gate, S: BuildHasher + Copy + Drop>(
     made: Vec<ScanFile<MemoryOpener, MemorySource>>,
     gate: &G,
     hasher: S,
-) -> Result<ScanOutput, Stop>
+) -> Result<ColumnOutput, Stop>
     requires { AreReady made.items }
     ensures ok { IfOk result (λ out. (m : Manifest) → IsAsked m asked.now → AreFilesOf m.files made.items →
         IsScanned m out.chunks) }
@@ -222,7 +223,7 @@ fn scan_made<R: Threads + Sync, G: Gate, S: BuildHasher + Copy + Drop>(
         Ok(cache) => cache,
         Err(NoMemory) => return Err(Stop::NoMemory),
     };
-    match scan_files(
+    match scan_columns_of(
         rt,
         alloc,
         &asked.dtype,
@@ -234,36 +235,6 @@ fn scan_made<R: Threads + Sync, G: Gate, S: BuildHasher + Copy + Drop>(
     ) {
         Ok(out) => Ok(out),
         Err(e) => Err(stop_of(e)),
-    }
-}
-
-/// The lines of a scan's chunks.
-fn text_of(alloc: Global, out: &ScanOutput) -> Result<Vec<u8>, NoMemory>
-    ensures { IfOk result (λ text. text.items ≡ chunks_lines out.now.chunks) }
-{
-    let mut text = Vec::new(alloc);
-    push_chunks(out.chunks.as_slice(), &mut text)?;
-    Ok(text)
-}
-
-/// The lines of a manifest's scan.
-fn scan_text<R: Threads + Sync, G: Gate, S: BuildHasher + Copy + Drop>(
-    rt: &R,
-    alloc: Global,
-    manifest: Manifest,
-    gate: &G,
-    hasher: S,
-) -> Result<Vec<u8>, Stop>
-    requires { all_agree manifest.files ≡ true }
-    ensures ok { IfOk result (λ text. IsTextOf manifest text.items) }
-    ensures stop { IfErr result (λ s. IsStop manifest s) }
-{
-    match run_manifest(rt, alloc, manifest, gate, hasher) {
-        Ok(out) => match text_of(alloc, &out) {
-            Ok(text) => Ok(text),
-            Err(NoMemory) => Err(Stop::NoMemory),
-        },
-        Err(stop) => Err(stop),
     }
 }
 
@@ -287,21 +258,21 @@ fn take_manifest<I: Input>(alloc: Global, input: &mut I) -> Result<Manifest, u8>
     }
 }
 
-/// The lines of the scan of the manifest that an input is, or a status.
-fn take_text<R: Threads + Sync, I: Input, G: Gate, S: BuildHasher + Copy + Drop>(
+/// What the scan of the manifest that an input is gives, or a status.
+fn take_output<R: Threads + Sync, I: Input, G: Gate, S: BuildHasher + Copy + Drop>(
     rt: &R,
     alloc: Global,
     input: &mut I,
     gate: &G,
     hasher: S,
-) -> Result<Vec<u8>, u8>
-    ensures ok { IfOk result (λ text. IsReady text.items (I.input input.old) (I.input input.new)) }
+) -> Result<ColumnOutput, u8>
+    ensures ok { IfOk result (λ out. IsReady out.chunks (I.input input.old) (I.input input.new)) }
     ensures end { IfErr result (λ s. Ends s (I.input input.old) (I.input input.new)) }
     ensures stops { (I.input input.new).taken ≤ (I.input input.old).taken + (MOST_BYTES + 65_536) }
 {
     match take_manifest(alloc, input) {
-        Ok(manifest) => match scan_text(rt, alloc, manifest, gate, hasher) {
-            Ok(text) => Ok(text),
+        Ok(manifest) => match run_manifest(rt, alloc, manifest, gate, hasher) {
+            Ok(out) => Ok(out),
             Err(stop) => Err(status_of(stop)),
         },
         Err(status) => Err(status),
@@ -386,8 +357,8 @@ pub fn run<R: Threads + Sync, I: Input, O: Output, G: Gate, S: BuildHasher + Cop
     if !is_scan(words) {
         return run_generated(rt, alloc, words, output, gate);
     }
-    match take_text(rt, alloc, input, gate, hasher) {
-        Ok(text) => match write_all(output, text.as_slice()) {
+    match take_output(rt, alloc, input, gate, hasher) {
+        Ok(out) => match write_output(alloc, output, &out) {
             Ok(()) => 0,
             Err(WriteFault::Failed) => 6,
             Err(WriteFault::NoMemory) => 7,

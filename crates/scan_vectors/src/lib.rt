@@ -4,6 +4,8 @@
 #[cfg(test)]
 mod edges;
 #[cfg(test)]
+mod lines;
+#[cfg(test)]
 mod manifest;
 #[cfg(test)]
 mod many;

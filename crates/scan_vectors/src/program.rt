@@ -99,14 +99,14 @@ const ESCAPED: &str = r#"{"dtype":{"struct":[["\"\u0001","i32"]]},
 const NO_ROWS: &str =
     r#"{"dtype":{"struct":[["a","i32"]]},"files":[{"id":"A","layout":{"struct":[{"leaf":[],"rows":0}],"rows":0},"segments":[]}],"request":{"projection":"$"}}"#;
 
-fn none(alloc: Global) -> Result<StrictSorted, NoMemory> {
+pub(crate) fn none(alloc: Global) -> Result<StrictSorted, NoMemory> {
     match StrictSorted::try_new(Vec::new(alloc)) {
         Ok(numbers) => Ok(numbers),
         Err(_) => Err(NoMemory),
     }
 }
 
-fn only(alloc: Global, number: u64) -> Result<StrictSorted, NoMemory> {
+pub(crate) fn only(alloc: Global, number: u64) -> Result<StrictSorted, NoMemory> {
     let mut numbers = Vec::new(alloc);
     numbers.push(number)?;
     match StrictSorted::try_new(numbers) {
@@ -129,7 +129,7 @@ fn input(alloc: Global, text: &str, failing: StrictSorted) -> Result<MemoryInput
 }
 
 // The status of a run on these words, and what it wrote. The numbered reads and writes fail.
-fn outcome<R: Threads + Sync>(
+pub(crate) fn outcome<R: Threads + Sync>(
     rt: &R,
     alloc: Global,
     texts: &[&str],

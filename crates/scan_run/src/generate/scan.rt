@@ -18,7 +18,7 @@ use scan_caches::{MokaSegmentCache, SegmentEviction};
 use scan_drive::ScanFile;
 use scan_expr::ScanRequest;
 use scan_layout::Spelling;
-use scan_multi::{Gate, ScanOutput, scan_files};
+use scan_multi::{ColumnOutput, Gate, scan_columns_of};
 use scan_opener::MemoryOpener;
 use scan_segments::MemorySource;
 use scan_values::{DType, NoMemory};
@@ -41,23 +41,23 @@ fn scan_with<R: Threads + Sync, G: Gate>(
     files: &mut Vec<ScanFile<MemoryOpener, MemorySource>>,
     workers: usize,
     gate: &G,
-) -> Result<ScanOutput, NoMemory>
+) -> Result<ColumnOutput, NoMemory>
     requires { All (IsIdle memory_opener source_state) files.old.items }
     ensures ok { IfOk result (λ out. IsOutputOf workers dtype.now request.now files.old.items files.new.items out) }
     ensures idle { All (IsIdle memory_opener source_state) files.new.items }
 {
     let mut cache = new_cache(alloc)?;
-    match scan_files(rt, alloc, dtype, files, &mut cache, request, workers, gate) {
+    match scan_columns_of(rt, alloc, dtype, files, &mut cache, request, workers, gate) {
         Ok(out) => Ok(out),
         Err(_) => Err(NoMemory),
     }
 }
 
 // The line of a scan's output.
-fn line_of(alloc: Global, rows: u32, out: &ScanOutput) -> Result<Vec<u8>, NoMemory>
+fn line_of(alloc: Global, rows: u32, out: &ColumnOutput) -> Result<Vec<u8>, NoMemory>
     ensures { IfOk result (λ text. text.items ≡ totals_line rows (with_chunks no_totals out.now.chunks) out.now.report.asks) }
 {
-    let totals = totals_of(out.chunks.as_slice())?;
+    let totals = totals_of(alloc, out.chunks.as_slice())?;
     let mut text = Vec::new(alloc);
     push_totals(
         rows,

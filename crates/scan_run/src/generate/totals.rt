@@ -1,13 +1,16 @@
 //! What is printed of a scan of generated files.
-ghost use Rattle.std.specs.Prelude.{◌≡◌, ◌++◌, ◌+ℤ◌, IfOk, OnOk, map};
-ghost use Rattle.scan_values.specs.Val.{struct_val, vals_of};
+ghost use Rattle.std.specs.Prelude.{◌≡◌, ◌++◌, IfOk, IfSome, List, OnOk, map};
+ghost use Rattle.scan_columns.specs.Cells.{vals_in};
+ghost use Rattle.scan_values.specs.Val.{Val, int_val, struct_val, vals_of};
 ghost use Rattle.scan_values.specs.Values.{val_of};
-ghost use Rattle.scan_run.specs.Totals.{id_in, length_in, with_row, with_values, with_chunks, no_totals, totals_line};
+ghost use Rattle.scan_run.specs.Totals.{HaveNumbers, added, id_in, length_in, with_row, with_values, with_chunks, no_totals, totals_line};
 ghost use Rattle.scan_run.specs.declared.generate.totals.Totals.{Totals};
 
 use crate::line::{push_bytes, push_count, push_number};
-use scan_multi::ScanChunk;
+use scan_columns::{Cells, Column};
+use scan_multi::ColumnChunk;
 use scan_values::{NoMemory, Value};
+use std::alloc::Global;
 
 /// How many rows were given, and the sums of their ids and of the lengths of their lists.
 #[derive(Clone, Copy)]
@@ -71,19 +74,74 @@ fn with_row(totals: Totals, value: &Value) -> Result<Totals, NoMemory>
     Ok(Totals { rows, ids, lengths })
 }
 
-// The totals with more rows.
-fn with_values(totals: Totals, values: &[Value]) -> Result<Totals, NoMemory>
-    ensures { IfOk result (λ t. t ≡ with_values totals (map val_of values.now)) }
+// The integers in the first and in the second fields of rows, where no row is null and both are kept as numbers.
+fn numbers_in(values: &Column) -> Option<(&[i64], &[i64])>
+    ensures { IfSome result (λ p. HaveNumbers p.0.now p.1.now values.now.items) }
 {
-    let mut now = totals;
-    for value in values {
-        now = with_row(now, value)?;
+    let Cells::Structs(structs) = values.cells() else {
+        return None;
+    };
+    match structs.fields() {
+        Some([ids, lengths, ..]) => both_numbers(ids, lengths),
+        _ => None,
+    }
+}
+
+fn both_numbers<'a>(ids: &'a Cells, lengths: &'a Cells) -> Option<(&'a [i64], &'a [i64])>
+    ensures { IfSome result (λ p. (map int_val p.0.now ≡ vals_in ids.now) × (map int_val p.1.now ≡ vals_in lengths.now)) }
+{
+    Some((ids.numbers()?, lengths.numbers()?))
+}
+
+// A number, and then others.
+fn added(first: i128, numbers: &[i64]) -> Result<i128, NoMemory>
+    ensures { IfOk result (λ z. z ≡ added first numbers.now) }
+{
+    let mut now = first;
+    for number in numbers {
+        let Some(next) = now.checked_add(i128::from(*number)) else {
+            return Err(NoMemory);
+        };
+        now = next;
     }
     Ok(now)
 }
 
-/// The totals of some chunks. A sum that no i128 holds is refused as want of memory.
-pub(crate) fn totals_of(chunks: &[ScanChunk]) -> Result<Totals, NoMemory>
+// The totals with more rows, of which each number is read.
+fn with_numbers(totals: Totals, ids: &[i64], lengths: &[i64]) -> Result<Totals, NoMemory>
+    ensures { IfOk result (λ t. (values : List Val) → HaveNumbers ids.now lengths.now values → t ≡ with_values totals values) }
+{
+    let Some(rows) = totals.rows.checked_add(ids.len() as u64) else {
+        return Err(NoMemory);
+    };
+    let ids = added(totals.ids, ids)?;
+    let lengths = added(totals.lengths, lengths)?;
+    Ok(Totals { rows, ids, lengths })
+}
+
+// The totals with more rows, of which each value is made.
+fn with_each(alloc: Global, totals: Totals, values: &Column) -> Result<Totals, NoMemory>
+    ensures { IfOk result (λ t. t ≡ with_values totals values.now.items) }
+{
+    let mut now = totals;
+    for i in 0..values.len() {
+        now = with_row(now, values.value(alloc, i)?.as_value())?;
+    }
+    Ok(now)
+}
+
+// The totals with the rows of a column.
+fn with_column(alloc: Global, totals: Totals, values: &Column) -> Result<Totals, NoMemory>
+    ensures { IfOk result (λ t. t ≡ with_values totals values.now.items) }
+{
+    match numbers_in(values) {
+        Some((ids, lengths)) => with_numbers(totals, ids, lengths),
+        None => with_each(alloc, totals, values),
+    }
+}
+
+/// The totals of some chunks, read off their columns. A sum that no i128 holds is refused as want of memory.
+pub(crate) fn totals_of(alloc: Global, chunks: &[ColumnChunk]) -> Result<Totals, NoMemory>
     ensures { IfOk result (λ t. t ≡ with_chunks no_totals chunks.now) }
 {
     let mut now = Totals {
@@ -92,7 +150,7 @@ pub(crate) fn totals_of(chunks: &[ScanChunk]) -> Result<Totals, NoMemory>
         lengths: 0,
     };
     for chunk in chunks {
-        now = with_values(now, chunk.values.as_slice())?;
+        now = with_column(alloc, now, &chunk.values)?;
     }
     Ok(now)
 }

@@ -1,6 +1,7 @@
 -- What a run has done at each of its ends: words that are not `scan`, the lines written, a write that failed, no memory, and an end before anything is written.
 use Rattle.std.proofs.Common.{Err, refl, sym, ap, ◌∙◌, inl, inr, arith}
-use Rattle.scan_run.proofs.Running.{end_done, end_words, end_refused, end_unbound, end_unreadable, end_failing, end_io, end_below, ready_done, ready_front}
+use Rattle.scan_run.proofs.Running.{end_done, end_words, end_refused, end_unbound, end_unreadable, end_failing, end_io, end_below, ready_done, ready_front, ready_chunks}
+use borrow.Author.Rules.{rules}
 use Rattle.scan_run.proofs.Generating.{clash, other}
 use Rattle.scan_run.proofs.run.run.Goals as goal
 
@@ -55,54 +56,54 @@ returns-then-not-is_scan-clause-stops g c = omega arith
 pub returns-then-not-is_scan-clause-statuses : goal.returns-then-not-is_scan-clause-statuses
 returns-then-not-is_scan-clause-statuses g c = (other c.run_generated.result c.run_generated.ensures.ends).4
 
-pub returns-in-Ok-write_all-clause-done : goal.returns-in-Ok-write_all-clause-done
-returns-in-Ok-write_all-clause-done g c = λ s e. ready_done c.in-Ok.text.items c.as_slice.result.now (g.I.Input.input c.args.input.now)
-    (g.I.Input.input c.take_text.new.input) (g.O.Output.output c.args.output.now)
-    (g.O.Output.output c.write_all.new.output) c.as_slice.ensures.value c.in-Ok.ensures.ok c.in-Ok-write_all.ensures.ok
+pub returns-in-Ok-write_output-clause-done : goal.returns-in-Ok-write_output-clause-done
+returns-in-Ok-write_output-clause-done g c = λ s e. ready_done c.in-Ok.out.chunks (g.I.Input.input c.args.input.now)
+    (g.I.Input.input c.take_output.new.input) (g.O.Output.output c.args.output.now)
+    (g.O.Output.output c.write_output.new.output) c.in-Ok.ensures.ok c.in-Ok-write_output.ensures.ok
 
-pub returns-in-Ok-write_all-clause-words : goal.returns-in-Ok-write_all-clause-words
-returns-in-Ok-write_all-clause-words g c = (λ e. absurd (omega arith), λ h. clash c.is_scan.result _ c.is_scan.ensures c.if-not-is_scan.false h.0)
+pub returns-in-Ok-write_output-clause-words : goal.returns-in-Ok-write_output-clause-words
+returns-in-Ok-write_output-clause-words g c = (λ e. absurd (omega arith), λ h. clash c.is_scan.result _ c.is_scan.ensures c.if-not-is_scan.false h.0)
 
-pub returns-in-Ok-write_all-clause-generated : goal.returns-in-Ok-write_all-clause-generated
-returns-in-Ok-write_all-clause-generated g c = λ s. clash c.is_scan.result _ c.is_scan.ensures c.if-not-is_scan.false s
+pub returns-in-Ok-write_output-clause-generated : goal.returns-in-Ok-write_output-clause-generated
+returns-in-Ok-write_output-clause-generated g c = λ s. clash c.is_scan.result _ c.is_scan.ensures c.if-not-is_scan.false s
 
-pub returns-in-Ok-write_all-clause-untouched : goal.returns-in-Ok-write_all-clause-untouched
-returns-in-Ok-write_all-clause-untouched g c = λ s. clash c.is_scan.result _ c.is_scan.ensures c.if-not-is_scan.false s
+pub returns-in-Ok-write_output-clause-untouched : goal.returns-in-Ok-write_output-clause-untouched
+returns-in-Ok-write_output-clause-untouched g c = λ s. clash c.is_scan.result _ c.is_scan.ensures c.if-not-is_scan.false s
 
-pub returns-in-Ok-write_all-clause-ends : goal.returns-in-Ok-write_all-clause-ends
-returns-in-Ok-write_all-clause-ends g c = λ s. clash c.is_scan.result _ c.is_scan.ensures c.if-not-is_scan.false s
+pub returns-in-Ok-write_output-clause-ends : goal.returns-in-Ok-write_output-clause-ends
+returns-in-Ok-write_output-clause-ends g c = λ s. clash c.is_scan.result _ c.is_scan.ensures c.if-not-is_scan.false s
 
-pub returns-in-Ok-write_all-clause-front_of_line : goal.returns-in-Ok-write_all-clause-front_of_line
-returns-in-Ok-write_all-clause-front_of_line g c = λ s. clash c.is_scan.result _ c.is_scan.ensures c.if-not-is_scan.false s
+pub returns-in-Ok-write_output-clause-front_of_line : goal.returns-in-Ok-write_output-clause-front_of_line
+returns-in-Ok-write_output-clause-front_of_line g c = λ s. clash c.is_scan.result _ c.is_scan.ensures c.if-not-is_scan.false s
 
-pub returns-in-Ok-write_all-clause-unread : goal.returns-in-Ok-write_all-clause-unread
-returns-in-Ok-write_all-clause-unread g c = λ e. absurd (omega arith)
+pub returns-in-Ok-write_output-clause-unread : goal.returns-in-Ok-write_output-clause-unread
+returns-in-Ok-write_output-clause-unread g c = λ e. absurd (omega arith)
 
-pub returns-in-Ok-write_all-clause-refused : goal.returns-in-Ok-write_all-clause-refused
-returns-in-Ok-write_all-clause-refused g c = λ e. absurd (omega arith)
+pub returns-in-Ok-write_output-clause-refused : goal.returns-in-Ok-write_output-clause-refused
+returns-in-Ok-write_output-clause-refused g c = λ e. absurd (omega arith)
 
-pub returns-in-Ok-write_all-clause-unbound : goal.returns-in-Ok-write_all-clause-unbound
-returns-in-Ok-write_all-clause-unbound g c = λ e. absurd (omega arith)
+pub returns-in-Ok-write_output-clause-unbound : goal.returns-in-Ok-write_output-clause-unbound
+returns-in-Ok-write_output-clause-unbound g c = λ e. absurd (omega arith)
 
-pub returns-in-Ok-write_all-clause-unreadable : goal.returns-in-Ok-write_all-clause-unreadable
-returns-in-Ok-write_all-clause-unreadable g c = λ e. absurd (omega arith)
+pub returns-in-Ok-write_output-clause-unreadable : goal.returns-in-Ok-write_output-clause-unreadable
+returns-in-Ok-write_output-clause-unreadable g c = λ e. absurd (omega arith)
 
-pub returns-in-Ok-write_all-clause-io : goal.returns-in-Ok-write_all-clause-io
-returns-in-Ok-write_all-clause-io g c = λ e. absurd (omega arith)
+pub returns-in-Ok-write_output-clause-io : goal.returns-in-Ok-write_output-clause-io
+returns-in-Ok-write_output-clause-io g c = λ e. absurd (omega arith)
 
-pub returns-in-Ok-write_all-clause-nothing : goal.returns-in-Ok-write_all-clause-nothing
-returns-in-Ok-write_all-clause-nothing g c = λ h k. absurd (omega arith)
+pub returns-in-Ok-write_output-clause-nothing : goal.returns-in-Ok-write_output-clause-nothing
+returns-in-Ok-write_output-clause-nothing g c = λ h k. absurd (omega arith)
 
-pub returns-in-Ok-write_all-clause-unwritten : goal.returns-in-Ok-write_all-clause-unwritten
-returns-in-Ok-write_all-clause-unwritten g c = λ e. absurd (omega arith)
+pub returns-in-Ok-write_output-clause-unwritten : goal.returns-in-Ok-write_output-clause-unwritten
+returns-in-Ok-write_output-clause-unwritten g c = λ e. absurd (omega arith)
 
-pub returns-in-Ok-write_all-clause-front : goal.returns-in-Ok-write_all-clause-front
-returns-in-Ok-write_all-clause-front g c = λ s. ready_front c.in-Ok.text.items c.as_slice.result.now (g.I.Input.input c.args.input.now)
-    (g.I.Input.input c.take_text.new.input) (g.O.Output.output c.args.output.now)
-    (g.O.Output.output c.write_all.new.output) c.as_slice.ensures.value c.in-Ok.ensures.ok c.write_all.ensures.front
+pub returns-in-Ok-write_output-clause-front : goal.returns-in-Ok-write_output-clause-front
+returns-in-Ok-write_output-clause-front g c = λ s. ready_front c.in-Ok.out.chunks (g.I.Input.input c.args.input.now)
+    (g.I.Input.input c.take_output.new.input) (g.O.Output.output c.args.output.now)
+    (g.O.Output.output c.write_output.new.output) c.in-Ok.ensures.ok c.write_output.ensures.front
 
-pub returns-in-Ok-write_all-clause-statuses : goal.returns-in-Ok-write_all-clause-statuses
-returns-in-Ok-write_all-clause-statuses g c = omega arith
+pub returns-in-Ok-write_output-clause-statuses : goal.returns-in-Ok-write_output-clause-statuses
+returns-in-Ok-write_output-clause-statuses g c = omega arith
 
 pub returns-in-Err-Failed-clause-done : goal.returns-in-Err-Failed-clause-done
 returns-in-Err-Failed-clause-done g c = λ s e. absurd (omega arith)
@@ -144,9 +145,9 @@ pub returns-in-Err-Failed-clause-unwritten : goal.returns-in-Err-Failed-clause-u
 returns-in-Err-Failed-clause-unwritten g c = λ e. inl (c.in-Err-Failed.ensures.failed (ap Err c.in-Err-Failed.field-0-is))
 
 pub returns-in-Err-Failed-clause-front : goal.returns-in-Err-Failed-clause-front
-returns-in-Err-Failed-clause-front g c = λ s. ready_front c.in-Ok.text.items c.as_slice.result.now (g.I.Input.input c.args.input.now)
-    (g.I.Input.input c.take_text.new.input) (g.O.Output.output c.args.output.now)
-    (g.O.Output.output c.write_all.new.output) c.as_slice.ensures.value c.in-Ok.ensures.ok c.write_all.ensures.front
+returns-in-Err-Failed-clause-front g c = λ s. ready_front c.in-Ok.out.chunks (g.I.Input.input c.args.input.now)
+    (g.I.Input.input c.take_output.new.input) (g.O.Output.output c.args.output.now)
+    (g.O.Output.output c.write_output.new.output) c.in-Ok.ensures.ok c.write_output.ensures.front
 
 pub returns-in-Err-Failed-clause-statuses : goal.returns-in-Err-Failed-clause-statuses
 returns-in-Err-Failed-clause-statuses g c = omega arith
@@ -191,17 +192,17 @@ pub returns-in-Ok-clause-unwritten : goal.returns-in-Ok-clause-unwritten
 returns-in-Ok-clause-unwritten g c = λ e. absurd (omega arith)
 
 pub returns-in-Ok-clause-front : goal.returns-in-Ok-clause-front
-returns-in-Ok-clause-front g c = λ s. ready_front c.in-Ok.text.items c.as_slice.result.now (g.I.Input.input c.args.input.now) (g.I.Input.input c.take_text.new.input)
-    (g.O.Output.output c.args.output.now) (g.O.Output.output c.write_all.new.output) c.as_slice.ensures.value c.in-Ok.ensures.ok c.write_all.ensures.front
+returns-in-Ok-clause-front g c = λ s. ready_front c.in-Ok.out.chunks (g.I.Input.input c.args.input.now) (g.I.Input.input c.take_output.new.input)
+    (g.O.Output.output c.args.output.now) (g.O.Output.output c.write_output.new.output) c.in-Ok.ensures.ok c.write_output.ensures.front
 
 pub returns-in-Ok-clause-statuses : goal.returns-in-Ok-clause-statuses
 returns-in-Ok-clause-statuses g c = omega arith
 
 pub returns-clause-done : goal.returns-clause-done
-returns-clause-done g c = λ s e. absurd (end_done c.in-Err.status (g.I.Input.input c.args.input.now) (g.I.Input.input c.take_text.new.input) c.in-Err.ensures.end e)
+returns-clause-done g c = λ s e. absurd (end_done c.in-Err.status (g.I.Input.input c.args.input.now) (g.I.Input.input c.take_output.new.input) c.in-Err.ensures.end e)
 
 pub returns-clause-words : goal.returns-clause-words
-returns-clause-words g c = (λ e. absurd (end_words c.in-Err.status (g.I.Input.input c.args.input.now) (g.I.Input.input c.take_text.new.input) c.in-Err.ensures.end e), λ h. clash c.is_scan.result _ c.is_scan.ensures c.if-not-is_scan.false h.0)
+returns-clause-words g c = (λ e. absurd (end_words c.in-Err.status (g.I.Input.input c.args.input.now) (g.I.Input.input c.take_output.new.input) c.in-Err.ensures.end e), λ h. clash c.is_scan.result _ c.is_scan.ensures c.if-not-is_scan.false h.0)
 
 pub returns-clause-generated : goal.returns-clause-generated
 returns-clause-generated g c = λ s. clash c.is_scan.result _ c.is_scan.ensures c.if-not-is_scan.false s
@@ -216,19 +217,19 @@ pub returns-clause-front_of_line : goal.returns-clause-front_of_line
 returns-clause-front_of_line g c = λ s. clash c.is_scan.result _ c.is_scan.ensures c.if-not-is_scan.false s
 
 pub returns-clause-unread : goal.returns-clause-unread
-returns-clause-unread g c = λ e. absurd (end_words c.in-Err.status (g.I.Input.input c.args.input.now) (g.I.Input.input c.take_text.new.input) c.in-Err.ensures.end e)
+returns-clause-unread g c = λ e. absurd (end_words c.in-Err.status (g.I.Input.input c.args.input.now) (g.I.Input.input c.take_output.new.input) c.in-Err.ensures.end e)
 
 pub returns-clause-refused : goal.returns-clause-refused
-returns-clause-refused g c = end_refused c.in-Err.status (g.I.Input.input c.args.input.now) (g.I.Input.input c.take_text.new.input) c.in-Err.ensures.end
+returns-clause-refused g c = end_refused c.in-Err.status (g.I.Input.input c.args.input.now) (g.I.Input.input c.take_output.new.input) c.in-Err.ensures.end
 
 pub returns-clause-unbound : goal.returns-clause-unbound
-returns-clause-unbound g c = end_unbound c.in-Err.status (g.I.Input.input c.args.input.now) (g.I.Input.input c.take_text.new.input) c.in-Err.ensures.end
+returns-clause-unbound g c = end_unbound c.in-Err.status (g.I.Input.input c.args.input.now) (g.I.Input.input c.take_output.new.input) c.in-Err.ensures.end
 
 pub returns-clause-unreadable : goal.returns-clause-unreadable
-returns-clause-unreadable g c = end_unreadable c.in-Err.status (g.I.Input.input c.args.input.now) (g.I.Input.input c.take_text.new.input) c.in-Err.ensures.end
+returns-clause-unreadable g c = end_unreadable c.in-Err.status (g.I.Input.input c.args.input.now) (g.I.Input.input c.take_output.new.input) c.in-Err.ensures.end
 
 pub returns-clause-io : goal.returns-clause-io
-returns-clause-io g c = end_io c.in-Err.status (g.I.Input.input c.args.input.now) (g.I.Input.input c.take_text.new.input) (g.O.Output.output c.args.output.now) (g.O.Output.output c.args.output.now) c.in-Err.ensures.end
+returns-clause-io g c = end_io c.in-Err.status (g.I.Input.input c.args.input.now) (g.I.Input.input c.take_output.new.input) (g.O.Output.output c.args.output.now) (g.O.Output.output c.args.output.now) c.in-Err.ensures.end
 
 pub returns-clause-nothing : goal.returns-clause-nothing
 returns-clause-nothing g c = λ h k. refl
@@ -240,28 +241,31 @@ pub returns-clause-front : goal.returns-clause-front
 returns-clause-front g c = λ s. inl refl
 
 pub returns-clause-statuses : goal.returns-clause-statuses
-returns-clause-statuses g c = end_below c.in-Err.status (g.I.Input.input c.args.input.now) (g.I.Input.input c.take_text.new.input) c.in-Err.ensures.end
+returns-clause-statuses g c = end_below c.in-Err.status (g.I.Input.input c.args.input.now) (g.I.Input.input c.take_output.new.input) c.in-Err.ensures.end
 
-pub returns-in-Ok-write_all-clause-failing : goal.returns-in-Ok-write_all-clause-failing
-returns-in-Ok-write_all-clause-failing g c = λ e. absurd (omega arith)
+pub returns-in-Ok-write_output-clause-failing : goal.returns-in-Ok-write_output-clause-failing
+returns-in-Ok-write_output-clause-failing g c = λ e. absurd (omega arith)
 
-pub returns-in-Ok-write_all-clause-stops : goal.returns-in-Ok-write_all-clause-stops
-returns-in-Ok-write_all-clause-stops g c = c.take_text.ensures.stops
+pub returns-in-Ok-write_output-clause-stops : goal.returns-in-Ok-write_output-clause-stops
+returns-in-Ok-write_output-clause-stops g c = c.take_output.ensures.stops
 
 pub returns-in-Err-Failed-clause-failing : goal.returns-in-Err-Failed-clause-failing
 returns-in-Err-Failed-clause-failing g c = λ e. absurd (omega arith)
 
 pub returns-in-Err-Failed-clause-stops : goal.returns-in-Err-Failed-clause-stops
-returns-in-Err-Failed-clause-stops g c = c.take_text.ensures.stops
+returns-in-Err-Failed-clause-stops g c = c.take_output.ensures.stops
 
 pub returns-in-Ok-clause-failing : goal.returns-in-Ok-clause-failing
 returns-in-Ok-clause-failing g c = λ e. absurd (omega arith)
 
 pub returns-in-Ok-clause-stops : goal.returns-in-Ok-clause-stops
-returns-in-Ok-clause-stops g c = c.take_text.ensures.stops
+returns-in-Ok-clause-stops g c = c.take_output.ensures.stops
 
 pub returns-clause-failing : goal.returns-clause-failing
-returns-clause-failing g c = end_failing c.in-Err.status (g.I.Input.input c.args.input.now) (g.I.Input.input c.take_text.new.input) c.in-Err.ensures.end
+returns-clause-failing g c = end_failing c.in-Err.status (g.I.Input.input c.args.input.now) (g.I.Input.input c.take_output.new.input) c.in-Err.ensures.end
 
 pub returns-clause-stops : goal.returns-clause-stops
-returns-clause-stops g c = c.take_text.ensures.stops
+returns-clause-stops g c = c.take_output.ensures.stops
+
+pub write_output-requires : goal.write_output-requires
+write_output-requires g c = let are = ready_chunks c.in-Ok.out.chunks (g.I.Input.input c.args.input.now) (g.I.Input.input c.take_output.new.input) c.in-Ok.ensures.ok in search (rules, are)

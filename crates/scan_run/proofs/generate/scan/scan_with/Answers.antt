@@ -10,8 +10,8 @@ use Rattle.scan_run.proofs.generate.scan.scan_with.Goals as goal
 pub returns-in-Ok-clause-ok : goal.returns-in-Ok-clause-ok
 returns-in-Ok-clause-ok g c =
     let old = c.args.files.now.items in
-    let new = c.scan_files.new.files.items in
-    let left = keyed_state c.scan_files.new.cache in
+    let new = c.scan_columns_of.new.files.items in
+    let left = keyed_state c.scan_columns_of.new.cache in
     let P : CacheState SegmentKey → Type 0 = λ z. IsScan memory_opener source_state c.args.workers c.args.dtype.now c.args.request.now old new z left c.in-Ok.out in
     let Q : CacheState SegmentKey → Type 0 = λ z. ScanMoves memory_opener source_state c.args.workers c.args.dtype.now c.args.request.now old new z left in
-    record { cache = left; scan = subst P c.in_ok-cache.ensures c.in-Ok.ensures.ok; moves = subst Q c.in_ok-cache.ensures c.scan_files.ensures.moves }
+    record { cache = left; scan = subst P c.in_ok-cache.ensures c.in-Ok.ensures.ok; moves = subst Q c.in_ok-cache.ensures c.scan_columns_of.ensures.moves }

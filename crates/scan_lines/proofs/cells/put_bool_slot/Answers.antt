@@ -1,0 +1,5 @@
+use Rattle.std.proofs.Common.{◌≡◌}
+use Rattle.scan_lines.proofs.cells.put_bool_slot.Goals as goal
+
+pub returns-then-valid : goal.returns-then-valid
+returns-then-valid c = λ d. rw c.if-valid.true (c.put_bool.ensures d)
