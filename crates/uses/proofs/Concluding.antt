@@ -68,6 +68,11 @@ module _ {O S : Type 0} (opener : O → OpenerState) (source : S → SourceState
   pub first_given : IsScan opener source workers d q old new c c' out → IsLawful opener source old c → given out.chunks ≡ take most (answer d (first_of e most) (told opener source old))
   first_given s l = subst (λ (z : ScanRequest). IsGiven z.ordered z.limit (answer d z (told opener source old)) (given out.chunks)) is ((s.admits l).items)
 
+-- ---- in order
+pub in-order : (b : Bool) (limit : Option ℕ) (all items : List Item) → b ≡ true → IsGiven b limit all items → items ≡ limited limit all
+in-order true limit all items e g = g
+in-order false limit all items e g = absurd (cc e)
+
 -- ---- the same files again
 module _ {O S : Type 0} (opener : O → OpenerState) (source : S → SourceState) where
   file-same : (f g : ScanFile O S) → FileMoves opener source f g → told_file opener source g ≡ told_file opener source f
@@ -78,10 +83,6 @@ module _ {O S : Type 0} (opener : O → OpenerState) (source : S → SourceState
   told-same [] (g ∷ gs) n m = absurd (omega (arith, n))
   told-same (f ∷ fs) [] n m = absurd (omega (arith, n))
   told-same (f ∷ fs) (g ∷ gs) n m = ap₂ (λ x xs. x ∷ xs) (file-same f g (m 0 f)) (told-same fs gs (omega (arith, n)) (λ k z. m (suc k) z))
-
-  in-order : (b : Bool) (limit : Option ℕ) (all items : List Item) → b ≡ true → IsGiven b limit all items → items ≡ limited limit all
-  in-order true limit all items e g = g
-  in-order false limit all items e g = absurd (cc e)
 
   pub same-again : (workers : ℕ) (d : DataType) (q : ScanRequest) (old mid new : List (ScanFile O S)) (c c' c'' : CacheState SegmentKey) (first again : OutputData)
       → IsScan opener source workers d q old mid c c' first → ScanMoves opener source workers d q old mid c c' → IsScan opener source workers d q mid new c' c'' again

@@ -1,2 +1,5 @@
+pub mod Again
+pub mod Alone
 pub mod Concluding
+pub mod Summing
 pub mod LookingUp

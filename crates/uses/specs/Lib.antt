@@ -1,2 +1,4 @@
 pub mod Lookup
+pub mod Own
+pub mod Sums
 pub mod Uses

@@ -4,12 +4,18 @@
 mod count;
 mod first;
 mod never;
+mod own_source;
 mod program;
 mod row;
+mod source_twice;
+mod sum;
 mod twice;
 
 pub use count::count_rows;
 pub use first::first_rows;
+pub use own_source::rows_of_table;
 pub use program::lines_of;
 pub use row::value_at_row;
+pub use source_twice::scan_source_twice;
+pub use sum::sum_rows;
 pub use twice::scan_twice;

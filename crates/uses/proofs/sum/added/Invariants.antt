@@ -1,0 +1,7 @@
+use Rattle.std.proofs.Common.{◌≡◌, ◌+ℤ◌, drop, map}
+use Rattle.scan_values.specs.Val.{int_val}
+use Rattle.uses.specs.Sums.{sum_of}
+use Rattle.uses.proofs.sum.added.Given as goal
+
+abbrev pub invariant-loop-number : goal.invariant-loop-number
+invariant-loop-number l = l.sum +ℤ sum_of (map int_val (drop l.number-index l.numbers)) ≡ l.fn.first +ℤ sum_of (map int_val l.numbers)
