@@ -1,0 +1,6 @@
+pub mod Types
+pub mod Checking
+pub mod Scalars
+pub mod Rowing
+pub mod Answered
+pub mod Concluding

@@ -1,0 +1,16 @@
+//! Groups of the rows of many files, and totals over each.
+#![tactic(auto)]
+
+mod check;
+mod fault;
+mod request;
+mod rows;
+mod scan;
+mod spec;
+mod table;
+
+pub use fault::TableFault;
+pub use scan::scan_table;
+pub use scan_groups::Group;
+pub use spec::{Measure, TableSpec};
+pub use table::Table;
