@@ -1,9 +1,10 @@
 #!/usr/bin/env python3
-"""Instructions of a projection of a leaf, by the segments before its range and those that it touches.
+"""Instructions of a projection of a leaf, to a column and to an array, by the segments before its range, those that it
+touches, and their rows.
 
 Builds bench/projections/main.rt.txt as a program in a copy of the repository (`rt run`, which proves it first) and
 counts it by callgrind: what a hundred projections take is what the run takes beyond `setup`, which makes the reader,
-the plan and the inbox. Each segment has 100 rows of i32. Needs rt and valgrind.
+the plan and the inbox. The rows are of i32. Needs rt and valgrind.
 """
 import re
 import shutil
@@ -13,8 +14,8 @@ from pathlib import Path
 
 HERE = Path(__file__).resolve().parent
 TOP = HERE.parent.parent
-BEFORE = [10, 100, 1000]
-TOUCHED = [1, 10]
+# the segments before the range, those that it touches, and the rows of each
+SIZES = [(10, 1, 100), (10, 10, 100), (100, 1, 100), (1000, 1, 100), (10, 1, 1000), (10, 10, 1000), (100, 1, 1000)]
 PROJECTIONS = 100
 USES = "scan_values scan_expr scan_partition scan_segments scan_layout scan_columns scan_splits scan_plans scan_readers"
 
@@ -32,13 +33,13 @@ def build(folder):
     shutil.copy(HERE / "main.rt.txt", crate / "src" / "main.rt")
     with open(folder / "crates.txt", "a", encoding="utf-8") as lines:
         lines.write(f"bench_projections: {USES}\n")
-    subprocess.run(["rt", "run", "--", "setup", "1", "1"], cwd=crate, check=True)
+    subprocess.run(["rt", "run", "--", "setup", "1", "1", "100"], cwd=crate, check=True)
     return crate / "out" / "bench_projections"
 
 
-def count(program, kind, before, touched, folder):
+def count(program, kind, size, folder):
     """The instructions of a run."""
-    words = ["valgrind", "--tool=callgrind", f"--callgrind-out-file={folder}/out", program, kind, str(before), str(touched)]
+    words = ["valgrind", "--tool=callgrind", f"--callgrind-out-file={folder}/{kind}", program, kind, *map(str, size)]
     ran = subprocess.run(words, capture_output=True, text=True, check=True)
     return int(re.search(r"Collected : (\d+)", ran.stderr)[1])
 
@@ -47,11 +48,13 @@ def main():
     with tempfile.TemporaryDirectory() as made:
         folder = Path(made)
         program = build(folder)
-        for before in BEFORE:
-            for touched in TOUCHED:
-                taken = [count(program, kind, before, touched, folder) for kind in ["project", "setup"]]
-                each = (taken[0] - taken[1]) / PROJECTIONS
-                print(f"{before} before, {touched} touched: {each:,.0f} instructions a projection, {each / touched / 100:,.1f} a row")
+        for size in SIZES:
+            before, touched, rows = size
+            column, array, setup = [count(program, kind, size, folder) for kind in ["column", "array", "setup"]]
+            for kind, taken in [("a column", column), ("an array", array)]:
+                each = (taken - setup) / PROJECTIONS
+                print(f"{before} before, {touched} touched of {rows:,} rows, to {kind}: {each:,.0f} instructions, "
+                      f"{each / touched / rows:,.1f} a row", flush=True)
 
 
 if __name__ == "__main__":
