@@ -2,7 +2,7 @@
 use Rattle.std.proofs.Common.{◌≡◌, ◌⊎◌, ℕ, List, Bool, true, false, nat_eq, Option, Some, None, refl, sym, ap, ◌∙◌, subst, inl, inr, arith}
 use Rattle.std.specs.Prelude.{IfSome}
 use Rattle.std.proofs.lemmas.Bool.Decides.{nat_tests}
-use Rattle.scan_segments.specs.Source.{Store, SourceState, Stays, Ends, TellsBytes, TellsNone}
+use Rattle.scan_segments.specs.Source.{Store, SourceState, TellsBytes, TellsNone}
 use Rattle.scan_segments.specs.Cache.{Entries, CacheState, Loses, Stores, Both}
 use Rattle.scan_segments.specs.declared.source.Polled.{Polled}
 use Rattle.scan_segments.specs.declared.source.Polled.TheVariants.{Pending, Bytes, Missing, Failed, NoMemory}
@@ -11,7 +11,7 @@ use Rattle.scan_caches.specs.declared.adapter.Stage.TheVariants as stage
 use Rattle.scan_caches.specs.declared.adapter.Looked.{Looked}
 use Rattle.scan_caches.specs.declared.adapter.Looked.TheVariants as looked
 use Rattle.scan_segments.specs.declared.cache.CacheGet.{CacheGet}
-use Rattle.scan_caches.specs.Adapter.{Looks, IsMissed, PollsSource, PollsBoth, GoesOn, LooksFirst, KeepsStages, IsFaithful, GivesContent, stage_at, stage_of, asked_after}
+use Rattle.scan_caches.specs.Adapter.{Looks, IsMissed, PollsSource, PollsBoth, GoesOn, KeepsStages, IsFaithful, GivesContent, stage_at, asked_after}
 
 -- the source and the cache keep what a store has
 abbrev Keeps : Store → CacheState ℕ → SourceState → Type 0
@@ -150,24 +150,3 @@ module _ {C S : Type 0} (cache : C → CacheState ℕ) (gets : C → ℕ → C �
   poll_keeps store id c d s t r es fs p others f =
       let q = polls_both cache gets source polls fits store id c d s t r (stage_at fs id) (stage_at es id) p (keeps store (cache c) (source s) es f) (f.found id) in
       (faithful store (cache d) (source t) fs q.0 (all_sound store id es fs others f.found q.2), q.1)
-
-module _ {C S : Type 0} (cache : C → CacheState ℕ) (gets : C → ℕ → C → CacheGet → Type 0) (source : S → SourceState) where
-  first_sound : (store : Store) (id : ℕ) (c d : C) (s t : S) (after : Option Stage) (w : Looked) → Looks cache gets source id c d s t w → after ≡ stage_of w → Keeps store (cache c) (source s) → Sound store id after
-  first_sound store id c d s t after looked.Pending l e k = sound_is store id after _ e (looking_sound store id)
-  first_sound store id c d s t after (looked.Hit b) l e k = sound_is store id after _ e (found_sound store id b (hit store id b (cache c) (source s) l.0.0.1 k))
-  first_sound store id c d s t after looked.Asked l e k = sound_is store id after _ e (λ b is. absurd (cc))
-  first_sound store id c d s t after looked.NoMemory l e k = sound_is store id after _ e (none_sound store id)
-
-  pub request_keeps : (store : Store) (id : ℕ) (c d : C) (s t : S) (es fs : List (ℕ × Stage)) → LooksFirst cache gets source id c d s t (stage_at fs id) → KeepsStages id es fs → IsFaithful store (cache c) (source s) es → IsFaithful store (cache d) (source t) fs
-  request_keeps store id c d s t es fs l others f =
-      let k = keeps store (cache c) (source s) es f in
-      faithful store (cache d) (source t) fs (looks cache gets source store id c d s t l.way l.looks k)
-      (all_sound store id es fs others f.found (first_sound store id c d s t (stage_at fs id) l.way l.looks l.stage k))
-
-pub drop_keeps : (store : Store) (id : ℕ) (c d : CacheState ℕ) (s t : SourceState) (es fs : List (ℕ × Stage)) → d ≡ c → Stays s t ⊎ Ends id s t → stage_at fs id ≡ None → KeepsStages id es fs → IsFaithful store c s es → IsFaithful store d t fs
-drop_keeps store id c d s t es fs same moved gone others f =
-    faithful store d t fs (held store d s t (holds moved) (same_cache store c d s same (keeps store c s es f))) (all_sound store id es fs others f.found (sound_is store id (stage_at fs id) None gone (none_sound store id)))
-  where
-    holds : Stays s t ⊎ Ends id s t → t.holds ≡ s.holds
-    holds (inl m) = m.holds
-    holds (inr m) = m.holds

@@ -10,7 +10,7 @@ use Rattle.scan_segments.specs.declared.cache.CachePut.TheVariants as put
 use Rattle.scan_segments.specs.Keys.{same_key}
 use Rattle.scan_caches.specs.declared.bounded.SegmentEviction.{SegmentEviction}
 use Rattle.scan_caches.specs.declared.bounded.SegmentEviction.TheVariants as by
-use Rattle.scan_caches.specs.Bounded.{Pair, Uses, Bounded, at, with_pairs, fitted, stored, least, fits, without, evicted, kept, Gets, Puts, keyed_state, file_state}
+use Rattle.scan_caches.specs.Bounded.{Pair, Uses, Bounded, at, with_pairs, fitted, stored, least, fits, without, evicted, kept, Gets, Puts, keyed_state}
 use Rattle.scan_segments.specs.Cached.{IsGot, IsPut}
 use Rattle.std.proofs.Math.Nat.{le_refl}
 use Rattle.scan_segments.specs.Cache.{Loses, Stores}
@@ -103,9 +103,6 @@ promoted_at key es k v is = go (lookup_entry (same_key key) es) refl
     go None eq = rw eq at is
     go (Some e) eq = front e eq (same_key k e.0) refl (rw eq at is)
 
-abbrev Key : List ℕ → ℕ → SegmentKey
-Key source_id id = record { source_id = source_id; segment = id }
-
 loses : (key : SegmentKey) (c d : Bounded) (r : CacheGet) → Gets key c d r → Loses (at c.pairs) (at d.pairs)
 loses key c d (get.Hit b) g k v is = promoted_at key c.pairs k v (sym (ap (λ (x : Bounded). at x.pairs k) g.1) ∙ is)
 loses key c d get.Miss g k v is = sym (ap (λ (x : Bounded). at x.pairs k) g.1) ∙ is
@@ -134,27 +131,3 @@ is_put key buffer c d put.Passed p = record { entries = same c d p.1; ended_is =
 is_put key buffer c d put.NoMemory p = record { entries = same c d p; ended_is = refl; short = tt; faults = le_refl 0; turns = le_refl 0 }
 is_put key buffer c d put.Pending p = absurd p
 is_put key buffer c d put.Failed p = absurd p
-
-file_loses : (source_id : List ℕ) (id : ℕ) (c d : Bounded) (r : CacheGet) → Gets (Key source_id id) c d r → Loses (λ i. at c.pairs (Key source_id i)) (λ i. at d.pairs (Key source_id i))
-file_loses source_id id c d r g i v is = loses (Key source_id id) c d r g (Key source_id i) v is
-
--- the same, as a cache of one file
-pub is_file_got : (source_id : List ℕ) (id : ℕ) (c d : Bounded) (r : CacheGet) → Gets (Key source_id id) c d r → IsGot id (file_state source_id c) (file_state source_id d) r
-is_file_got source_id id c d (get.Hit b) g = (record { entries = file_loses source_id id c d (get.Hit b) g; ended_is = refl; short = refl; faults = le_refl 0; turns = le_refl 0 }, g.0)
-is_file_got source_id id c d get.Miss g = (record { entries = file_loses source_id id c d get.Miss g; ended_is = refl; short = refl; faults = le_refl 0; turns = le_refl 0 }, g.0)
-is_file_got source_id id c d get.NoMemory g = record { entries = file_loses source_id id c d get.NoMemory g; ended_is = refl; short = refl; faults = le_refl 0; turns = le_refl 0 }
-is_file_got source_id id c d get.Pending g = absurd g
-is_file_got source_id id c d get.Failed g = absurd g
-
-file_stores : (source_id : List ℕ) (id : ℕ) (buffer : List ℕ) (c d : Bounded) → d ≡ with_pairs (kept c.eviction (Key source_id id) buffer c) c → Stores id buffer (λ i. at c.pairs (Key source_id i)) (λ i. at d.pairs (Key source_id i))
-file_stores source_id id buffer c d p i v is = elim (stores (Key source_id id) buffer c d p (Key source_id i) v is) [
-  | inl e ↦ inl e
-  | inr e ↦ inr (ap (λ (k : SegmentKey). k.segment) e.0, e.1)
-]
-
-pub is_file_put : (source_id : List ℕ) (id : ℕ) (buffer : List ℕ) (c d : Bounded) (r : CachePut) → Puts (Key source_id id) buffer c d r → IsPut id buffer (file_state source_id c) (file_state source_id d) r
-is_file_put source_id id buffer c d put.Stored p = record { entries = file_stores source_id id buffer c d p.2; ended_is = refl; short = refl; faults = le_refl 0; turns = le_refl 0 }
-is_file_put source_id id buffer c d put.Passed p = record { entries = λ i v is. same c d p.1 (Key source_id i) v is; ended_is = refl; short = refl; faults = le_refl 0; turns = le_refl 0 }
-is_file_put source_id id buffer c d put.NoMemory p = record { entries = λ i v is. same c d p (Key source_id i) v is; ended_is = refl; short = tt; faults = le_refl 0; turns = le_refl 0 }
-is_file_put source_id id buffer c d put.Pending p = absurd p
-is_file_put source_id id buffer c d put.Failed p = absurd p

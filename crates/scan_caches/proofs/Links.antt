@@ -9,7 +9,7 @@ use Rattle.scan_segments.specs.Cache.{CacheState}
 use Rattle.scan_segments.specs.declared.cache.CacheGet.{CacheGet}
 use Rattle.scan_caches.specs.declared.adapter.Looked.TheVariants as looked
 use Rattle.scan_caches.specs.declared.adapter.Stage.{Stage}
-use Rattle.scan_caches.specs.Adapter.{Looks, stage_at, has_stage, is_asked, IsLinked, KeepsStages}
+use Rattle.scan_caches.specs.Adapter.{Looks, stage_at, has_stage, is_asked, IsLinked}
 
 turned : (i q : ℕ) → eqb q i ≡ nat_eq i q
 turned i q = go (eqb q i) (nat_eq i q) refl refl
@@ -40,13 +40,6 @@ live_same id live v is q = go (nat_eq id q) refl
   where
     go : (b : Bool) → nat_eq id q ≡ b → live q ≡ cond (nat_eq id q) v (live q)
     go true p = let same : id ≡ q = grind (arith, nat_tests) in rw p (ap live (sym same) ∙ is)
-    go false p = rw p refl
-
-pub stage_same : (id : ℕ) (es : List (ℕ × Stage)) (x : Option Stage) → stage_at es id ≡ x → (q : ℕ) → stage_at es q ≡ cond (nat_eq id q) x (stage_at es q)
-stage_same id es x is q = go (nat_eq id q) refl
-  where
-    go : (b : Bool) → nat_eq id q ≡ b → stage_at es q ≡ cond (nat_eq id q) x (stage_at es q)
-    go true p = let same : id ≡ q = grind (arith, nat_tests) in rw p (ap (λ i. stage_at es i) (sym same) ∙ is)
     go false p = rw p refl
 
 push : (b : Bool) (f : Option Stage → Bool) (x y : Option Stage) (h : Bool) → h ≡ f y → cond b (f x) h ≡ f (cond b x y)
@@ -90,9 +83,6 @@ set_twice id x y es fs gs f g q = g q ∙ ap (cond (nat_eq id q) x) (f q) ∙ tw
 
 pub set_here : (id : ℕ) (x : Option Stage) (es fs : List (ℕ × Stage)) → ((q : ℕ) → stage_at fs q ≡ cond (nat_eq id q) x (stage_at es q)) → stage_at fs id ≡ x
 set_here id x es fs f = f id ∙ (let yes : nat_eq id id ≡ true = grind (arith, nat_tests) in rw yes refl)
-
-pub others_keep : (id : ℕ) (x : Option Stage) (es fs : List (ℕ × Stage)) → ((q : ℕ) → stage_at fs q ≡ cond (nat_eq id q) x (stage_at es q)) → KeepsStages id es fs
-others_keep id x es fs f q apart = f q ∙ ap (λ b. cond b x (stage_at es q)) apart
 
 no_stage : (o : Option Stage) → is_some o ≡ false → o ≡ None
 no_stage None h = refl

@@ -1,9 +1,9 @@
 -- The index of a bounded cache: what keeps it, and which entry is the first.
 use Rattle.std.proofs.Common.{◌≡◌, ◌⊎◌, ℕ, zero, suc, ◌+◌, ◌-◌, ◌<◌, ◌≤◌, ◌==◌, List, [], ◌∷◌, ◌++◌, length, take, Bool, true, false, cond, ◌&&◌, nat_le, nat_lt, Option, Some, None, is_some, is_none, not, refl, sym, ap, subst, ◌∙◌, inl, inr, arith}
-use Rattle.std.specs.Prelude.{option_map, IsSome}
+use Rattle.std.specs.Prelude.{option_map, IsSome, MatchOption, min}
 use Rattle.std.specs.List.{slice_get, AllByRecursion, IsDistinct}
 use Rattle.std.specs.Option.{option_map_or}
-use Rattle.std.specs.Map.{keys_of, lookup, lookup_entry, remove_entry}
+use Rattle.std.specs.Map.{keys_of, lookup, lookup_entry, remove_entry, set_value}
 use Rattle.std.specs.Ordering.{ordering_then, is_eq, is_gt}
 use Rattle.std.specs.declared.cmp.Ordering.TheVariants.{Less, Equal, Greater}
 use Rattle.std.specs.BTreeMap.{BTreeMap, get, Updates, is_at, IsLowerBound}
@@ -170,6 +170,28 @@ found_in : (k : SegmentKey) (es : List Entry) (h : Held) → lookup (same_key k)
 found_in k [] h is = absurd (cc)
 found_in k (x ∷ xs) h is = there_step (same_key k x.0) k x xs h refl (found_in k xs h) is
 
+apart_step : (b : Bool) (k : SegmentKey) (h : Held) (x : Entry) (xs : List Entry) (e : Entry) → same_key k x.0 ≡ b → Falls x.1.tick xs
+    → (lookup (same_key k) xs ≡ Some h → In e (remove_entry (same_key k) xs) → e.1.tick ≡ h.tick → ⊥)
+    → lookup (same_key k) (x ∷ xs) ≡ Some h → In e (remove_entry (same_key k) (x ∷ xs)) → e.1.tick ≡ h.tick → ⊥
+apart_step true k h x xs e q f ih is i t =
+    let s : Some x.1 ≡ Some h = rw q at is in
+    let one : x.1 ≡ h = cc in
+    let same : x.1.tick ≡ h.tick = ap (λ (y : Held). y.tick) one in
+    let l = fall_low x.1.tick xs e f (rw q at i) in absurd (omega (arith, same, l, t))
+apart_step false k h x xs e q f ih is i t = by (rw q at i)
+  where
+    below : h.tick < x.1.tick
+    below = fall_low x.1.tick xs (k, h) f (found_in k xs h (rw q at is))
+
+    by : In e (x ∷ remove_entry (same_key k) xs) → ⊥
+    by (inl s) = let same : e.1.tick ≡ x.1.tick = ap (λ (y : Entry). y.1.tick) s in let l = below in absurd (omega (arith, same, l, t))
+    by (inr j) = ih (rw q at is) j t
+
+-- what stays came to the front at another time
+tick_apart : (n : ℕ) (k : SegmentKey) (h : Held) (es : List Entry) (e : Entry) → Falls n es → lookup (same_key k) es ≡ Some h → In e (remove_entry (same_key k) es) → e.1.tick ≡ h.tick → ⊥
+tick_apart n k h [] e f is i t = absurd (cc)
+tick_apart n k h (x ∷ xs) e f is i t = apart_step (same_key k x.0) k h x xs e refl f.1 (tick_apart x.1.tick k h xs e f.1) is i t
+
 -- ---- the front entry's place
 pub index_front : (us : Uses) (o n : Order) (es : List Entry) (m : ℕ) (k : SegmentKey) (h : Held) (c : ℕ) (k' : SegmentKey) → Falls m es → slice_get es 0 ≡ Some (k, h) → Indexed us o (behind true es) → c ≡ count_of us k → k' ≡ k → Updates place_cmp o n (c, h.tick) (Some k') → Indexed us n es
 index_front us o n [] m k h c k' f s x cis kis u = absurd (cc)
@@ -181,15 +203,6 @@ index_front us o n (e ∷ es) m k h c k' f s x cis kis u =
       ap (get place_cmp n) (sym here) ∙ put_same o n (c, h.tick) (Some k') u ∙ ap Some (kis ∙ key),
       indexed_all us n es (λ d i. put_other o n (c, h.tick) (place us d) (Some k') u (λ q. let l = fall_low e.1.tick es d f.1 i in let t : h.tick ≡ d.1.tick = ap (λ (p : Place). p.1) q in omega arith) ∙ indexed_at us o es d x i),
     )
-
-pub no_front : (es : List Entry) → slice_get es 0 ≡ None → es ≡ []
-no_front [] s = refl
-no_front (e ∷ es) s = absurd (cc)
-
-pub behind_all : (us : Uses) (o : Order) (b : Bool) (es : List Entry) → Indexed us o es → Indexed us o (behind b es)
-behind_all us o false es x = x
-behind_all us o true [] x = x
-behind_all us o true (e ∷ es) x = x.1
 
 pub in_behind : (b : Bool) (es : List Entry) (e : Entry) → In e (behind b es) → In e es
 in_behind false es e i = i
@@ -224,6 +237,32 @@ index_gone us o n es p k d at u x =
     let same : Some k ≡ Some e.0 = sym at ∙ ap (get place_cmp o) q ∙ indexed_at us o es e x there in
     let key : k ≡ e.0 = cc in
     let one : same_key k e.0 ≡ true = ap (same_key k) (sym key) ∙ key_refl k in absurd (cc)) ∙ indexed_at us o es e x there)
+
+-- where it is that of the entry of this key
+pub index_left : (us : Uses) (o n : Order) (es : List Entry) (m c : ℕ) (k : SegmentKey) (h : Held) → Falls m es → lookup (same_key k) es ≡ Some h → Updates place_cmp o n (c, h.tick) None → Indexed us o (remove_entry (same_key k) es) → Indexed us n (remove_entry (same_key k) es)
+index_left us o n es m c k h f is u x =
+    indexed_all us n (remove_entry (same_key k) es) (λ e i.
+    put_other o n (c, h.tick) (place us e) None u (λ q. tick_apart m k h es e f is i (sym (ap (λ (p : Place). p.1) q))) ∙ indexed_at us o (remove_entry (same_key k) es) e x i)
+
+index_removed : (test : SegmentKey → Bool) (us : Uses) (o : Order) (es : List Entry) → Indexed us o es → Indexed us o (remove_entry test es)
+index_removed test us o es x = indexed_all us o (remove_entry test es) (λ e i. indexed_at us o es e x (in_removed test es e i))
+
+-- the same, where the key may be no entry's
+pub index_own : (us : Uses) (o n : Order) (es : List Entry) (m : ℕ) (k : SegmentKey) (p : Option Place) → Falls m es → p ≡ option_map (λ h. place us (k, h)) (lookup (same_key k) es)
+    → MatchOption p (n ≡ o) (λ q. Updates place_cmp o n q None) → Indexed us o es → Indexed us n (remove_entry (same_key k) es)
+index_own us o n es m k p f is u x = go (lookup (same_key k) es) refl
+  where
+    left : Indexed us o (remove_entry (same_key k) es)
+    left = index_removed (same_key k) us o es x
+
+    go : (h : Option Held) → lookup (same_key k) es ≡ h → Indexed us n (remove_entry (same_key k) es)
+    go None e =
+        let none : p ≡ None = is ∙ ap (option_map (λ h. place us (k, h))) e in
+        let same : n ≡ o = subst (λ r. MatchOption r (n ≡ o) (λ q. Updates place_cmp o n q None)) none u in
+        subst (λ q. Indexed us q (remove_entry (same_key k) es)) (sym same) left
+    go (Some h) e =
+        let at : p ≡ Some (count_of us k, h.tick) = is ∙ ap (option_map (λ h. place us (k, h))) e in
+        index_left us o n es m (count_of us k) k h f e (subst (λ r. MatchOption r (n ≡ o) (λ q. Updates place_cmp o n q None)) at u) left
 
 -- ---- the entry of the least count
 least_step : (b : Bool) (us : Uses) (x y : Entry) (ys : List Entry) (t : SegmentKey) → nat_le (count_of us y.0) (count_of us x.0) ≡ b
@@ -278,10 +317,10 @@ at_place us es p k is = go (lookup (same_key k) es) refl
     go : (o : Option Held) → lookup (same_key k) es ≡ o → (h : Held) × (lookup (same_key k) es ≡ Some h) × (place us (k, h) ≡ p)
     go None eq = let no : false ≡ true = rw eq at is in absurd (cc)
     go (Some h) eq =
-        let yes : ((count_of us k == p.0) && (h.tick == p.1)) ≡ true = rw eq at is in
-        let t = both (count_of us k == p.0) (h.tick == p.1) yes in
-        let a : count_of us k ≡ p.0 = eqb-true (count_of us k) p.0 t.0 in
-        let b : h.tick ≡ p.1 = eqb-true h.tick p.1 t.1 in
+        let yes : ((h.tick == p.1) && (count_of us k == p.0)) ≡ true = rw eq at is in
+        let t = both (h.tick == p.1) (count_of us k == p.0) yes in
+        let a : count_of us k ≡ p.0 = eqb-true (count_of us k) p.0 t.1 in
+        let b : h.tick ≡ p.1 = eqb-true h.tick p.1 t.0 in
         (h, eq, λ i. (a i, b i))
 
 lows : (us : Uses) (o : Order) (es : List Entry) (p : Place) → Indexed us o es → IsLowerBound place_cmp o p → (e : Entry) → In e es → LowIs p (place us e)
@@ -415,8 +454,8 @@ module _ {V : Type 0} (test : SegmentKey → Bool) where
       go (Some x) e = (x, e)
 
 -- ---- which key is forgotten
-pub kept_where : (n : ℕ) (k : SegmentKey) (us : Uses) → is_some (lookup (same_key k) us) ≡ true → None ≡ forgotten n k us
-kept_where n k us h = let e = some_there (same_key k) us h in rw e.1 refl
+pub kept_where : (n v : ℕ) (k : SegmentKey) (us : Uses) → lookup (same_key k) us ≡ Some v → forgotten n k us ≡ None
+kept_where n v k us h = let e = some_there (same_key k) us (ap is_some h) in rw e.1 refl
 
 pub kept_all : (n : ℕ) (k : SegmentKey) (us : Uses) → length us < n → None ≡ forgotten n k us
 kept_all n k us l = go (lookup_entry (same_key k) us) refl
@@ -467,6 +506,28 @@ module _ (n : ℕ) (k : SegmentKey) (us : Uses) (long : length us ≤ n) where
       go None eq =
           let is : option_map_or (λ e. Some e.0) (slice_get us (n - 1)) None ≡ Some d = rw eq at h in
           rw (eq, apart) (ap (λ o. option_map_or (λ n. n) o 0) (gone (slice_get us (n - 1)) refl is))
+
+module _ {V : Type 0} (test : SegmentKey → Bool) where
+  entry_step : (b : Bool) (x : SegmentKey × V) (xs : List (SegmentKey × V)) → test x.0 ≡ b → lookup test xs ≡ option_map_or (λ e. Some e.1) (lookup_entry test xs) None → lookup test (x ∷ xs) ≡ option_map_or (λ e. Some e.1) (lookup_entry test (x ∷ xs)) None
+  entry_step true x xs q ih = rw q refl
+  entry_step false x xs q ih = rw q ih
+
+  by_entry : (es : List (SegmentKey × V)) → lookup test es ≡ option_map_or (λ e. Some e.1) (lookup_entry test es) None
+  by_entry [] = refl
+  by_entry (x ∷ xs) = entry_step (test x.0) x xs refl (by_entry xs)
+
+-- ---- one more use
+pub again_is : (n v w : ℕ) (k : SegmentKey) (us : Uses) → lookup (same_key k) us ≡ Some v → w ≡ min (v + 1) 18446744073709551615 → set_value (same_key k) (promoted (same_key k) us) w ≡ used n k us
+again_is n v w k us at is = go (lookup_entry (same_key k) us) refl
+  where
+    more : w ≡ min (count_of us k + 1) 18446744073709551615
+    more = is ∙ ap (λ o. min (option_map_or (λ n. n) o 0 + 1) 18446744073709551615) (sym at)
+
+    go : (o : Option (SegmentKey × ℕ)) → lookup_entry (same_key k) us ≡ o → set_value (same_key k) (promoted (same_key k) us) w ≡ used n k us
+    go None e = let no : Some v ≡ None = sym at ∙ by_entry (same_key k) us ∙ ap (λ o. option_map_or (λ e. Some e.1) o None) e in absurd (cc)
+    go (Some f) e =
+        let yes : same_key k f.0 ≡ true = ap (same_key k) (sym (found_key k us f e)) ∙ key_refl k in
+        rw (e, yes) (ap (λ m. (f.0, m) ∷ remove_entry (same_key k) us) more)
 
 -- ---- the index after one more use
 module _ (n : ℕ) (k : SegmentKey) (us : Uses) (o : Order) (es : List Entry) (long : length us ≤ n) (apart : IsDistinct same_key (keys_of es)) (x : Indexed us o es) where
@@ -578,15 +639,6 @@ pub nothing_there : (k : SegmentKey) (us : Uses) (es : List Entry) (p : Place) �
 nothing_there k us es p is none = let found = at_place us es p k is in let no : Some found.0 ≡ None = sym found.1 ∙ none in absurd (cc)
 
 -- ---- an entry that comes to the front
-module _ {V : Type 0} (test : SegmentKey → Bool) where
-  entry_step : (b : Bool) (x : SegmentKey × V) (xs : List (SegmentKey × V)) → test x.0 ≡ b → lookup test xs ≡ option_map_or (λ e. Some e.1) (lookup_entry test xs) None → lookup test (x ∷ xs) ≡ option_map_or (λ e. Some e.1) (lookup_entry test (x ∷ xs)) None
-  entry_step true x xs q ih = rw q refl
-  entry_step false x xs q ih = rw q ih
-
-  by_entry : (es : List (SegmentKey × V)) → lookup test es ≡ option_map_or (λ e. Some e.1) (lookup_entry test es) None
-  by_entry [] = refl
-  by_entry (x ∷ xs) = entry_step (test x.0) x xs refl (by_entry xs)
-
 pub brought : (c d : LruCache SegmentKey Held) (k k' : SegmentKey) (b : List ℕ) (t : ℕ) (h : Held) → lookup (same_key k) c.entries ≡ Some h → k' ≡ k → b ≡ h.bytes → d ≡ lru_cache (put_entries same_key c k' (held b t)) c.cap →
     (d.entries ≡ (k, held b t) ∷ remove_entry (same_key k) c.entries) × (plain d.entries ≡ promoted (same_key k) (plain c.entries))
 brought c d k k' b t h there kis bis dis =
@@ -632,6 +684,10 @@ pub front_length : (es : List Entry) (n : ℕ) → option_map (λ e. e.1.tick) (
 front_length [] n s = absurd (cc)
 front_length (e ∷ es) n s = ap suc (sym (plain-length es))
 
+pub some_mapped : {X Y : Type 0} (f : X → Y) (o : Option X) → is_some (option_map f o) ≡ is_some o
+some_mapped f None = refl
+some_mapped f (Some x) = refl
+
 module _ (test : SegmentKey → Bool) (es : List Entry) (f b : Bool) where
   pub rare_there : is_some (lookup test es) ≡ true → false ≡ (is_none (lookup test (plain es)) && f && b)
   rare_there h = go (lookup test es) refl
@@ -659,9 +715,6 @@ pub fits_is : (c n w l : ℕ) (es : List Entry) → w ≡ weight (plain es) → 
 fits_is c n w l es wis lis light =
     let yes : nat_le (weight (plain es)) c ≡ true = grind (arith, nat_tests) in
     ap (λ m. nat_le m n) (lis ∙ sym (plain-length es)) ∙ sym (ap (λ b. b && nat_le (length (plain es)) n) yes)
-
-pub index_removed : (test : SegmentKey → Bool) (us : Uses) (o : Order) (es : List Entry) → Indexed us o es → Indexed us o (remove_entry test es)
-index_removed test us o es x = indexed_all us o (remove_entry test es) (λ e i. indexed_at us o es e x (in_removed test es e i))
 
 kept_front : (us : Uses) (n m t : ℕ) (qs es : List Entry) (k : SegmentKey) (v : List ℕ) → slice_get es 0 ≡ Some (k, held v t)
     → plain (behind true es) ≡ trimmed us (n - (length v + 0)) m (plain (remove_entry (same_key k) qs)) → IsDistinct same_key (keys_of qs)

@@ -70,11 +70,6 @@ fitted-long c zero es x le = refl
 fitted-long c (suc n) [] x le = absurd (omega arith)
 fitted-long c (suc n) (e ∷ es) x le = ap (λ xs. cond (nat_le (length e.1) c) (e ∷ xs) []) (fitted-long (c - length e.1) n es x (omega arith))
 
-pub fitted-take : (c n : ℕ) (es : List Pair) → fitted c n (take n es) ≡ fitted c n es
-fitted-take c zero es = refl
-fitted-take c (suc n) [] = refl
-fitted-take c (suc n) (e ∷ es) = ap (λ xs. cond (nat_le (length e.1) c) (e ∷ xs) []) (fitted-take (c - length e.1) n es)
-
 pub weight-snoc : (es : List Pair) (x : Pair) → weight (es ++ x ∷ []) ≡ weight es + length x.1
 weight-snoc [] x = omega arith
 weight-snoc (e ∷ es) x = let ih = weight-snoc es x in omega arith

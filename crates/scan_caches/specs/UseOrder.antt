@@ -52,7 +52,7 @@ behind true (e ∷ es) = es
 
 -- a key is that of an entry at this place
 abbrev pub is_place : Uses → List Entry → Place → SegmentKey → Bool
-is_place us es p k = option_map_or (λ h. (count_of us k == p.0) && (h.tick == p.1)) (lookup (same_key k) es) false
+is_place us es p k = option_map_or (λ h. (h.tick == p.1) && (count_of us k == p.0)) (lookup (same_key k) es) false
 
 -- the key whose count is forgotten where one more use of k is counted, and so many are remembered
 abbrev pub forgotten : ℕ → SegmentKey → Uses → Option SegmentKey

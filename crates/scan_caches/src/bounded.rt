@@ -1,5 +1,5 @@
 //! The bounded cache of segments. After the Rust's `segments::cache`.
-ghost use Rattle.std.specs.Prelude.{◌≡◌, ◌+◌, ◌-◌, ◌<◌, ◌≤◌, ◌&&◌, length, is_none, [], IfOk, OnOk, OnErr};
+ghost use Rattle.std.specs.Prelude.{◌≡◌, ◌+◌, ◌-◌, ◌<◌, ◌≤◌, ◌&&◌, length, is_some, is_none, [], IfOk, OnOk, OnErr};
 ghost use Rattle.lru.specs.LruCache.{lru_cache, put_entries};
 ghost use Rattle.scan_segments.specs.Keys.{same_key};
 ghost use Rattle.std.specs.Map.{lookup};
@@ -9,7 +9,7 @@ ghost use Rattle.scan_segments.specs.Cached.{IsGot, IsPut};
 ghost use Rattle.scan_caches.specs.declared.bounded.SegmentEviction.TheVariants as by;
 
 use crate::file_cache::FileSegmentCache;
-use crate::use_counts::{Held, drop_place, evict_used, is_least, place_front, place_of, use_key};
+use crate::use_counts::{Held, drop_own, evict_used, is_least, place_front, place_of, use_key};
 use lru::{DefaultHasher, LruCache};
 use scan_segments::{
     ByteBuffer, CacheGet, CachePut, KeyedSegmentCache, SegmentId, SegmentKey, SegmentSourceId,
@@ -287,18 +287,19 @@ impl<S: BuildHasher> MokaSegmentCache<S> {
             return CachePut::NoMemory;
         }
         self.fresh = false;
-        if is_rare(&self.pairs, &self.uses, &mut self.order, key, full) {
+        let place = place_of(&self.pairs, &self.uses, key);
+        let known = place.is_some();
+        if is_rare(&self.pairs, &self.uses, &mut self.order, key, known, full) {
             return CachePut::Passed;
         }
         let Some(next) = self.clock.checked_add(1) else {
             return CachePut::NoMemory;
         };
         let before = u128::from(self.weight) + u128::from(size);
-        let place = place_of(&self.pairs, &self.uses, key);
         let Ok(old) = push_pair(&mut self.pairs, key, buffer, self.clock) else {
             return CachePut::NoMemory;
         };
-        drop_place(&self.pairs, &self.uses, &mut self.order, true, place);
+        drop_own(&mut self.order, place);
         let total = before - u128::from(old);
         self.weight = evict_used(
             &mut self.pairs,
@@ -343,14 +344,16 @@ fn is_rare<S: BuildHasher>(
     uses: &LruCache<SegmentKey, u64, S>,
     order: &mut BTreeMap<(u64, u64), SegmentKey>,
     key: &SegmentKey,
+    known: bool,
     full: bool,
 ) -> bool
-    requires { Indexed uses.now.entries order.old pairs.now.entries }
+    requires known { known ≡ is_some (lookup (same_key key.now) pairs.now.entries) }
+    requires indexed { Indexed uses.now.entries order.old pairs.now.entries }
     ensures rare { result ≡ (is_none (lookup (same_key key.now) (plain pairs.now.entries))
         && full && is_least_of uses.now.entries key.now (plain pairs.now.entries)) }
     ensures indexed { Indexed uses.now.entries order.new pairs.now.entries }
 {
-    if pairs.contains(key) {
+    if known {
         return false;
     }
     if !full {

@@ -3,13 +3,13 @@
 //! An entry's place in the order is how often its key was looked up, and when it last came to the front. Of the front
 //! entry the place is made before the next call counts on it. A place that no entry has any more is passed by and
 //! dropped once it is the first.
-ghost use Rattle.std.specs.Prelude.{◌≡◌, ◌⊎◌, ◌<◌, ◌≤◌, ◌+◌, ◌-◌, ℕ, true, take, length, slice_get, is_some, option_map, Some, IfOk, OnOk, OnErr};
-ghost use Rattle.std.specs.BTreeMap.{btree_map_len};
+ghost use Rattle.std.specs.Prelude.{◌≡◌, ◌⊎◌, ◌<◌, ◌≤◌, ◌+◌, ◌-◌, ℕ, true, take, length, slice_get, is_some, option_map, Some, None, IfOk, OnOk, OnErr, MatchOption};
+ghost use Rattle.std.specs.BTreeMap.{btree_map_len, Updates};
 ghost use Rattle.std.specs.Map.{lookup, remove_entry};
 ghost use Rattle.lru.specs.LruCache.{lru_cache, promoted, put_entries};
 ghost use Rattle.scan_segments.specs.Keys.{same_key};
 ghost use Rattle.scan_caches.specs.Bounded.{count_of as uses_of, used, weight, trimmed, is_least as is_least_of};
-ghost use Rattle.scan_caches.specs.UseOrder.{plain, place, Falls, Indexed, behind, is_place as is_place_of, forgotten as forgotten_of};
+ghost use Rattle.scan_caches.specs.UseOrder.{plain, place, place_cmp, Falls, Indexed, behind, is_place as is_place_of, forgotten as forgotten_of};
 
 use lru::LruCache;
 use scan_segments::{ByteBuffer, SegmentKey};
@@ -24,35 +24,42 @@ pub(crate) struct Held {
     pub(crate) tick: u64,
 }
 
-// How often a key was looked up, where that is remembered.
-fn remembered<S: BuildHasher>(uses: &LruCache<SegmentKey, u64, S>, key: &SegmentKey) -> Option<u64>
-    ensures { result ≡ lookup (same_key key.now) uses.now.entries }
-{
-    match uses.peek(key) {
-        Some(count) => Some(*count),
-        None => None,
-    }
-}
-
 // How often a key was looked up.
 fn count_of<S: BuildHasher>(uses: &LruCache<SegmentKey, u64, S>, key: &SegmentKey) -> u64
     ensures { result ≡ uses_of uses.now.entries key.now }
 {
-    remembered(uses, key).unwrap_or(0)
+    match uses.peek(key) {
+        Some(count) => *count,
+        None => 0,
+    }
 }
 
-// Adds one to the count of a key, which becomes the last key looked up.
-fn count_use<S: BuildHasher>(
+// Adds one to the count of a key that is remembered, which becomes the last key looked up. Answers what the count was.
+fn count_again<S: BuildHasher>(
     uses: &mut LruCache<SegmentKey, u64, S>,
     key: &SegmentKey,
-    count: u64,
+) -> Option<u64>
+    ensures count { result ≡ lookup (same_key key.now) uses.old.entries }
+    ensures uses { MatchOption result (uses.new ≡ uses.old)
+        (λ _. uses.new ≡ lru_cache (used uses.old.cap key.now uses.old.entries) uses.old.cap) }
+{
+    let count = uses.get_mut(key)?;
+    let before = *count;
+    *count = before.saturating_add(1);
+    Some(before)
+}
+
+// Counts the first use of a key that is not remembered, which becomes the last key looked up.
+fn count_first<S: BuildHasher>(
+    uses: &mut LruCache<SegmentKey, u64, S>,
+    key: &SegmentKey,
 ) -> Result<(), NoMemory>
-    requires { count ≡ uses_of uses.old.entries key.now }
+    requires { lookup (same_key key.now) uses.old.entries ≡ None }
     ensures ok { OnOk result (uses.new ≡ lru_cache (used uses.old.cap key.now uses.old.entries) uses.old.cap) }
     ensures err { OnErr result (uses.new ≡ uses.old) }
 {
     let key = key.try_clone()?;
-    match uses.put(key, count.saturating_add(1)) {
+    match uses.put(key, 1) {
         Ok(_) => Ok(()),
         Err(_) => Err(NoMemory),
     }
@@ -68,7 +75,7 @@ fn is_place<S: BuildHasher>(
     ensures { result ≡ is_place_of uses.now.entries pairs.now.entries place key.now }
 {
     match pairs.peek(key) {
-        Some(held) => count_of(uses, key) == place.0 && held.tick == place.1,
+        Some(held) => held.tick == place.1 && count_of(uses, key) == place.0,
         None => false,
     }
 }
@@ -113,18 +120,14 @@ pub(crate) fn place_of<S: BuildHasher>(
     }
 }
 
-// The key whose count is forgotten where one more use of a key is counted.
+// The key whose count is forgotten where the first use of a key is counted.
 fn forgotten<'a, S: BuildHasher>(
     uses: &'a LruCache<SegmentKey, u64, S>,
     key: &SegmentKey,
-    known: bool,
 ) -> Option<&'a SegmentKey>
-    requires { known ≡ is_some (lookup (same_key key.now) uses.now.entries) }
+    requires { lookup (same_key key.now) uses.now.entries ≡ None }
     ensures { option_map (λ k. k.now) result ≡ forgotten_of uses.now.cap key.now uses.now.entries }
 {
-    if known {
-        return None;
-    }
     if uses.len() < uses.cap().get() {
         return None;
     }
@@ -140,10 +143,9 @@ fn place_forgotten<S: BuildHasher>(
     uses: &LruCache<SegmentKey, u64, S>,
     order: &mut BTreeMap<(u64, u64), SegmentKey>,
     key: &SegmentKey,
-    known: bool,
 ) -> Result<Option<(u64, u64)>, NoMemory>
     requires fall { (n : ℕ) × Falls n pairs.now.entries }
-    requires known { known ≡ is_some (lookup (same_key key.now) uses.now.entries) }
+    requires first { lookup (same_key key.now) uses.now.entries ≡ None }
     requires indexed { Indexed uses.now.entries order.old pairs.now.entries }
     ensures kept { Indexed uses.now.entries order.new pairs.now.entries }
     ensures counted { OnOk result (Indexed (used uses.now.cap key.now uses.now.entries) order.new
@@ -151,7 +153,7 @@ fn place_forgotten<S: BuildHasher>(
 {
     let _len = pairs.len();
     let _count = uses.len();
-    let Some(lost) = forgotten(uses, key, known) else {
+    let Some(lost) = forgotten(uses, key) else {
         return Ok(None);
     };
     let Some(held) = pairs.peek(lost) else {
@@ -160,6 +162,15 @@ fn place_forgotten<S: BuildHasher>(
     match order.insert((0, held.tick), lost.try_clone()?) {
         Ok(_) => Ok(Some((count_of(uses, lost), held.tick))),
         Err(_) => Err(NoMemory),
+    }
+}
+
+/// Drops the place that a key's entry had, where it had one.
+pub(crate) fn drop_own(order: &mut BTreeMap<(u64, u64), SegmentKey>, place: Option<(u64, u64)>)
+    ensures { MatchOption place (order.new ≡ order.old) (λ p. Updates place_cmp order.old order.new p None) }
+{
+    if let Some(place) = place {
+        order.remove(&place);
     }
 }
 
@@ -187,25 +198,30 @@ pub(crate) fn drop_place<S: BuildHasher>(
     order.remove(&place);
 }
 
-// Counts a use of a key, and answers the place that then is no entry's. The place of the key's own entry is not made.
+// Counts a use of a key. Answers how often it was looked up before, and the place that then is no entry's. The place of
+// the key's own entry is not made.
 fn count_at<S: BuildHasher>(
     pairs: &LruCache<SegmentKey, Held, S>,
     uses: &mut LruCache<SegmentKey, u64, S>,
     order: &mut BTreeMap<(u64, u64), SegmentKey>,
     key: &SegmentKey,
-    count: Option<u64>,
-) -> Result<Option<(u64, u64)>, NoMemory>
+) -> Result<(u64, Option<(u64, u64)>), NoMemory>
     requires fall { (n : ℕ) × Falls n pairs.now.entries }
-    requires count { count ≡ lookup (same_key key.now) uses.old.entries }
     requires indexed { Indexed uses.old.entries order.old pairs.now.entries }
+    ensures before { IfOk result (λ r. r.0 ≡ uses_of uses.old.entries key.now) }
     ensures uses { OnOk result (uses.new ≡ lru_cache (used uses.old.cap key.now uses.old.entries) uses.old.cap) }
     ensures indexed { OnOk result
         (Indexed uses.new.entries order.new (remove_entry (same_key key.now) pairs.now.entries)) }
     ensures err { OnErr result ((uses.new ≡ uses.old) × Indexed uses.old.entries order.new pairs.now.entries) }
 {
-    let stale = place_forgotten(pairs, uses, order, key, count.is_some())?;
-    count_use(uses, key, count.unwrap_or(0))?;
-    Ok(stale)
+    let _len = pairs.len();
+    let _count = uses.len();
+    if let Some(count) = count_again(uses, key) {
+        return Ok((count, None));
+    }
+    let stale = place_forgotten(pairs, uses, order, key)?;
+    count_first(uses, key)?;
+    Ok((0, stale))
 }
 
 // Brings an entry to the front, as this one.
@@ -243,9 +259,8 @@ pub(crate) fn use_key<S: BuildHasher>(
     ensures err { OnErr result ((pairs.new ≡ pairs.old) × (uses.new ≡ uses.old)
         × Indexed uses.old.entries order.new pairs.old.entries) }
 {
-    let count = remembered(uses, key);
     let Some(held) = pairs.peek(key) else {
-        let stale = count_at(pairs, uses, order, key, count)?;
+        let (_, stale) = count_at(pairs, uses, order, key)?;
         drop_place(pairs, uses, order, false, stale);
         return Ok(None);
     };
@@ -255,11 +270,11 @@ pub(crate) fn use_key<S: BuildHasher>(
         tick,
     };
     let own = key.try_clone()?;
-    let before = (count.unwrap_or(0), held.tick);
-    let stale = count_at(pairs, uses, order, key, count)?;
+    let last = held.tick;
+    let (count, stale) = count_at(pairs, uses, order, key)?;
+    order.remove(&(count, last));
     bring_front(pairs, own, again);
     drop_place(pairs, uses, order, true, stale);
-    drop_place(pairs, uses, order, true, Some(before));
     Ok(Some(bytes))
 }
 

@@ -6,8 +6,8 @@ use Rattle.scan_caches.specs.UseOrder.{plain}
 use Rattle.scan_caches.proofs.UseOrder.{rare_there, rare_none}
 use Rattle.scan_caches.proofs.bounded.is_rare.Goals as goal
 
-pub returns-then-contains-clause-rare : goal.returns-then-contains-clause-rare
-returns-then-contains-clause-rare g c =
+pub returns-then-known-clause-rare : goal.returns-then-known-clause-rare
+returns-then-known-clause-rare g c =
     let there : is_some (lookup (same_key c.args.key.now) c.args.pairs.now.entries) ≡ true = search rules in
     rare_there (same_key c.args.key.now) c.args.pairs.now.entries c.args.full (is_least c.args.uses.now.entries c.args.key.now (plain c.args.pairs.now.entries)) there
 

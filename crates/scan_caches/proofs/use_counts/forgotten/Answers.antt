@@ -1,13 +1,8 @@
-use Rattle.std.proofs.Common.{◌≡◌, ◌-◌, ◌<◌, length, true, false, is_some, rules, Some, slice_get, arith}
+use Rattle.std.proofs.Common.{◌≡◌, ◌-◌, ◌<◌, length, false, is_some, rules, Some, slice_get, ap, arith}
 use Rattle.std.specs.Map.{lookup}
 use Rattle.scan_segments.specs.Keys.{same_key}
-use Rattle.scan_caches.proofs.UseOrder.{kept_where, kept_all, last_goes}
+use Rattle.scan_caches.proofs.UseOrder.{kept_all, last_goes}
 use Rattle.scan_caches.proofs.use_counts.forgotten.Goals as goal
-
-pub returns-then-known : goal.returns-then-known
-returns-then-known g c =
-    let there : is_some (lookup (same_key c.args.key.now) c.args.uses.now.entries) ≡ true = search rules in
-    kept_where c.args.uses.now.cap c.args.key.now c.args.uses.now.entries there
 
 pub returns-then-len-get : goal.returns-then-len-get
 returns-then-len-get g c =
@@ -20,7 +15,7 @@ returns-then-len-get g c =
 
 pub returns-in-Some : goal.returns-in-Some
 returns-in-Some g c =
-    let absent : is_some (lookup (same_key c.args.key.now) c.args.uses.now.entries) ≡ false = search rules in
+    let absent : is_some (lookup (same_key c.args.key.now) c.args.uses.now.entries) ≡ false = ap is_some c.requires in
     let l = c.len.ensures.len in
     let g = c.get.ensures.value in
     let n = c.cap.ensures in

@@ -4,7 +4,7 @@ use Rattle.std.specs.Map.{lookup}
 use Rattle.scan_segments.specs.Keys.{same_key}
 use Rattle.scan_caches.specs.UseOrder.{Indexed, behind}
 use Rattle.scan_caches.proofs.Plain.{plain-lookup}
-use Rattle.scan_caches.proofs.UseOrder.{absent_now, brought, fall_more, fall_front}
+use Rattle.scan_caches.proofs.UseOrder.{absent_now, brought, index_left, fall_more, fall_front}
 use Rattle.scan_caches.proofs.use_counts.use_key.Goals as goal
 
 pub drop_place-requires : goal.drop_place-requires
@@ -32,7 +32,8 @@ pub drop_place-requires-2 : goal.drop_place-requires-2
 drop_place-requires-2 g c =
     let there : lookup (same_key c.args.key.now) c.args.pairs.now.entries ≡ Some c.in-Some.held.now = search rules in
     let b = brought c.args.pairs.now c.bring_front.new.pairs c.args.key.now c.in_ok-own.own c.in_ok-try_clone.field-0 c.args.tick c.in-Some.held.now there c.in_ok-own.ensures c.in_ok-try_clone.ensures c.bring_front.ensures in
-    subst (λ es. Indexed c.count_at-2.new.uses.entries c.count_at-2.new.order es) (sym (ap (behind true) b.0)) c.in_ok-stale-2.ensures.indexed
+    let left = index_left c.count_at-2.new.uses.entries c.count_at-2.new.order c.remove.new.self c.args.pairs.now.entries c.args.tick _ c.args.key.now c.in-Some.held.now c.requires.fall there c.remove.ensures.updates c.in_ok-count.ensures.indexed in
+    subst (λ es. Indexed c.count_at-2.new.uses.entries c.remove.new.self es) (sym (ap (behind true) b.0)) left
 
 pub returns-clause-value : goal.returns-clause-value
 returns-clause-value g c =

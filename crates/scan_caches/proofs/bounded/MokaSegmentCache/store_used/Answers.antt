@@ -1,10 +1,11 @@
-use Rattle.std.proofs.Common.{◌≡◌, ◌<◌, ◌+◌, ◌-◌, length, ap, sym, subst, ◌∙◌, false, arith, inr, true, refl}
+use Rattle.std.proofs.Common.{◌≡◌, ◌<◌, ◌+◌, ◌-◌, length, ap, sym, subst, ◌∙◌, false, is_some, arith, inr, true, refl}
 use Rattle.scan_caches.specs.declared.bounded.SegmentEviction.TheVariants as by
 use Rattle.scan_segments.specs.declared.cache.CachePut.TheVariants as put
+use Rattle.std.specs.Map.{lookup}
 use Rattle.scan_segments.specs.Keys.{same_key}
 use Rattle.scan_caches.specs.Bounded.{Bounded, bounded, fits, is_rare, kept, Puts}
-use Rattle.scan_caches.specs.UseOrder.{plain, Indexed, behind}
-use Rattle.scan_caches.proofs.UseOrder.{pushed, rare_is, index_removed, fall_front, kept_used}
+use Rattle.scan_caches.specs.UseOrder.{plain, place, Indexed, behind}
+use Rattle.scan_caches.proofs.UseOrder.{pushed, rare_is, index_own, some_mapped, fall_front, kept_used}
 use Rattle.scan_caches.proofs.bounded.MokaSegmentCache.store_used.Goals as goal
 
 pub returns-then-is_rare : goal.returns-then-is_rare
@@ -18,15 +19,21 @@ returns-then-is_rare g c =
     let yes : is_rare s.eviction c.args.key.now c.args.buffer.now b0 ≡ true = sym rare ∙ c.if-is_rare.true in
     subst (λ (b : Bounded). Puts c.args.key.now c.args.buffer.now b b0 put.Passed) c.self.view_is (inr yes, refl)
 
-pub drop_place-requires : goal.drop_place-requires
-drop_place-requires g c =
+pub is_rare-requires-clause-known : goal.is_rare-requires-clause-known
+is_rare-requires-clause-known g c =
+    let s = c.self.inside in
+    c.is_some-known.ensures ∙ ap is_some c.place_of-place.ensures ∙ some_mapped (λ h. place s.uses.entries (c.args.key.now, h)) (lookup (same_key c.args.key.now) s.pairs.entries)
+
+pub evict_used-self-inside-requires-clause-indexed : goal.evict_used-self-inside-requires-clause-indexed
+evict_used-self-inside-requires-clause-indexed g c =
     let s = c.self.inside in
     let tiny : s.eviction ≡ by.TinyLfu = ap (λ (b : Bounded). b.eviction) c.self.view_is ∙ c.requires.eviction in
     let count = c.self.invariant.2 in
     let full = c.self.invariant.4 in
     let less : length s.pairs.entries < s.pairs.cap = omega arith in
     let p = pushed s.pairs c.push_pair.new.pairs c.args.key.now c.args.buffer.now s.clock less c.in-Ok.ensures.pairs in
-    subst (λ es. Indexed s.uses.entries c.is_rare.new.order es) (sym (ap (behind true) p.0)) (index_removed (same_key c.args.key.now) s.uses.entries c.is_rare.new.order s.pairs.entries c.is_rare.ensures.indexed)
+    subst (λ es. Indexed s.uses.entries c.drop_own.new.order es) (sym (ap (behind true) p.0))
+    (index_own s.uses.entries c.is_rare.new.order c.drop_own.new.order s.pairs.entries s.clock c.args.key.now c.place_of-place.result (c.self.invariant.6 tiny).0 c.place_of-place.ensures c.drop_own.ensures c.is_rare.ensures.indexed)
 
 pub evict_used-self-inside-requires-clause-fall : goal.evict_used-self-inside-requires-clause-fall
 evict_used-self-inside-requires-clause-fall g c =
