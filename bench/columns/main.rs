@@ -51,6 +51,37 @@ fn filtered<T: Copy>(c: &Numbers<T>, mask: &[bool]) -> Numbers<T> {
     Numbers { values, valid }
 }
 
+struct Lists {
+    ends: Vec<usize>,
+    valid: Vec<bool>,
+}
+
+/// Lists of no, one or two numbers, each seventh null.
+fn lists() -> Lists {
+    let mut ends = Vec::with_capacity(ROWS);
+    let mut valid = Vec::with_capacity(ROWS);
+    let mut end = 0;
+    for i in 0..ROWS {
+        if i % 7 != 0 {
+            end += i % 3;
+        }
+        ends.push(end);
+        valid.push(i % 7 != 0);
+    }
+    Lists { ends, valid }
+}
+
+#[inline(never)]
+fn lengths(lists: &Lists) -> Numbers<i64> {
+    let mut start = 0;
+    let values = lists.ends.iter().map(|end| {
+        let length = (end - start) as i64;
+        start = *end;
+        length
+    });
+    Numbers { values: values.collect(), valid: lists.valid.clone() }
+}
+
 fn value(valid: bool, number: i128) -> Value {
     if valid { Value::Int(number) } else { Value::Null }
 }
@@ -69,6 +100,12 @@ fn packed(b: Numbers<i64>, c: Numbers<i32>) -> Vec<Value> {
 
 /// How many rows the work gives.
 fn work(word: &str) -> usize {
+    if word == "lists" {
+        return lists().ends.len();
+    }
+    if word == "lengths" {
+        return lengths(&lists()).values.len();
+    }
     let a: Numbers<i32> = numbers(7919);
     let b: Numbers<i64> = numbers(104_729);
     let c: Numbers<i32> = numbers(1_299_709);

@@ -2,8 +2,8 @@
 """Instructions of work over columns of a million rows, beside plain Rust over vectors.
 
 Builds bench/columns/main.rt.txt as a program in a copy of the repository (`rt run`, which proves it first) and
-main.rs by `rustc -O`, and counts each by callgrind: what a work takes is what it takes beyond `setup`, which only
-makes the columns. Needs rt, rustc and valgrind.
+main.rs by `rustc -O`, and counts each by callgrind: what a work takes is what it takes beyond `setup` or `lists`,
+which only make the columns. Needs rt, rustc and valgrind.
 """
 import re
 import shutil
@@ -13,7 +13,8 @@ from pathlib import Path
 
 HERE = Path(__file__).resolve().parent
 TOP = HERE.parent.parent
-WORKS = ["mask", "filter", "pack"]
+# each work, and what it begins with
+WORKS = {"mask": "setup", "filter": "setup", "pack": "setup", "lengths": "lists"}
 
 
 def build(folder):
@@ -27,9 +28,10 @@ def build(folder):
     crate = folder / "crates" / "bench_columns"
     (crate / "src").mkdir(parents=True)
     shutil.copy(HERE / "main.rt.txt", crate / "src" / "main.rt")
-    for name in ["dtypes_of", "are_long"]:
+    for name in ["dtypes_of", "are_long", "ends"]:
         (crate / "proofs" / name).mkdir(parents=True)
         shutil.copy(HERE / f"{name}.antt.txt", crate / "proofs" / name / "Invariants.antt")
+    shutil.copy(HERE / "ends.answers.antt.txt", crate / "proofs" / "ends" / "Answers.antt")
     with open(folder / "crates.txt", "a", encoding="utf-8") as lines:
         lines.write("bench_columns: scan_values scan_expr scan_columns\n")
     subprocess.run(["rt", "run", "--", "setup"], cwd=crate, check=True)
@@ -48,9 +50,8 @@ def main():
     with tempfile.TemporaryDirectory() as made:
         folder = Path(made)
         programs = build(folder)
-        before = [count(it, "setup", folder) for it in programs]
-        for word in WORKS:
-            ours, plain = [count(it, word, folder) - b for it, b in zip(programs, before)]
+        for word, first in WORKS.items():
+            ours, plain = [count(it, word, folder) - count(it, first, folder) for it in programs]
             print(f"{word}: {ours:,} instructions, plain Rust {plain:,}: {ours / plain:.2f} times")
 
 

@@ -18,5 +18,7 @@ pub mod LastUses
 pub mod StructLemmas
 pub mod KeptLemmas
 pub mod TextLemmas
+pub mod EndLemmas
+pub mod SlotLemmas
 pub mod AccessLemmas
 pub mod ColumnsSent

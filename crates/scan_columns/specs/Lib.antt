@@ -12,5 +12,6 @@ pub mod Operands
 pub mod Rows
 pub mod Texts
 pub mod Kept
+pub mod LastEnds
 pub mod LastUses
 pub mod Access

@@ -1,10 +1,14 @@
 // How many elements each list has, kept as where each ends.
-ghost use Rattle.std.specs.Prelude.{◌≡◌, ◌≤◌, ◌++◌, take, map, pos, IfOk, length, replicate, slice_range};
+ghost use Rattle.std.specs.Prelude.{◌≡◌, ◌<◌, ◌≤◌, ◌+◌, ◌^◌, ◌++◌, take, map, pos, IfOk, IsTrue, length, replicate, slice_range};
+ghost use Rattle.std.specs.Int.{w64, cast_signed};
 ghost use Rattle.std.specs.List.{items_where_true};
 ghost use Rattle.scan_columns.specs.Nested.{sizes, sums, Rises, total, spread};
+ghost use Rattle.scan_columns.specs.Kept.{numbers_in};
+ghost use Rattle.scan_columns.specs.LastEnds.{last_from};
 
+use crate::kept::Kept;
 use scan_values::{Mask, NoMemory};
-use std::alloc::Global;
+use std::alloc::{AllocError, Global};
 use std::marker::Model;
 
 /// How many elements each list has, kept as where each ends.
@@ -50,6 +54,15 @@ impl Ends {
         start_of(self.ends.as_slice(), i)
     }
 
+    /// Where the list at a place ends.
+    #[tactic(auto, using(crate::proofs::NestedLemmas::sizes_length))]
+    pub fn end(&self, i: usize) -> usize
+        requires { i < length self.now }
+        ensures { result ≡ total (take (i + 1) self.now) }
+    {
+        end_of(self.ends.as_slice(), i)
+    }
+
     /// Where each ends.
     pub fn as_slice(&self) -> &[usize]
         ensures sizes { sizes 0 result.now ≡ self.now }
@@ -59,10 +72,16 @@ impl Ends {
     }
 
     /// How many elements each has.
-    pub fn counts(&self, alloc: Global) -> Result<Vec<i128>, NoMemory>
-        ensures { IfOk result (λ v. v.items ≡ map pos self.now) }
+    pub fn counts(&self, alloc: Global) -> Result<Kept, NoMemory>
+        ensures { IfOk result (λ v. numbers_in v ≡ map pos self.now) }
     {
-        counts_of(alloc, self.ends.as_slice())
+        let ends = self.ends.as_slice();
+        if are_near(ends) {
+            let near = near_counts(alloc, ends)?;
+            return Ok(Kept::Narrow(near));
+        }
+        let far = far_counts(alloc, ends)?;
+        Kept::of_wide(alloc, far)
     }
 
     /// For each element, whether the mask is true at its list.
@@ -120,7 +139,62 @@ fn start_of(ends: &[usize], i: usize) -> usize
     if i == 0 { 0 } else { ends[i - 1] }
 }
 
-fn counts_of(alloc: Global, ends: &[usize]) -> Result<Vec<i128>, NoMemory>
+fn end_of(ends: &[usize], i: usize) -> usize
+    requires rises { Rises 0 ends.now }
+    requires within { i < length ends.now }
+    ensures { result ≡ total (take (i + 1) (sizes 0 ends.now)) }
+{
+    ends[i]
+}
+
+/// Whether where the last list ends is a number of an i64.
+#[tactic(auto, using(crate::proofs::EndLemmas::last_is, crate::proofs::EndLemmas::none_is))]
+fn are_near(ends: &[usize]) -> bool
+    ensures { IsTrue result → last_from 0 ends.now < 2 ^ 63 }
+{
+    match ends.len() {
+        0 => true,
+        count => ends[count - 1] <= 9_223_372_036_854_775_807,
+    }
+}
+
+/// How many elements each list has, written over others.
+fn written_counts(made: Vec<i64>, ends: &[usize]) -> Vec<i64>
+    requires rises { Rises 0 ends.now }
+    requires low { last_from 0 ends.now < 2 ^ 63 }
+    requires length { length made.items ≡ length ends.now }
+    ensures { result.items ≡ map pos (sizes 0 ends.now) }
+{
+    let mut made = made;
+    let mut start = 0;
+    for i in 0..ends.len() {
+        let end = ends[i];
+        made[i] = (end - start) as i64;
+        start = end;
+    }
+    made
+}
+
+fn near_counts(alloc: Global, ends: &[usize]) -> Result<Vec<i64>, NoMemory>
+    requires rises { Rises 0 ends.now }
+    requires low { last_from 0 ends.now < 2 ^ 63 }
+    ensures { IfOk result (λ v. v.items ≡ map pos (sizes 0 ends.now)) }
+{
+    let made = signed(alloc, ends)?;
+    Ok(written_counts(made, ends))
+}
+
+/// The numbers as i64: room to be written over, which takes less to make than zeros.
+fn signed(alloc: Global, numbers: &[usize]) -> Result<Vec<i64>, AllocError>
+    ensures { IfOk result (λ v. v.items ≡ map (λ n. cast_signed w64 n) numbers.now) }
+{
+    numbers
+        .iter()
+        .map(|n| (*n as u64).cast_signed())
+        .collect(alloc)
+}
+
+fn far_counts(alloc: Global, ends: &[usize]) -> Result<Vec<i128>, NoMemory>
     requires { Rises 0 ends.now }
     ensures { IfOk result (λ v. v.items ≡ map pos (sizes 0 ends.now)) }
 {

@@ -14,7 +14,6 @@ ghost use Rattle.scan_columns.specs.Typed.{typed};
 use crate::cells::{Cells, Lists};
 use crate::ends::Ends;
 use crate::ints::Ints;
-use crate::kept::Kept;
 use crate::rest::Rest;
 use crate::slots::{both, contrary, kept, part};
 use scan_values::{Mask, NoMemory, Value, Values};
@@ -81,8 +80,7 @@ impl Lists {
     {
         let counts = self.ends.counts(alloc)?;
         let valid = Vec::from_slice(alloc, self.valid.as_slice())?;
-        let numbers = Kept::of_wide(alloc, counts)?;
-        Ok(Ints::new(numbers, valid))
+        Ok(Ints::new(counts, valid))
     }
 
     /// Those at which the mask is true.

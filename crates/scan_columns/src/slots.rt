@@ -1,11 +1,11 @@
 // The slots of typed cells, of whatever kind.
-ghost use Rattle.std.specs.Prelude.{◌≡◌, ◌≤◌, IfOk, map, length, not, slice_range};
-ghost use Rattle.std.specs.List.{items_where_true, list_all};
+ghost use Rattle.std.specs.Prelude.{◌≡◌, ◌≤◌, ◌&&◌, IfOk, map, length, not, slice_range};
+ghost use Rattle.std.specs.List.{items_where_true, list_all, zip};
 ghost use Rattle.scan_values.specs.Masks.{both_true};
 
 use scan_spelling::keep_true;
 use scan_values::{Mask, NoMemory};
-use std::alloc::Global;
+use std::alloc::{AllocError, Global};
 
 /// The items at which the mask is true: of one that is true at few of them one by one, else without a branch.
 pub(crate) fn kept<T: Copy>(alloc: Global, items: &[T], m: &Mask) -> Result<Vec<T>, NoMemory>
@@ -48,25 +48,22 @@ pub(crate) fn part<T: Copy>(
     Ok(made)
 }
 
-/// Where both bits are true.
+/// Where both bits are true, in one pass over both.
 pub(crate) fn both(alloc: Global, bits: &[bool], others: &[bool]) -> Result<Vec<bool>, NoMemory>
     requires { length others.now ≡ length bits.now }
     ensures { IfOk result (λ v. v.items ≡ both_true bits.now others.now) }
 {
-    let made = Vec::from_slice(alloc, bits)?;
-    Ok(anded(made, others))
+    let made = each_both(alloc, bits, others)?;
+    Ok(made)
 }
 
-/// The bits, false where one of the others is.
-fn anded(bits: Vec<bool>, others: &[bool]) -> Vec<bool>
-    requires { length others.now ≡ length bits.items }
-    ensures { result.items ≡ both_true bits.items others.now }
+fn each_both(alloc: Global, bits: &[bool], others: &[bool]) -> Result<Vec<bool>, AllocError>
+    ensures { IfOk result (λ v. v.items ≡ map (λ p. p.0 && p.1) (zip bits.now others.now)) }
 {
-    let mut bits = bits;
-    for i in 0..bits.len() {
-        bits[i] = bits[i] & others[i];
-    }
-    bits
+    bits.iter()
+        .zip(others)
+        .map(|(bit, other)| *bit & *other)
+        .collect(alloc)
 }
 
 /// Of each bit the contrary.

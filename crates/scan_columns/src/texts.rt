@@ -245,9 +245,8 @@ fn slot_bytes<'a>(bytes: &'a [u8], ends: &Ends, i: usize) -> &'a [u8]
     requires whole { total ends.now ≡ length bytes.now }
     ensures { Some result.now ≡ slice_get (cuts ends.now bytes.now) i }
 {
-    let _count = ends.len();
     let low = ends.start(i);
-    let high = ends.start(i + 1);
+    let high = ends.end(i);
     &bytes[low..high]
 }
 

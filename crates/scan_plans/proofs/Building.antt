@@ -1,13 +1,14 @@
 -- Values that are read part by part.
-use Rattle.std.proofs.Common.{◌≡◌, ℕ, ◌==◌, ◌+◌, ◌-◌, ◌<◌, Bool, true, false, ◌||◌, ◌&&◌, List, [], ◌∷◌, ◌++◌, map, length, get_or, Result, Ok, Err, is_none, refl, ap, subst, ◌∙◌, sym, arith, append_assoc}
-use Rattle.std.specs.Prelude.{if◌then◌else◌}
-use Rattle.std.specs.List.{list_any}
-use Rattle.std.proofs.lemmas.List.{append-nil}
+use Rattle.std.proofs.Common.{◌≡◌, ℕ, ◌==◌, ◌+◌, ◌-◌, ◌<◌, ◌≤◌, Bool, true, false, ◌||◌, ◌&&◌, List, [], ◌∷◌, ◌++◌, map, length, get_or, Result, Ok, Err, Some, None, is_none, refl, ap, subst, ◌∙◌, sym, arith, append_assoc}
+use Rattle.std.specs.Prelude.{if◌then◌else◌, slice_range}
+use Rattle.std.specs.List.{list_any, items_where_true}
+use Rattle.std.proofs.lemmas.Bool.Decides.{nat_tests}
+use Rattle.std.proofs.lemmas.List.{append-nil, map-append}
 use Rattle.std.proofs.lemmas.List.Folds.{list_any-append}
 use Rattle.scan_values.specs.Arrays.{ArrayData, of_parts}
 use Rattle.scan_values.specs.DataType.{DataType}
 use Rattle.scan_values.specs.Marked.{Marked}
-use Rattle.scan_values.specs.Val.{marked}
+use Rattle.scan_values.specs.Val.{Val, marked}
 use Rattle.scan_segments.specs.Source.{Store}
 use Rattle.scan_spelling.specs.declared.spelling.Spelling.{Spelling}
 use Rattle.scan_spelling.specs.Places.{Place, place_of, places_of, decoded}
@@ -17,11 +18,11 @@ use Rattle.scan_plans.specs.PlanTree.{leaf}
 use Rattle.scan_plans.specs.Came.{Came, arrived}
 use Rattle.scan_plans.specs.Meaning.{true_rows}
 use Rattle.scan_plans.specs.Wants.{leaf_wanted, part_of}
-use Rattle.scan_plans.specs.Reads.{fails, AddsSegment, AreValues, Reads}
+use Rattle.scan_plans.specs.Reads.{fails, AddsSegment, ReadsSegment, AreValues, Reads}
 use Rattle.scan_plans.specs.declared.fault.ReadFault.{ReadFault}
 use Rattle.scan_plans.specs.declared.fault.ReadFault.TheVariants.{Corrupt, Overflow, NoMemory}
 use Rattle.scan_plans.proofs.RowLemmas.{rows_part}
-use Rattle.scan_plans.proofs.Segments.{moved_rows}
+use Rattle.scan_plans.proofs.Segments.{moved_rows, segment_items}
 use Rattle.scan_plans.proofs.Giving.{fails_spoils}
 use Rattle.scan_plans.proofs.LeafWalk.{Segment, to_want, to_give, want_part, give_next}
 
@@ -41,6 +42,33 @@ adds_none store p skip bits a d none = (
   sym (append-nil (map marked a.items)) ∙ ap (λ is. map marked a.items ++ map (segment_value store p) is) (sym (no_rows skip bits none)),
   λ id. ap (λ b. fails (if b then p ∷ [] else []) store id) none,
 )
+
+one_good : (store : Store) (p : Place) (vs : List Val) (id : ℕ) → decoded store p ≡ Some vs → fails (p ∷ []) store id ≡ false
+one_good store p vs id h = rw h (neither (p.id == id))
+  where
+    neither : (b : Bool) → ((b && false) || false) ≡ false
+    neither true = refl
+    neither false = refl
+
+one_bad : (store : Store) (p : Place) (id : ℕ) → id ≡ p.id → decoded store p ≡ None → fails (p ∷ []) store id ≡ true
+one_bad store p id e h = rw (e, h, same_id p.id) refl
+  where
+    same_id : (n : ℕ) → (n == n) ≡ true
+    same_id n = grind (arith, nat_tests)
+
+-- with a segment that is read
+pub adds_read : (store : Store) (p : Place) (skip : ℕ) (bits : List Bool) (a b read : ArrayData) → list_any (λ b. b) bits ≡ true → ReadsSegment store p (Ok read) → skip + length bits ≤ length read.items
+    → a.dtype ≡ p.dtype → b ≡ of_parts a.dtype (a.items ++ items_where_true bits (slice_range read.items skip (skip + length bits))) → AddsSegment store p skip bits a (Ok b)
+adds_read store p skip bits a b read some h long d e = (
+  ap (λ (x : ArrayData). x.dtype) e ∙ d,
+  ap (λ (x : ArrayData). map marked x.items) e ∙ map-append marked a.items (items_where_true bits (slice_range read.items skip (skip + length bits))) ∙ ap (λ xs. map marked a.items ++ xs) (segment_items store p read.items skip bits h.1 long),
+  λ id. ap (λ t. fails (if t then p ∷ [] else []) store id) some ∙ one_good store p read.items id h.1,
+)
+
+pub adds_fault : (store : Store) (p : Place) (skip : ℕ) (bits : List Bool) (a : ArrayData) (f : ReadFault) → list_any (λ b. b) bits ≡ true → ReadsSegment store p (Err f) → AddsSegment store p skip bits a (Err f)
+adds_fault store p skip bits a (Corrupt id) some h = ap (λ t. fails (if t then p ∷ [] else []) store id) some ∙ one_bad store p id h.0 h.1
+adds_fault store p skip bits a Overflow some h = absurd h
+adds_fault store p skip bits a NoMemory some h = tt
 
 -- ---- a leaf, so far
 pub record Built (t : DataType) (a : ArrayData) (rest all : List Marked) (want wanted : List Place) (store : Store) : Type 0 where

@@ -35,3 +35,4 @@ pub mod BoundsSent
 pub mod PlansSent
 pub mod Rising
 pub mod LastOffsets
+pub mod Blocks

@@ -1,5 +1,5 @@
 -- The values of a segment at the true rows of a mask.
-use Rattle.std.proofs.Common.{◌≡◌, ℕ, zero, suc, ◌+◌, ◌-◌, ◌≤◌, Bool, true, false, List, [], ◌∷◌, map, take, drop, length, get_or, Some, refl, ap, ◌∙◌, sym, arith}
+use Rattle.std.proofs.Common.{◌≡◌, ℕ, zero, suc, ◌+◌, ◌-◌, ◌≤◌, Bool, true, false, List, [], ◌∷◌, map, take, drop, length, get_or, Option, Some, None, refl, ap, ◌∙◌, sym, arith}
 use Rattle.std.specs.Prelude.{slice_range, option_and_then}
 use Rattle.scan_spelling.specs.Spelling.{decode}
 use Rattle.scan_spelling.proofs.Lengths.{decode_length}
@@ -77,3 +77,11 @@ slice_items vs k bits h =
     let n : (k + length bits) - k ≡ length bits = omega arith in
     ap (λ m. map marked (items_where_true bits (take m (drop k vs)))) n
     ∙ picked_at vs (drop k vs) k bits refl (drop_length k (length bits) vs h)
+
+-- a segment that decodes has its rows
+pub decoded_long : (store : Store) (p : Place) (vs : List Val) → decoded store p ≡ Some vs → length vs ≡ p.rows
+decoded_long store p vs h = at (store p.id) h
+  where
+    at : (o : Option (List ℕ)) → option_and_then (decode p.spelling p.dtype p.rows) o ≡ Some vs → length vs ≡ p.rows
+    at None h = absurd cc
+    at (Some bytes) h = decode_length p.spelling p.dtype p.rows bytes vs h

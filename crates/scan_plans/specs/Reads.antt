@@ -1,5 +1,5 @@
 -- What a contract sees of the reading of rows, and of the look at what they lack.
-use Rattle.std.specs.Prelude.{◌≡◌, ℕ, ◌==◌, Bool, true, false, ◌||◌, ◌&&◌, List, [], ◌∷◌, ◌++◌, if◌then◌else◌, map, is_none, None, Result, Ok, Err}
+use Rattle.std.specs.Prelude.{◌≡◌, ℕ, ◌==◌, Bool, true, false, ◌||◌, ◌&&◌, List, [], ◌∷◌, ◌++◌, if◌then◌else◌, map, is_none, Some, None, Result, Ok, Err}
 use Rattle.std.specs.List.{list_any}
 use Rattle.scan_values.specs.Arrays.{ArrayData}
 use Rattle.scan_values.specs.Selections.{is_among}
@@ -65,15 +65,14 @@ abbrev pub any_overflow_on : PlanTrees → Store → List ℕ → Bool
 any_overflow_on no_plans store is = false
 any_overflow_on (plan p ps) store is = overflow_on p store is || any_overflow_on ps store is
 
--- rows of a segment that begin at one, under a mask: the segment decodes
-abbrev pub ReadsSegment : Store → Place → ℕ → List Bool → Result ArrayData ReadFault → Type 0
-ReadsSegment store p skip bits (Ok a) = (a.dtype ≡ p.dtype)
-    × (map marked a.items ≡ map (segment_value store p) (true_rows skip bits)) × (is_none (decoded store p) ≡ false)
-ReadsSegment store p skip bits (Err (Corrupt id)) = (id ≡ p.id) × (decoded store p ≡ None)
-ReadsSegment store p skip bits (Err Overflow) = ⊥
-ReadsSegment store p skip bits (Err NoMemory) = Unit {0}
+-- a segment that decodes to these values, or one that is no good
+abbrev pub ReadsSegment : Store → Place → Result ArrayData ReadFault → Type 0
+ReadsSegment store p (Ok a) = (a.dtype ≡ p.dtype) × (decoded store p ≡ Some a.items)
+ReadsSegment store p (Err (Corrupt id)) = (id ≡ p.id) × (decoded store p ≡ None)
+ReadsSegment store p (Err Overflow) = ⊥
+ReadsSegment store p (Err NoMemory) = Unit {0}
 
--- the same after other values, where a row is true
+-- values, and then those of rows of a segment that begin at one, under a mask, where a row is true: the segment decodes
 abbrev pub AddsSegment : Store → Place → ℕ → List Bool → ArrayData → Result ArrayData ReadFault → Type 0
 AddsSegment store p skip bits before (Ok a) =
     (a.dtype ≡ p.dtype) × (map marked a.items ≡ map marked before.items ++ map (segment_value store p)

@@ -22,12 +22,31 @@ use scan_values::{DType, NoMemory};
 use std::alloc::Global;
 use std::sync::Arc;
 
-/// Whether a row is true, without a way out.
+/// So many rows are looked at before the next ones.
+const BLOCK: usize = 64;
+
+/// Whether a row is true.
+#[tactic(auto, using(crate::proofs::Blocks::any_parts))]
 pub(crate) fn any_true(bits: &[bool]) -> bool
     ensures { result ≡ list_any (λ b. b) bits.now }
 {
+    let mut rest = bits;
+    while rest.len() > BLOCK {
+        let (block, later) = rest.split_at(BLOCK);
+        if any_in(block) {
+            return true;
+        }
+        rest = later;
+    }
+    any_in(rest)
+}
+
+/// Whether a row of a block is true, without a way out.
+fn any_in(block: &[bool]) -> bool
+    ensures { result ≡ list_any (λ b. b) block.now }
+{
     let mut any = false;
-    for bit in bits {
+    for bit in block {
         any |= *bit;
     }
     any
@@ -117,32 +136,29 @@ fn bytes_of(inbox: &Inbox, id: SegmentId) -> Option<&ByteBuffer>
     }
 }
 
-/// The values of a segment at the true rows, of the rows from `skip` on.
+/// The rows of a segment.
 fn read_segment(
     alloc: Global,
     dtype: &Arc<DType>,
     spelling: Spelling,
     id: SegmentId,
     rows: u64,
-    skip: u64,
-    bits: &[bool],
     inbox: &Inbox,
-) -> Result<Column, ReadFault>
-    requires scalar { is_scalar_type dtype.now.value ≡ true }
-    requires within { skip + length bits.now ≤ rows }
-    ensures { ReadsSegment (arrived (came inbox.now)) (place_of dtype.now.value spelling (id, rows)) skip bits.now result }
+) -> Result<LeafColumn, ReadFault>
+    requires { is_scalar_type dtype.now.value ≡ true }
+    ensures { ReadsSegment (arrived (came inbox.now)) (place_of dtype.now.value spelling (id, rows)) result }
 {
     let Some(bytes) = bytes_of(inbox, id) else {
         return Err(ReadFault::Corrupt(id));
     };
     match LeafColumn::read(alloc, spelling, dtype, rows, bytes.try_clone()?) {
-        Ok(column) => Ok(Column::from_leaf(alloc, dtype.clone()?, &column, skip as usize, bits)?),
+        Ok(leaf) => Ok(leaf),
         Err(DecodeFault::Spelling) => Err(ReadFault::Corrupt(id)),
         Err(DecodeFault::NoMemory) => Err(ReadFault::NoMemory),
     }
 }
 
-/// Values, and then those of a segment at the true rows, of the rows from `skip` on.
+/// Values, and then those of a segment at the true rows, of the rows from `skip` on. What stands already is not copied.
 fn with_segment(
     alloc: Global,
     column: Column,
@@ -163,8 +179,8 @@ fn with_segment(
     if !any_true(bits) {
         return Ok(column);
     }
-    let more = read_segment(alloc, dtype, spelling, id, rows, skip, bits, inbox)?;
-    Ok(column.append(alloc, more)?)
+    let leaf = read_segment(alloc, dtype, spelling, id, rows, inbox)?;
+    Ok(column.extend_from_leaf(alloc, &leaf, skip as usize, bits)?)
 }
 
 /// No values.

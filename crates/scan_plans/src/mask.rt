@@ -66,6 +66,9 @@ fn kept_rows(alloc: Global, mask: &Mask, column: &Column) -> Result<Mask, NoMemo
     ensures { IfOk result (λ m. KeepsRows mask.now column.now.items m) }
 {
     let truths = column.to_mask(alloc)?;
+    if mask.all_true() {
+        return Ok(truths);
+    }
     mask.intersect_by_rank(alloc, &truths)
 }
 

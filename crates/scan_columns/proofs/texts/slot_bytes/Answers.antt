@@ -9,7 +9,7 @@ slice_bounds-result-count c =
     let i = c.args.i in
     let ns = c.args.ends.now in
     let low : c.start-low.result ≡ total (take i ns) = search (rules, c.start-low.ensures) in
-    let high : c.start-high.result ≡ total (take (i + 1) ns) = search (rules, c.start-high.ensures) in
+    let high : c.end-high.result ≡ total (take (i + 1) ns) = search (rules, c.end-high.ensures) in
     omega (arith, low, high, total_ordered i (i + 1) ns (omega arith))
 
 pub slice_bounds-result-start : goal.slice_bounds-result-start
@@ -17,5 +17,5 @@ slice_bounds-result-start c =
     let i = c.args.i in
     let ns = c.args.ends.now in
     let low : c.start-low.result ≡ total (take i ns) = search (rules, c.start-low.ensures) in
-    let high : c.start-high.result ≡ total (take (i + 1) ns) = search (rules, c.start-high.ensures) in
+    let high : c.end-high.result ≡ total (take (i + 1) ns) = search (rules, c.end-high.ensures) in
     omega (arith, low, high, total_ordered i (i + 1) ns (omega arith))

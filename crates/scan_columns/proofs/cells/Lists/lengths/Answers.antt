@@ -12,8 +12,7 @@ use Rattle.scan_columns.proofs.cells.Lists.lengths.Goals as goal
 pub new-requires : goal.new-requires
 new-requires c =
     let ns = c.self.inside.ends in
-    let made : c.in_ok-counts.counts.items ≡ map pos ns = search (rules, c.in_ok-counts.ensures) in
-    let counts : numbers_in c.in_ok-numbers.numbers ≡ map pos ns = c.in_ok-numbers.ensures ∙ made in
+    let counts : numbers_in c.in_ok-counts.counts ≡ map pos ns = search (rules, c.in_ok-counts.ensures) in
     let valid : c.in_ok-valid.valid.items ≡ c.self.inside.valid.items = search (rules, c.in_ok-valid.ensures.items, c.as_slice.ensures.value) in
     ap length valid ∙ c.self.invariant.0 ∙ sym (length-map ns pos) ∙ ap length (sym counts)
 
@@ -22,7 +21,6 @@ returns c =
     let ns = c.self.inside.ends in
     let bs = c.self.inside.valid.items in
     let es = vals_in c.self.inside.elements.value in
-    let made : c.in_ok-counts.counts.items ≡ map pos ns = search (rules, c.in_ok-counts.ensures) in
-    let counts : numbers_in c.in_ok-numbers.numbers ≡ map pos ns = c.in_ok-numbers.ensures ∙ made in
+    let counts : numbers_in c.in_ok-counts.counts ≡ map pos ns = search (rules, c.in_ok-counts.ensures) in
     let valid : c.in_ok-valid.valid.items ≡ bs = search (rules, c.in_ok-valid.ensures.items, c.as_slice.ensures.value) in
     c.new.ensures ∙ (λ i. typed int_val (counts i) (valid i)) ∙ lists_lengths ns es bs c.self.invariant.1 ∙ (λ i. map length_val (c.self.view_is i).items)

@@ -1,6 +1,6 @@
 use Rattle.std.proofs.Common.{◌≡◌, ◌++◌, drop, map, pos}
 use Rattle.scan_columns.specs.Nested.{sizes, Rises}
-use Rattle.scan_columns.proofs.ends.counts_of.Given as goal
+use Rattle.scan_columns.proofs.ends.far_counts.Given as goal
 
 abbrev pub invariant-loop-end : goal.invariant-loop-end
 invariant-loop-end l = record {
