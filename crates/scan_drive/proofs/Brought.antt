@@ -39,7 +39,7 @@ module _ {O S W R F : Type 0} where
     log_is = e ∙ sym (append-nil log);
     files_are = refl;
     desks_are = refl;
-    rephased = record { phases_are = refl; active = refl; chunks = refl; first = refl; tally = refl; left = refl; report = refl; ordered = refl; budget = refl };
+    rephased = record { phases_are = refl; active = refl; chunks = refl; first = refl; tally = refl; left = refl; report = refl; ordered = refl; budget = refl; unclaimed = refl };
     spare = tt;
     within = tt;
     none = λ h. refl;
@@ -74,6 +74,7 @@ module _ {O S W R F : Type 0} where
       report = q.rephased.report ∙ p.rephased.report;
       ordered = q.rephased.ordered ∙ p.rephased.ordered;
       budget = q.rephased.budget ∙ p.rephased.budget;
+      unclaimed = q.rephased.unclaimed ∙ p.rephased.unclaimed;
     };
     spare = spare_append p.places q.places d.phases.items p.spare (subst (AreSpare q.places) p.rephased.phases_are q.spare);
     within = range_append last p.places q.places p.within (range_more m last q.places le q.within);

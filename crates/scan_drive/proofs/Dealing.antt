@@ -88,18 +88,18 @@ module _ {W I R : Type 0} (split : W → SplitState I) (comes : W → Arrivals �
 
   -- a budget that is used up meets the limit
   pub none_used : (ordered : Bool) (left left' : Option ℕ) (b : Option BudgetData) (old new : List (Slot W R)) (chunks chunks' : List (Chunk R)) → IsBudget ordered left b → UsesUpIn split comes items b old new
-      → (ordered ≡ false → count (given items chunks') ≡ count (given items chunks) + read_rows items new) → Counts items chunks chunks' left left' → ⊥
+      → ((x : BudgetData) → b ≡ Some x → ordered ≡ false → count (given items chunks') ≡ count (given items chunks) + read_rows items new) → Counts items chunks chunks' left left' → ⊥
   none_used ordered left left' None old new chunks chunks' g u n c = absurd u
   none_used ordered left left' (Some b) old new chunks chunks' g u n c =
-      used_up split comes items b left left' chunks chunks' old new (subst (λ x. Grants x left b) g.free g) u (n g.free) c
+      used_up split comes items b left left' chunks chunks' old new (subst (λ x. Grants x left b) g.free g) u (n b refl g.free) c
 
   -- one that is not grants what is left
   pub budget_on : (ordered : Bool) (left left' : Option ℕ) (b d : Option BudgetData) (slots : List (Slot W R)) (chunks chunks' : List (Chunk R)) → IsBudget ordered left b → GrantsIn items b d slots
-      → (ordered ≡ false → count (given items chunks') ≡ count (given items chunks) + read_rows items slots) → Counts items chunks chunks' left left' → IsBudget ordered left' d
+      → ((x : BudgetData) → b ≡ Some x → ordered ≡ false → count (given items chunks') ≡ count (given items chunks) + read_rows items slots) → Counts items chunks chunks' left left' → IsBudget ordered left' d
   budget_on ordered left left' None d slots chunks chunks' g u n c = subst (IsBudget ordered left') (sym u) tt
   budget_on ordered left left' (Some b) None slots chunks chunks' g u n c = absurd u
   budget_on ordered left left' (Some b) (Some d) slots chunks chunks' g u n c =
-      subst (λ x. Grants x left' d) (sym g.free) (grants_on split comes items b d left left' chunks chunks' slots (subst (λ x. Grants x left b) g.free g) u (n g.free) c)
+      subst (λ x. Grants x left' d) (sym g.free) (grants_on split comes items b d left left' chunks chunks' slots (subst (λ x. Grants x left b) g.free g) u (n b refl g.free) c)
 
 pub open_in : (ordered : Bool) (left : Option ℕ) (b : Option BudgetData) → IsBudget ordered left b → IfSome b IsOpen
 open_in ordered left None g = tt

@@ -1,12 +1,12 @@
 -- What one call over all files gives, once the files stand where they stood.
 use Rattle.std.proofs.Common.{◌≡◌, ℕ, ◌<◌, List, [], ◌∷◌, length, map, get_or, Bool, true, false, Result, Ok, Err, inl, inr, refl, sym, ap, ◌∙◌, subst}
-use Rattle.std.specs.Prelude.{◌⊎◌, All, IfOk, IfErr, OnOk, Option}
+use Rattle.std.specs.Prelude.{◌⊎◌, IfOk, IfErr, Option}
 use Rattle.std.specs.List.Sorted.{SwapsInRange}
 use Rattle.std.proofs.lemmas.List.{length-map}
 use Rattle.scan_segments.specs.Source.{SourceState, Store}
 use Rattle.scan_splits.specs.Arrivals.{Arrivals}
 use Rattle.scan_drive.specs.Before.{StopsBefore}
-use Rattle.scan_drive.specs.Chunks.{given, HasRow}
+use Rattle.scan_drive.specs.Chunks.{given}
 use Rattle.scan_drive.specs.Drives.{SourcesMove, NoneOf}
 use Rattle.scan_drive.specs.Drivings.{StopsDrive}
 use Rattle.scan_drive.specs.Files.{Told, answer}
@@ -32,9 +32,8 @@ use Rattle.scan_drive.specs.declared.settling.RoundFault.{RoundFault}
 use Rattle.scan_drive.specs.declared.settling.RoundFault.TheVariants as why
 use Rattle.scan_segments.specs.Faults.{Rose}
 use Rattle.scan_drive.proofs.Exchanging.{length_exchanged}
-use Rattle.scan_drive.proofs.ExchangedAnswer.{given_placed, rows_renamed}
-use Rattle.scan_drive.proofs.ExchangedBack.{cache_exchanged, tells_exchanged, back_moves, back_stops}
-use Rattle.scan_drive.proofs.Lined.{lawful_exchanged}
+use Rattle.scan_drive.proofs.ExchangedAnswer.{given_placed}
+use Rattle.scan_drive.proofs.ExchangedBack.{cache_exchanged, back_moves, back_stops}
 use Rattle.scan_drive.proofs.Moving.{each_then, each_under, each_sources}
 use Rattle.scan_drive.proofs.Starting.{starts_sound}
 use Rattle.scan_drive.proofs.Stopping.{stops_drive}
@@ -47,7 +46,7 @@ named_same (c ∷ cs) = ap (λ l. c ∷ l) (named_same cs)
 
 module _ {R I : Type 0} (items : R → List I) (limit : Option ℕ) (tale : List (Told I)) (log : List (ℕ × ℕ)) where
   -- what is given, by files
-  answered : (ordered : Bool) → (ordered ≡ true → log ≡ []) → SwapsInRange (length tale) log → (chunks : List (Chunk R)) → AreGiven ordered limit (answer (exchanged log tale)) (given items chunks) → IsAnswered ordered limit tale (given items (map (renamed (placed_by log)) chunks))
+  pub answered : (ordered : Bool) → (ordered ≡ true → log ≡ []) → SwapsInRange (length tale) log → (chunks : List (Chunk R)) → AreGiven ordered limit (answer (exchanged log tale)) (given items chunks) → IsAnswered ordered limit tale (given items (map (renamed (placed_by log)) chunks))
   answered true order r chunks e =
       let P : List (ℕ × ℕ) → Type 0 = λ ss. AreGiven true limit (answer tale) (given items (map (renamed (placed_by ss)) chunks)) in
       let Q : List (ℕ × ℕ) → Type 0 = λ ss. AreGiven true limit (answer (exchanged ss tale)) (given items chunks) in
@@ -85,37 +84,9 @@ module _ {R F : Type 0} (cs : List (Chunk R)) (report : ScanReport) (log : List 
   abbrev pub FaultsOut : Type 0
   FaultsOut = IfErr out (λ e. (e ≡ why.Split fault.NoMemory) ⊎ ((f : RoundFault F) × (done ≡ Err f) × (e ≡ fault_in (placed_by log) f)))
 
-  -- a fact of what is given
-  ok_to : (P Q : DriveOutput R → Type 0) → ((o : DriveOutput R) → P o → Q o) → (z : Result (DriveOutput R) (RoundFault F)) → IfOk z P → IfOk z Q
-  ok_to P Q to (Ok o) h = to o h
-  ok_to P Q to (Err e) h = tt
-
   err_to : (P Q : RoundFault F → Type 0) → ((e : RoundFault F) → P e → Q e) → (z : Result (DriveOutput R) (RoundFault F)) → IfErr z P → IfErr z Q
   err_to P Q to (Ok o) h = tt
   err_to P Q to (Err e) h = to e h
-
-  abbrev Here : DriveOutput R → Type 0
-  Here o = (done ≡ Ok tt) × (o.report ≡ report) × (o.chunks.items ≡ map (renamed (placed_by log)) cs)
-
-  pub out_then : (K X : Type 0) → GivesOut → OnOk done K → (K → X) → IfOk out (λ o. X)
-  out_then K X h k to = ok_to Here (λ o. X) (λ o w. to (subst (λ (z : Result (Unit {0}) (RoundFault F)). OnOk z K) w.0 k)) out h
-
-  pub out_report : (K : Type 0) (P : ScanReport → Type 0) → GivesOut → OnOk done K → (K → P report) → IfOk out (λ o. P o.report)
-  out_report K P h k to = ok_to Here (λ o. P o.report) (λ o w. subst P (sym w.1) (to (subst (λ (z : Result (Unit {0}) (RoundFault F)). OnOk z K) w.0 k))) out h
-
-  pub out_some : {I : Type 0} (items : R → List I) → GivesOut → OnOk done (All (HasRow items) cs) → IfOk out (λ o. All (HasRow items) o.chunks.items)
-  out_some items h k = ok_to Here (λ o. All (HasRow items) o.chunks.items)
-      (λ o w. subst (All (HasRow items)) (sym w.2) (rows_renamed items (placed_by log) cs (subst (λ (z : Result (Unit {0}) (RoundFault F)). OnOk z (All (HasRow items) cs)) w.0 k))) out h
-
-  pub out_answer : {O S I : Type 0} (state : O → OpenerState I) (source : S → SourceState) (items : R → List I) (limit : Option ℕ) (ordered : Bool) (c : Cache) (a : List (ScanFile O S)) → (ordered ≡ true → log ≡ []) → SwapsInRange (length a) log → GivesOut →
-      OnOk done (IsLawful state source (exchanged log a) c → AreGiven ordered limit (answer (tells state source (exchanged log a))) (given items cs)) →
-      IfOk out (λ o. IsLawful state source a c → IsAnswered ordered limit (tells state source a) (given items o.chunks.items))
-  out_answer {I = I} state source items limit ordered c a order r h k =
-      let K : Type 0 = IsLawful state source (exchanged log a) c → AreGiven ordered limit (answer (tells state source (exchanged log a))) (given items cs) in
-      let Q : DriveOutput R → Type 0 = λ o. IsLawful state source a c → IsAnswered ordered limit (tells state source a) (given items o.chunks.items) in
-      let A : List (Chunk R) → Type 0 = λ xs. IsAnswered ordered limit (tells state source a) (given items xs) in
-      ok_to Here Q (λ o w law. subst A (sym w.2) (answered items limit (tells state source a) log ordered order (subst (λ n. SwapsInRange n log) (sym (length-map a (tell state source))) r) cs
-      (subst (λ (ts : List (Told I)). AreGiven ordered limit (answer ts) (given items cs)) (tells_exchanged log a r state source) (subst (λ (z : Result (Unit {0}) (RoundFault F)). OnOk z K) w.0 k (lawful_exchanged state source log a c r law))))) out h
 
   pub out_fault : {O S W I : Type 0} (state : O → OpenerState I) (polls : O → O → Type 0) (refuses : O → O → F → Type 0) (admits : O → O → List W → Type 0) (source : S → SourceState) (split : W → SplitState I) (comes : W → Arrivals → Store → Event → Type 0) (items : R → List I)
       (limit : Option ℕ) (ordered : Bool) (c : Cache) (a b e : List (ScanFile O S)) (d0 d1 : Drive W R F) → Starts (length a) limit d0 → (ordered ≡ true → log ≡ []) → SwapsInRange (length a) log → length b ≡ length a → SourcesMove source NoneOf b e → FaultsOut →

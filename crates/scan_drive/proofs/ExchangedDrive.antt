@@ -120,7 +120,7 @@ module _ {W F : Type 0} (i j : ℕ) (ps : List (Phase W F)) (s : Spare i j ps) w
 module _ {W R F : Type 0} (i j : ℕ) (v w : Drive W R F) (r : Rephased (swap v.phases.items i j) v w) where
   -- the drive is as before, but for the phases
   pub rephase : w ≡ record v { phases = w.phases }
-  rephase = λ k. record { phases = w.phases; active = r.active k; chunks = r.chunks k; first = r.first k; tally = r.tally k; left = r.left k; report = r.report k; ordered = r.ordered k; budget = r.budget k }
+  rephase = λ k. record { phases = w.phases; active = r.active k; chunks = r.chunks k; first = r.first k; tally = r.tally k; left = r.left k; report = r.report k; ordered = r.ordered k; budget = r.budget k; unclaimed = r.unclaimed k }
 
   -- what holds of it with the others' phases
   pub of_rephased : (P : Drive W R F → Type 0) → P (record v { phases = w.phases }) → P w

@@ -90,10 +90,10 @@ module _ {O S W R I F : Type 0} (state : O → OpenerState I) (polls : O → O �
   mid_of i j v = record v { phases = with_item (with_item v.phases i (phase_at v.phases.items j)) j (phase_at v.phases.items i) }
 
   mid_is : (i j : ℕ) (v : Drive W R F) → i < length v.phases.items → j < length v.phases.items → Rephased (swap v.phases.items i j) v (mid_of i j v)
-  mid_is i j v p q = record { phases_are = swap_is v.phases.items i j phase.Unopened p q; active = refl; chunks = refl; first = refl; tally = refl; left = refl; report = refl; ordered = refl; budget = refl }
+  mid_is i j v p q = record { phases_are = swap_is v.phases.items i j phase.Unopened p q; active = refl; chunks = refl; first = refl; tally = refl; left = refl; report = refl; ordered = refl; budget = refl; unclaimed = refl }
 
   from_mid : (ss : List (ℕ × ℕ)) (i j : ℕ) (v w : Drive W R F) → Rephased (swap v.phases.items i j) v (mid_of i j v) → Rephased (exchanged ss (swap v.phases.items i j)) v w → Rephased (exchanged ss (mid_of i j v).phases.items) (mid_of i j v) w
-  from_mid ss i j v w m e = record { phases_are = e.phases_are ∙ ap (exchanged ss) (sym m.phases_are); active = e.active; chunks = e.chunks; first = e.first; tally = e.tally; left = e.left; report = e.report; ordered = e.ordered; budget = e.budget }
+  from_mid ss i j v w m e = record { phases_are = e.phases_are ∙ ap (exchanged ss) (sym m.phases_are); active = e.active; chunks = e.chunks; first = e.first; tally = e.tally; left = e.left; report = e.report; ordered = e.ordered; budget = e.budget; unclaimed = e.unclaimed }
 
   never : (t : ℕ × ℕ) (ss : List (ℕ × ℕ)) (P : Type 0) → t ∷ ss ≡ [] → P
   never t ss P bad = absurd cc

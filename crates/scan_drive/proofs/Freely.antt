@@ -1,13 +1,12 @@
 -- Rows are given of all splits that are read, once over all turns.
-use Rattle.std.proofs.Common.{◌≡◌, ◌≢◌, ℕ, suc, zero, ◌+◌, ◌<◌, ◌≤◌, List, [], ◌∷◌, ◌++◌, length, take, drop, get_or, Bool, true, false, not, ◌&&◌, ◌||◌, eqb, Option, Some, None, Result, Ok, Err, IfOk, IfErr, inl, inr, refl, sym, ap, ◌∙◌, subst, arith, append_assoc, append-nil, IsPermutation}
-use Rattle.std.specs.Prelude.{◌⊎◌, IfSome, unwrap_or}
+use Rattle.std.proofs.Common.{◌≡◌, ◌≢◌, ℕ, suc, zero, ◌+◌, ◌<◌, ◌≤◌, List, [], ◌∷◌, ◌++◌, length, take, drop, get_or, Bool, true, false, eqb, Option, Some, None, Result, Ok, Err, IfOk, IfErr, inl, inr, refl, sym, ap, ◌∙◌, subst, arith, append_assoc, append-nil, IsPermutation}
+use Rattle.std.specs.Prelude.{◌⊎◌, IfSome, OnOk, unwrap_or}
 use Rattle.std.proofs.lemmas.Bool.{cases_eq}
 use Rattle.std.proofs.lemmas.Bool.Decides.{nat_tests}
 use Rattle.std.proofs.lemmas.List.Sorted.{IsPermutation-refl, IsPermutation-trans, IsPermutation-append_left, IsPermutation-append_right, IsPermutation-append_comm}
 use Rattle.scan_values.specs.Selections.{is_among}
 use Rattle.scan_segments.specs.Source.{Store}
 use Rattle.scan_splits.specs.Arrivals.{Arrivals}
-use Rattle.scan_splits.specs.Wanted.{no_repeats}
 use Rattle.scan_drive.specs.Actives.{GivesRows, IsHalted, Rotates, Seated, SlotOk, AllOk, groups_in, groups_left}
 use Rattle.scan_drive.specs.Chunks.{limit_of, HasRoom, fault_of, given, AddsFile, KeepsFiles, KeepsRows, Counts, GivesAll, GivesFirst, IsCause, IsCut, IsMore}
 use Rattle.scan_drive.specs.Files.{Group, grouped, count, limited, Told, AllTell}
@@ -15,12 +14,13 @@ use Rattle.scan_drive.specs.Grants.{AreSome}
 use Rattle.scan_drive.specs.Lost.{StopsOver}
 use Rattle.scan_drive.specs.Measures.{is_there, stage_steps, slots_steps}
 use Rattle.scan_drive.specs.Order.{Rises}
-use Rattle.scan_drive.specs.Slots.{slot_at, nothing, is_fresh, is_read, is_halted, slot_groups, stage_read, read_rows}
+use Rattle.scan_drive.specs.Slots.{slot_at, nothing, is_read, is_halted, slot_groups, stage_read, read_rows}
 use Rattle.scan_drive.specs.Splits.{SplitState, Event}
 use Rattle.scan_drive.specs.Turns.{Filled, IsGone, FrontWaits, TurnsWait, GivesOn}
 use Rattle.scan_drive.specs.declared.active.Active.{Active}
 use Rattle.scan_drive.specs.declared.delivery.Chunk.{Chunk}
 use Rattle.scan_drive.specs.declared.delivery.DriveFault.{DriveFault}
+use Rattle.scan_drive.specs.declared.delivery.DriveFault.TheVariants as fault
 use Rattle.scan_drive.specs.declared.slot.Halt.{Halt}
 use Rattle.scan_drive.specs.declared.slot.Slot.{Slot}
 use Rattle.scan_drive.specs.declared.slot.Stage.{Stage}
@@ -30,7 +30,7 @@ use Rattle.scan_drive.proofs.Giving.{front_ok, front_groups, files_rows, halted_
 use Rattle.scan_drive.proofs.Handing.{among_head}
 use Rattle.scan_drive.proofs.Ordering.{rises_later, rises_same}
 use Rattle.scan_drive.proofs.Polling.{stops_over}
-use Rattle.scan_drive.proofs.Same.{alike, along_permutation, joined_alike, rows_append, rows_any, rows_cut}
+use Rattle.scan_drive.proofs.Same.{alike, joined_alike, rows_append, rows_any, rows_cut}
 use Rattle.scan_drive.proofs.Seating.{or_cases, first_within}
 use Rattle.scan_drive.proofs.Trimming.{Trims, trims_same, trims_append, trims_group}
 use Rattle.scan_drive.proofs.Turning.{gives_none, gives_rows, sum_one}
@@ -44,6 +44,10 @@ module _ {A E : Type 0} where
   pub ok_any : (r : Result A E) (Q : A → Type 0) → ((x : A) → Q x) → IfOk r Q
   ok_any (Ok x) Q f = f x
   ok_any (Err e) Q f = tt
+
+  pub ok_on : (r : Result A E) (P : A → Type 0) (Q : Type 0) → ((x : A) → P x → Q) → IfOk r P → OnOk r Q
+  ok_on (Ok x) P Q f h = f x h
+  ok_on (Err e) P Q f h = tt
 
   pub err_under : (r : Result A E) (P Q : E → Type 0) → ((e : E) → P e → Q e) → IfErr r P → IfErr r Q
   err_under (Ok x) P Q f h = tt
@@ -122,6 +126,11 @@ module _ {W R : Type 0} where
   nothing_there : (q : ℕ) → slot_at {W = W} {R = R} [] q ≡ nothing
   nothing_there zero = refl
   nothing_there (suc q) = refl
+
+-- why none is given then
+pub held_cause : {I : Type 0} (tale : List (Told I)) (why : Option DriveFault) (e : DriveFault) → IfSome why (IsCause tale) → (e ≡ fault.NoMemory) ⊎ (why ≡ Some e) → IsCause tale e
+held_cause tale why e h (inl short) = subst (IsCause tale) (sym short) tt
+held_cause tale why e h (inr is) = subst (λ o. IfSome o (IsCause tale)) is h
 
 -- ---- how many rows are there
 module _ {W I R : Type 0} (items : R → List I) where
@@ -402,6 +411,67 @@ module _ {W I R : Type 0} (split : W → SplitState I) (comes : W → Arrivals �
         go : (q : ℕ) (b : Bool) → is_among now.turns.items q ≡ b → is_read (slot_at now.slots.items q).stage ≡ false
         go q true m = s.unread q (sym (ap (λ (ts : List ℕ). is_among ts q) turns_kept) ∙ m)
         go q false m = ap is_read (s.seated.empty q m)
+
+  -- ---- the last one waits for others
+  module _ (old mid new : Active W R) (before chunks : List (Chunk R)) (left here : Option ℕ) (why : Option DriveFault) (i : ℕ) (s : Over old mid before chunks left here why i) (lt : i < length old.turns.items) (le : length old.turns.items ≤ i + 1)
+      (r : Rotates mid new) where
+    held_first : First s.rest s.kept r.place r.later
+    held_first = first_of s.rest s.kept r.place r.later (sym s.turns ∙ r.turns) (let a = s.most in omega (arith, a, lt))
+
+    held_next : held_first.next ≡ []
+    held_next = none_left held_first.next (let a = s.most in let b : length s.rest ≡ length (r.place ∷ held_first.next) = ap length held_first.rest_is in omega (arith, a, b, le))
+
+    held_later : r.later ≡ s.kept
+    held_later = held_first.later_is ∙ ap (λ xs. xs ++ s.kept) held_next
+
+    held_turns : new.turns.items ≡ s.kept ++ s.rest
+    held_turns = r.turned ∙ ap (λ xs. xs ++ r.place ∷ []) held_later ∙ ap (λ xs. s.kept ++ (r.place ∷ xs)) (sym held_next) ∙ ap (λ xs. s.kept ++ xs) (sym held_first.rest_is)
+
+    held_at : (q : ℕ) → IsGone (slot_at old.slots.items q) (slot_at new.slots.items q)
+    held_at q = subst (λ (ss : List (Slot W R)). IsGone (slot_at old.slots.items q) (slot_at ss q)) (sym r.slots) (s.at q)
+
+    pub held_seated : Seated new
+    held_seated = turned_seated mid new r s.seated
+
+    pub held_ok : (tale : List (Told I)) → AllOk split comes items tale old → AllOk split comes items tale new
+    held_ok tale ok = turned_ok tale mid new r (s.ok tale ok)
+
+    pub held_more : IsMore split comes items false old new before chunks left here
+    held_more = record {
+      groups = λ tale all ok.
+          IsPermutation-trans (given items chunks ++ groups_left split comes items tale new) (given items chunks ++ groups_left split comes items tale mid) (given items before ++ groups_left split comes items tale old)
+          (IsPermutation-append_right (given items chunks) (groups_left split comes items tale new) (groups_left split comes items tale mid) (turned_groups tale mid new r)) (s.groups tale all ok);
+      counts = s.counts;
+      order = λ first last h. rises_same first last new.turns.items old.slots.items new.slots.items (λ q m. gone_file (slot_at old.slots.items q) (slot_at new.slots.items q) (held_at q)) (subst (λ ts. Rises first last ts old.slots.items) (sym held_turns) (s.order first last h));
+    }
+
+    pub held_gives : GivesOn split old new
+    held_gives = record { at = held_at; filled = λ h. turned_filled mid new r (s.filled h); nears = go s.nears }
+      where
+        go : ((mid.slots.items ≡ old.slots.items) × (s.kept ++ s.rest ≡ old.turns.items)) ⊎ (slots_steps split mid.slots.items < slots_steps split old.slots.items)
+            → ((new.slots.items ≡ old.slots.items) × (new.turns.items ≡ old.turns.items)) ⊎ (slots_steps split new.slots.items < slots_steps split old.slots.items)
+        go (inl e) = inl (r.slots ∙ e.0, held_turns ∙ e.1)
+        go (inr l) = inr (subst (λ (ss : List (Slot W R)). slots_steps split ss < slots_steps split old.slots.items) (sym r.slots) l)
+
+    -- the first of the others waits
+    pub held_wait : 1 < length mid.turns.items → why ≡ None → TurnsWait new
+    held_wait some e = go s.kept refl s.unread (s.wanted e)
+      where
+        still : (P : Slot W R → Type 0) (q : ℕ) → P (slot_at mid.slots.items q) → P (slot_at new.slots.items q)
+        still P q h = subst (λ (ss : List (Slot W R)). P (slot_at ss q)) (sym r.slots) h
+
+        go : (ks : List ℕ) → s.kept ≡ ks → ((q : ℕ) → is_among ks q ≡ true → is_read (slot_at mid.slots.items q).stage ≡ false) → ((q : ℕ) → is_among ks q ≡ true → is_halted (slot_at mid.slots.items q).stage ≡ false) → TurnsWait new
+        go [] is u w =
+            let a : length mid.turns.items ≡ length (r.place ∷ r.later) = ap length r.turns in
+            let b : length r.later ≡ 0 = ap length (held_later ∙ is) in
+            absurd (omega (arith, some, a, b))
+        go (k ∷ ks) is u w = inr (record {
+          place = k;
+          later = ks ++ s.rest;
+          turns = held_turns ∙ ap (λ xs. xs ++ s.rest) is;
+          unread = still (λ x. is_read x.stage ≡ false) k (u k (among_head k ks));
+          wanted = still (λ x. is_halted x.stage ≡ false) k (w k (among_head k ks));
+        })
 
   -- the first rows of a split are given, and the limit is met
   pub over_cut : (file : ℕ) (rows : R) (old mid new : Active W R) (before chunks chunks' : List (Chunk R)) (left here : Option ℕ) (why : Option DriveFault) (i : ℕ) → Over old mid before chunks left here why i → GivesRows file rows mid new →

@@ -171,7 +171,8 @@ module _ {O S W I R F : Type 0} (state : O → OpenerState I) (polls : O → O �
 
               stuck_by : IsStuck room e.first e.tally e.phases.items e.active.turns.items → Goal
               stuck_by (inl past) = end (inl past)
-              stuck_by (inr (inl full)) = let z : length e.active.turns.items ≡ 0 = ap length is in absurd (omega (arith, pos, full, z))
+              stuck_by (inr (inl (inl full))) = let z : length e.active.turns.items ≡ 0 = ap length is in absurd (omega (arith, pos, full, z))
+              stuck_by (inr (inl (inr some))) = let z : length e.active.turns.items ≡ 0 = ap length is in absurd (omega (arith, some, z))
               stuck_by (inr (inr (inl h))) = shut (phase_at e.phases.items e.first) refl h (le_or_lt (length e.phases.items) e.first)
               stuck_by (inr (inr (inr h))) = end (inr (inr h))
 

@@ -13,6 +13,7 @@ pub mod Counting
 pub mod Cutting
 pub mod Dealing
 pub mod Desking
+pub mod DriveSteps
 pub mod Driven
 pub mod DrivenBack
 pub mod Ending
@@ -43,6 +44,7 @@ pub mod Lasting
 pub mod Leading
 pub mod Ledgers
 pub mod LinePolls
+pub mod LineSteps
 pub mod Lined
 pub mod Lining
 pub mod Linking
@@ -56,6 +58,7 @@ pub mod Polling
 pub mod Reckoning
 pub mod Resting
 pub mod Restoring
+pub mod RoundSteps
 pub mod Rounding
 pub mod Running
 pub mod Same
@@ -71,6 +74,7 @@ pub mod Tracking
 pub mod Trading
 pub mod Trimming
 pub mod Turning
+pub mod Waiting
 pub mod Wanting
 pub mod Weighing
 pub mod Windows

@@ -46,6 +46,7 @@ module _ {W R F : Type 0} where
     pub report : new.report ≡ old.report
     pub ordered : new.ordered ≡ old.ordered
     pub budget : new.budget ≡ old.budget
+    pub unclaimed : new.unclaimed ≡ old.unclaimed
 
   -- Files that are open were brought before those that are not, up to a place: the places that were exchanged stand in the log.
   pub record BringsForward {O S : Type 0} (last : ℕ) (log log' : List (ℕ × ℕ)) (files files' : List (ScanFile O S))

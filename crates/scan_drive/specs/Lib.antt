@@ -5,6 +5,7 @@ pub mod Before
 pub mod Budgets
 pub mod Chunks
 pub mod Claimed
+pub mod Claims
 pub mod Desks
 pub mod Drives
 pub mod Drivings
@@ -34,6 +35,7 @@ pub mod Runs
 pub mod Slots
 pub mod Sources
 pub mod Splits
+pub mod Steps
 pub mod Trades
 pub mod Traffic
 pub mod Turns

@@ -71,6 +71,10 @@ module _ {W I R F : Type 0} (split : W → SplitState I) where
     pub order : (low : ℕ) → Rises low first old.turns.items old.slots.items → Rises low first' new.turns.items new.slots.items
     pub shut : (k : ℕ) → is_unopened (phase_at qs k) ≡ is_unopened (phase_at ps k)
 
+-- there is no room for one more split, or one is active
+abbrev pub IsFull : ℕ → List ℕ → Type 0
+IsFull room turns = (room ≤ length turns) ⊎ (0 < length turns)
+
 module _ {W F : Type 0} where
   -- with its rows there would be too many
   abbrev pub IsTooMany : ℕ → Tally → Phase W F → Type 0
@@ -95,9 +99,10 @@ module _ {W F : Type 0} where
   Counts file old new p true = IsCounted file old new p
   Counts file old new p false = (new ≡ old) × IsTooMany file old p
 
-  -- no split becomes active: all files are done, there is no room, or the splits of the next file are not known or too many
+  -- no split becomes active: all files are done, there is no room or a split has claimed the last row, or the splits of the
+  -- next file are not known or too many
   abbrev pub IsStuck : ℕ → ℕ → Tally → List (Phase W F) → List ℕ → Type 0
-  IsStuck room first tally ps turns = (length ps ≤ first) ⊎ ((room ≤ length turns) ⊎ (IsShut (phase_at ps first) ⊎ IsTooMany first tally (phase_at ps first)))
+  IsStuck room first tally ps turns = (length ps ≤ first) ⊎ (IsFull room turns ⊎ (IsShut (phase_at ps first) ⊎ IsTooMany first tally (phase_at ps first)))
 
 module _ {I : Type 0} where
   -- how many rows a file has, where that is told

@@ -1,9 +1,9 @@
 //! The splits that are active, over all files. An own type: the Rust buffers the tasks of one file at a time.
-ghost use Rattle.std.specs.Prelude.{◌≡◌, ◌<◌, ◌++◌, ◌∷◌, [], true, false, None, ℕ, OnOk, IfOk, IfSome, MatchOption, length, drop};
+ghost use Rattle.std.specs.Prelude.{◌≡◌, ◌≢◌, ◌<◌, ◌∷◌, [], true, false, None, ℕ, List, OnOk, IfOk, IfSome, MatchOption, length, drop};
 ghost use Rattle.scan_values.specs.Selections.{is_among};
-ghost use Rattle.scan_drive.specs.Actives.{Seated, Becomes, IsRoom, Seats, IsFront, IsNext};
+ghost use Rattle.scan_drive.specs.Actives.{Seated, Becomes, IsRoom, Seats, IsFront, IsNext, Rotates};
 ghost use Rattle.scan_drive.specs.Runs.{RunData};
-ghost use Rattle.scan_drive.specs.Slots.{slot_at, is_halted, IsTaken};
+ghost use Rattle.scan_drive.specs.Slots.{slot_at, is_halted, is_read, IsTaken};
 ghost use Rattle.scan_drive.specs.declared.slot.Stage.TheVariants as stage;
 
 use crate::run::Run;
@@ -161,5 +161,29 @@ impl<W: Drop, R: Drop> Active<W, R> {
                 Ok(Front::Rows(file, rows))
             }
         }
+    }
+
+    /// Whether the rows of the split whose turn it is are there.
+    pub(crate) fn has_rows(&self) -> bool
+        requires { Seated self.now }
+        ensures { (place : ℕ) (later : List ℕ) → self.now.turns.items ≡ place ∷ later →
+            result ≡ is_read (slot_at self.now.slots.items place).stage }
+    {
+        match first_of(&self.turns) {
+            Some(place) => self.slots[place].has_rows(),
+            None => false,
+        }
+    }
+
+    /// The split whose turn it is goes behind the others, whatever there is of it.
+    pub(crate) fn pass_on(&mut self) -> Result<(), NoMemory>
+        requires { self.old.turns.items ≢ [] }
+        ensures { OnOk result (Rotates self.old self.new) }
+    {
+        match self.turns.pop_front() {
+            Some(place) => self.turns.push_back(place)?,
+            None => {}
+        }
+        Ok(())
     }
 }

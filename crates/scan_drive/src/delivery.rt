@@ -1,13 +1,15 @@
 //! What is given, up to a limit: in turn, or as it is read. After the Rust's buffers of tasks, which keep the order or do not.
-ghost use Rattle.std.specs.Prelude.{◌≡◌, ◌≤◌, ◌+◌, ◌-◌, ◌++◌, true, false, List, OnOk, IfOk, IfErr, MatchOption, Option, Some, None, length, option_map, unwrap_or};
+ghost use Rattle.std.specs.Prelude.{◌≡◌, ◌≢◌, ◌≤◌, ◌<◌, ◌+◌, ◌-◌, ◌++◌, ◌⊎◌, [], true, false, List, OnOk, IfOk, IfErr, MatchOption, Option, Some, None, option_map, unwrap_or};
 ghost use Rattle.scan_drive.specs.Files.{Item};
-ghost use Rattle.scan_drive.specs.Actives.{Seated, AllOk};
-ghost use Rattle.scan_drive.specs.Chunks.{HasRoom, AddsFile, Fits, KeepsFiles, KeepsRows, fault_of, given, Gives, IsDelivered, IsDeliverFault, IsCause};
+ghost use Rattle.scan_drive.specs.Actives.{Seated, AllOk, Rotates};
+ghost use Rattle.scan_drive.specs.Chunks.{HasRoom, AddsFile, Fits, KeepsRows, fault_of, given, Gives, IsDelivered, IsDeliverFault, IsCause};
 ghost use Rattle.scan_drive.specs.Files.{Told, count, grouped};
 ghost use Rattle.scan_drive.specs.Lost.{StopsOver};
 ghost use Rattle.scan_drive.specs.Slots.{read_rows};
+ghost use Rattle.scan_drive.specs.Steps.{GivesRows};
 ghost use Rattle.scan_drive.specs.Turns.{GivesOn, TurnsWait};
 ghost use Rattle.scan_drive.specs.declared.delivery.Delivered.TheVariants as delivered;
+ghost use Rattle.scan_drive.specs.declared.delivery.DriveFault.TheVariants as faults;
 
 use crate::active::{Active, Front};
 use crate::slot::Halt;
@@ -136,13 +138,10 @@ pub fn deliver<W: SplitWork + Drop>(
     requires seated { Seated active.old }
     requires room { HasRoom left.old }
     ensures seated { OnOk result (Seated active.new) }
-    ensures ok { OnOk result ((tale : List (Told Item)) → AllOk W.split W.comes W.items tale active.old →
-        AllOk W.split W.comes W.items tale active.new) }
+    ensures keeps { OnOk result (GivesRows W.split W.comes W.items active.old active.new chunks.old.items chunks.new.items) }
     ensures gives { IfOk result (λ d. d ≡ delivered.More → GivesOn W.split active.old active.new × TurnsWait active.new) }
     ensures delivered { IfOk result (λ d. IsDelivered W.split W.comes W.items true active.old active.new
         chunks.old.items chunks.new.items left.old left.new d) }
-    ensures some { OnOk result (KeepsRows W.items chunks.old.items chunks.new.items) }
-    ensures files { OnOk result (KeepsFiles active.old.slots.items chunks.old.items chunks.new.items) }
     ensures fault { IfErr result (λ e. IsDeliverFault W.split W.comes W.items active.old active.new
         chunks.old.items chunks.new.items left.old left.new e) }
     ensures cause { IfErr result (λ e. (tale : List (Told Item)) →
@@ -174,31 +173,63 @@ fn first_fault(before: Option<DriveFault>, fault: DriveFault) -> Option<DriveFau
     }
 }
 
-/// Gives the rows of all splits that are read, up to the limit. Why a split is given up comes once these are given.
+/// Whether the rows of the split at this one of so many turns wait for others that are active, as those of the last one do
+/// where it is cut.
+fn is_held(cut: bool, turn: usize, turns: usize, active: usize) -> bool
+    ensures cut { result ≡ true → cut ≡ true }
+    ensures last { result ≡ true → turns ≤ turn + 1 }
+    ensures others { result ≡ true → 1 < active }
+{
+    cut && turn >= turns.saturating_sub(1) && active > 1
+}
+
+/// The rows of the split whose turn it is wait for the others.
+fn hold<W: Drop, R: Drop>(
+    active: &mut Active<W, R>,
+    why: Option<DriveFault>,
+) -> Result<Delivered, DriveFault>
+    requires { active.old.turns.items ≢ [] }
+    ensures waits { IfOk result (λ d. (d ≡ delivered.More) × (why ≡ None) × Rotates active.old active.new) }
+    ensures fault { IfErr result (λ e. (e ≡ faults.NoMemory) ⊎ (why ≡ Some e)) }
+{
+    match active.pass_on() {
+        Ok(()) => {}
+        Err(_) => return Err(DriveFault::NoMemory),
+    }
+    match why {
+        Some(fault) => Err(fault),
+        None => Ok(Delivered::More),
+    }
+}
+
+/// Gives the rows of all splits that are read, up to the limit: the last one's once no other is active, where it is cut. Why a
+/// split is given up comes once these are given.
 fn deliver_any<W: SplitWork + Drop>(
     alloc: Global,
     active: &mut Active<W, W::Rows>,
     chunks: &mut Vec<Chunk<W::Rows>>,
     left: &mut Option<u64>,
+    cut: bool,
 ) -> Result<Delivered, DriveFault>
     requires seated { Seated active.old }
     requires room { HasRoom left.old }
     ensures seated { OnOk result (Seated active.new) }
-    ensures ok { OnOk result ((tale : List (Told Item)) → AllOk W.split W.comes W.items tale active.old →
-        AllOk W.split W.comes W.items tale active.new) }
+    ensures keeps { OnOk result (GivesRows W.split W.comes W.items active.old active.new chunks.old.items chunks.new.items) }
     ensures gives { IfOk result (λ d. d ≡ delivered.More → GivesOn W.split active.old active.new × TurnsWait active.new) }
     ensures delivered { IfOk result (λ d. IsDelivered W.split W.comes W.items false active.old active.new
         chunks.old.items chunks.new.items left.old left.new d) }
-    ensures some { OnOk result (KeepsRows W.items chunks.old.items chunks.new.items) }
-    ensures files { OnOk result (KeepsFiles active.old.slots.items chunks.old.items chunks.new.items) }
     ensures cause { IfErr result (λ e. (tale : List (Told Item)) →
         AllOk W.split W.comes W.items tale active.old → IsCause tale e) }
     ensures stops { IfErr result (λ e. StopsOver active.old.slots.items e) }
-    ensures reads { IfOk result (λ d. d ≡ delivered.More →
+    ensures reads { IfOk result (λ d. cut ≡ false → d ≡ delivered.More →
         count (given W.items chunks.new.items) ≡ count (given W.items chunks.old.items) + read_rows W.items active.old.slots.items) }
 {
     let mut why = None;
-    for _ in 0..active.turns.len() {
+    let turns = active.turns.len();
+    for turn in 0..turns {
+        if is_held(cut, turn, turns, active.turns.len()) && active.has_rows() {
+            return hold(active, why);
+        }
         match active.take_next() {
             Err(_) => return Err(DriveFault::NoMemory),
             Ok(Front::Nothing) => unreachable!(),
@@ -220,34 +251,32 @@ fn deliver_any<W: SplitWork + Drop>(
     }
 }
 
-/// Gives rows of splits that are read, in turn or all of them.
+/// Gives rows of splits that are read, in turn or all of them, of which the last may be cut.
 pub(crate) fn deliver_in<W: SplitWork + Drop>(
     alloc: Global,
     ordered: bool,
     active: &mut Active<W, W::Rows>,
     chunks: &mut Vec<Chunk<W::Rows>>,
     left: &mut Option<u64>,
+    cut: bool,
 ) -> Result<Delivered, DriveFault>
     requires seated { Seated active.old }
     requires room { HasRoom left.old }
     ensures seated { OnOk result (Seated active.new) }
-    ensures ok { OnOk result ((tale : List (Told Item)) → AllOk W.split W.comes W.items tale active.old →
-        AllOk W.split W.comes W.items tale active.new) }
+    ensures keeps { OnOk result (GivesRows W.split W.comes W.items active.old active.new chunks.old.items chunks.new.items) }
     ensures gives { IfOk result (λ d. d ≡ delivered.More → GivesOn W.split active.old active.new × TurnsWait active.new) }
     ensures delivered { IfOk result (λ d. IsDelivered W.split W.comes W.items ordered active.old active.new
         chunks.old.items chunks.new.items left.old left.new d) }
-    ensures some { OnOk result (KeepsRows W.items chunks.old.items chunks.new.items) }
-    ensures files { OnOk result (KeepsFiles active.old.slots.items chunks.old.items chunks.new.items) }
     ensures fault { IfErr result (λ e. ordered ≡ true → IsDeliverFault W.split W.comes W.items active.old active.new
         chunks.old.items chunks.new.items left.old left.new e) }
     ensures cause { IfErr result (λ e. (tale : List (Told Item)) →
         AllOk W.split W.comes W.items tale active.old → IsCause tale e) }
     ensures stops { IfErr result (λ e. StopsOver active.old.slots.items e) }
-    ensures reads { IfOk result (λ d. ordered ≡ false → d ≡ delivered.More →
+    ensures reads { IfOk result (λ d. ordered ≡ false → cut ≡ false → d ≡ delivered.More →
         count (given W.items chunks.new.items) ≡ count (given W.items chunks.old.items) + read_rows W.items active.old.slots.items) }
 {
     if ordered {
         return deliver(alloc, active, chunks, left);
     }
-    deliver_any(alloc, active, chunks, left)
+    deliver_any(alloc, active, chunks, left, cut)
 }

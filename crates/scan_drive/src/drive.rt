@@ -2,13 +2,11 @@
 ghost use Rattle.std.specs.Prelude.{◌≡◌, ◌≤◌, ◌<◌, true, All, IfOk, OnOk, length, map, ℕ};
 ghost use Rattle.std.specs.List.Sorted.{IsSorted};
 ghost use Rattle.scan_values.specs.Selections.{is_among};
-ghost use Rattle.scan_drive.specs.Drives.{DesksAgree, SourcesMove, IsIdle, NoneOf, EachLinked, SlotsKeep, BringsFileNearer, desk_at};
-ghost use Rattle.scan_drive.specs.Grounds.{SlotsFollow};
+ghost use Rattle.scan_drive.specs.Drives.{DesksAgree, SourcesMove, IsIdle, NoneOf, EachLinked, desk_at};
 ghost use Rattle.scan_drive.specs.Desks.{IsAwaited};
 ghost use Rattle.scan_drive.specs.Ledger.{FilesKeepLedger, KeepsAllBalance};
-ghost use Rattle.scan_drive.specs.Losses.{FilesKeepCounts};
-ghost use Rattle.scan_drive.specs.Measures.{EachAdvances};
 ghost use Rattle.scan_drive.specs.Order.{by_file};
+ghost use Rattle.scan_drive.specs.Steps.{FetchesFiles};
 ghost use Rattle.scan_drive.specs.Trades.{FilesTrade};
 ghost use Rattle.scan_drive.specs.Wants.{Cache};
 
@@ -92,15 +90,8 @@ pub fn fetch_files<W: SplitWork + Drop, O: Drop, S: SegmentSource + Drop, C: Key
     ensures agree { DesksAgree S.state files.new.items desks.new.items }
     ensures sources { SourcesMove S.state NoneOf files.old.items files.new.items }
     ensures trades { FilesTrade S.state files.old.items files.new.items (C.cache cache.old) (C.cache cache.new) }
-    ensures counts { OnOk result (FilesKeepCounts S.state files.old.items files.new.items
-        (C.cache cache.old) (C.cache cache.new) slots.new.items) }
-    ensures keeps { OnOk result (SlotsKeep S.state W.split W.comes W.items files.old.items slots.old.items slots.new.items) }
-    ensures links { OnOk result (EachLinked desks.new.items slots.new.items) }
-    ensures follows { OnOk result (SlotsFollow S.state (C.cache cache.old) files.old.items files.new.items
-        slots.old.items slots.new.items) }
-    ensures advances { OnOk result (EachAdvances W.split slots.old.items slots.new.items) }
-    ensures nearer { OnOk result ((k : ℕ) → first ≤ k → k < last → BringsFileNearer S.state W.split k
-        files.old.items files.new.items desks.old.items slots.old.items slots.new.items) }
+    ensures fetches { OnOk result (FetchesFiles S.state W.split W.comes W.items first last files.old.items files.new.items
+        desks.old.items desks.new.items (C.cache cache.old) (C.cache cache.new) slots.old.items slots.new.items) }
 {
     let found = desks_by_file(alloc, desks, first, last)?;
     for i in 0..found.len() {

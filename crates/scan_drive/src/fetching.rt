@@ -3,11 +3,9 @@ ghost use Rattle.std.specs.Prelude.{◌≡◌, true, OnOk, ℕ, is_some};
 ghost use Rattle.scan_values.specs.Selections.{is_among};
 ghost use Rattle.scan_drive.specs.Desks.{Agree, waiters_at};
 ghost use Rattle.scan_drive.specs.Fetches.{BringsNearer, WaitOn};
-ghost use Rattle.scan_drive.specs.Grounds.{SourceFollows};
-ghost use Rattle.scan_drive.specs.Links.{Linked, StaysLinked, KeepsTold};
-ghost use Rattle.scan_drive.specs.Losses.{KeepsCounts};
-ghost use Rattle.scan_drive.specs.Measures.{EachAdvances};
+ghost use Rattle.scan_drive.specs.Links.{Linked};
 ghost use Rattle.scan_drive.specs.Sources.{SourceMoves, NoId};
+ghost use Rattle.scan_drive.specs.Steps.{PollsSource};
 ghost use Rattle.scan_drive.specs.Trades.{Trades};
 
 use crate::desk::{Desk, Reply};
@@ -33,13 +31,8 @@ fn poll_one<W: SplitWork + Drop, S: SegmentSource, C: KeyedSegmentCache>(
     ensures source { SourceMoves NoId (S.state source.old) (S.state source.new) }
     ensures trades { Trades key.now.source_id (S.state source.old) (S.state source.new)
         (C.cache cache.old) (C.cache cache.new) }
-    ensures counts { OnOk result (KeepsCounts key.now.source_id (S.state source.old) (S.state source.new)
-        (C.cache cache.old) (C.cache cache.new) slots.new.items) }
-    ensures keeps { OnOk result (KeepsTold W.split W.comes W.items (S.state source.old).holds
-        slots.old.items slots.new.items) }
-    ensures links { OnOk result (StaysLinked desk.old desk.new slots.old.items slots.new.items) }
-    ensures follows { OnOk result (SourceFollows (S.state source.old) (S.state source.new) slots.old.items slots.new.items) }
-    ensures advances { OnOk result (EachAdvances W.split slots.old.items slots.new.items) }
+    ensures polls { OnOk result (PollsSource W.split W.comes W.items key.now.source_id (S.state source.old) (S.state source.new)
+        (C.cache cache.old) (C.cache cache.new) desk.old desk.new slots.old.items slots.new.items) }
     ensures waits { OnOk result (WaitOn key.now.segment desk.old desk.new) }
     ensures nearer { OnOk result (BringsNearer W.split key.now.segment (S.state source.old) (S.state source.new)
         desk.old slots.old.items slots.new.items) }
@@ -71,13 +64,8 @@ fn poll_all<W: SplitWork + Drop, S: SegmentSource, C: KeyedSegmentCache>(
     ensures source { SourceMoves NoId (S.state source.old) (S.state source.new) }
     ensures trades { Trades key.old.source_id (S.state source.old) (S.state source.new)
         (C.cache cache.old) (C.cache cache.new) }
-    ensures counts { OnOk result (KeepsCounts key.old.source_id (S.state source.old) (S.state source.new)
-        (C.cache cache.old) (C.cache cache.new) slots.new.items) }
-    ensures keeps { OnOk result (KeepsTold W.split W.comes W.items (S.state source.old).holds
-        slots.old.items slots.new.items) }
-    ensures links { OnOk result (StaysLinked desk.old desk.new slots.old.items slots.new.items) }
-    ensures follows { OnOk result (SourceFollows (S.state source.old) (S.state source.new) slots.old.items slots.new.items) }
-    ensures advances { OnOk result (EachAdvances W.split slots.old.items slots.new.items) }
+    ensures polls { OnOk result (PollsSource W.split W.comes W.items key.old.source_id (S.state source.old) (S.state source.new)
+        (C.cache cache.old) (C.cache cache.new) desk.old desk.new slots.old.items slots.new.items) }
     ensures nearer { OnOk result ((id : ℕ) → is_among ids.now id ≡ true →
         BringsNearer W.split id (S.state source.old) (S.state source.new) desk.old slots.old.items slots.new.items) }
 {
@@ -106,13 +94,8 @@ pub fn fetch<W: SplitWork + Drop, S: SegmentSource, C: KeyedSegmentCache>(
     ensures source { SourceMoves NoId (S.state source.old) (S.state source.new) }
     ensures trades { Trades name.now (S.state source.old) (S.state source.new)
         (C.cache cache.old) (C.cache cache.new) }
-    ensures counts { OnOk result (KeepsCounts name.now (S.state source.old) (S.state source.new)
-        (C.cache cache.old) (C.cache cache.new) slots.new.items) }
-    ensures keeps { OnOk result (KeepsTold W.split W.comes W.items (S.state source.old).holds
-        slots.old.items slots.new.items) }
-    ensures links { OnOk result (StaysLinked desk.old desk.new slots.old.items slots.new.items) }
-    ensures follows { OnOk result (SourceFollows (S.state source.old) (S.state source.new) slots.old.items slots.new.items) }
-    ensures advances { OnOk result (EachAdvances W.split slots.old.items slots.new.items) }
+    ensures polls { OnOk result (PollsSource W.split W.comes W.items name.now (S.state source.old) (S.state source.new)
+        (C.cache cache.old) (C.cache cache.new) desk.old desk.new slots.old.items slots.new.items) }
     ensures nearer { OnOk result ((id : ℕ) →
         BringsNearer W.split id (S.state source.old) (S.state source.new) desk.old slots.old.items slots.new.items) }
 {

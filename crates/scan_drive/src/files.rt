@@ -1,10 +1,8 @@
 //! The files of a scan. After the Rust's `scan::multi`.
-ghost use Rattle.std.specs.Prelude.{◌≡◌, ◌≤◌, ◌<◌, ◌+◌, ℕ, List, false, OnOk, IfOk, length};
-ghost use Rattle.scan_drive.specs.Filling.{OpensBy};
-ghost use Rattle.scan_drive.specs.Moves.{EachMoves, KeepsSources, KeepsRest, KeepsPhases, HoldsWhy, AllWait, tells};
+ghost use Rattle.std.specs.Prelude.{◌≡◌, ◌≤◌, ◌<◌, ◌+◌, ℕ, false, IfOk, length};
 ghost use Rattle.scan_drive.specs.Openers.{as_number};
-ghost use Rattle.scan_drive.specs.Phases.{SpentBelow, phase_at, unopened, AllRowsOk};
-ghost use Rattle.scan_drive.specs.Polls.{OpenersRest, PollsGrow, PollsStand, PollsFit};
+ghost use Rattle.scan_drive.specs.Phases.{SpentBelow, phase_at};
+ghost use Rattle.scan_drive.specs.Steps.{OpensFiles, OpensKeep};
 ghost use Rattle.scan_drive.specs.declared.files.ScanFile.{ScanFile};
 
 use crate::opening::{SplitOpener, open_file};
@@ -43,30 +41,11 @@ pub fn open_files<X: SplitOpener<O, W, F>, O, W: SplitWork + Drop, F: Drop, S: S
     requires within { last ≤ length files.old.items }
     requires below { SpentBelow phases.old.items first }
     ensures len { length phases.new.items ≡ length phases.old.items }
-    ensures moves { EachMoves (X.state context.now) X.polls S.state (Unit {0}) files.old.items files.new.items }
-    ensures sources { KeepsSources files.old.items files.new.items }
-    ensures opened { IfOk result (λ b. unopened phases.new.items + as_number b ≤ unopened phases.old.items) }
-    ensures same { IfOk result (λ b. b ≡ false → phases.new.items ≡ phases.old.items) }
-    ensures waits { IfOk result (λ b. b ≡ false →
-        AllWait (X.state context.now) first last files.old.items files.new.items phases.new.items) }
     ensures below { (k : ℕ) → k < first → phase_at phases.new.items k ≡ phase_at phases.old.items k }
-    ensures left { OnOk result (KeepsRest W.split W.comes (tells (X.state context.now) S.state files.old.items)
-        phases.old.items phases.new.items) }
-    ensures ok { OnOk result (KeepsPhases W.split W.comes (tells (X.state context.now) S.state files.old.items)
-        phases.old.items phases.new.items) }
-    ensures why { OnOk result (HoldsWhy (X.state context.now) X.polls (X.refuses context.now)
-        files.old.items files.new.items phases.old.items phases.new.items) }
-    ensures rest { OpenersRest first last files.old.items files.new.items }
-    ensures grows { PollsGrow (X.state context.now) files.old.items files.new.items }
-    ensures polled { OnOk result ((start : List (ScanFile O S)) →
-        PollsStand (X.state context.now) start files.old.items phases.old.items →
-        PollsStand (X.state context.now) start files.new.items phases.new.items) }
-    ensures fit { (start : List (ScanFile O S)) → PollsStand (X.state context.now) start files.old.items phases.old.items →
-        PollsFit (X.state context.now) start files.new.items }
-    ensures splits { OnOk result (OpensBy (X.state context.now) X.polls (X.admits context.now)
-        files.old.items files.new.items phases.old.items phases.new.items) }
-    ensures rows { OnOk result (AllRowsOk (tells (X.state context.now) S.state files.old.items) phases.old.items →
-        AllRowsOk (tells (X.state context.now) S.state files.old.items) phases.new.items) }
+    ensures keeps { OpensKeep (X.state context.now) X.polls (X.refuses context.now) (X.admits context.now)
+        S.state W.split W.comes W.items first last files.old.items files.new.items phases.old.items }
+    ensures opens { IfOk result (λ b. OpensFiles (X.state context.now) X.polls (X.refuses context.now) (X.admits context.now)
+        S.state W.split W.comes W.items b first last files.old.items files.new.items phases.old.items phases.new.items) }
 {
     let mut any = false;
     for i in first..last {

@@ -42,7 +42,7 @@ pub use gate::{Gate, NoGate};
 pub use laws::{cuts_give_the_first_rows, cuts_keep_groups};
 pub use looking::{Found, poll_slot};
 pub use opening::{Opening, SplitOpener, open_file};
-pub use phase::{Phase, Taken, Tally, activate};
+pub use phase::{Phase, Taken, Tally, Unclaimed, activate};
 pub use places::Places;
 pub use report::ScanReport;
 pub use round::Drive;

@@ -113,6 +113,7 @@ pub(crate) fn bring_forward<O: Drop, S: Drop, W: SplitWork + Drop, F: Drop>(
         first,
         workers,
         files.len(),
+        false,
     );
     if last <= first {
         return Ok(());

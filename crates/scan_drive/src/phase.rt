@@ -1,12 +1,10 @@
 //! How far files are, and the splits that become active. An own type: the Rust opens and reads files one by one.
-ghost use Rattle.std.specs.Prelude.{◌≡◌, ◌≤◌, ◌<◌, ◌+◌, ◌^◌, ◌++◌, [], ℕ, List, OnOk, IfOk, length};
-ghost use Rattle.scan_drive.specs.Files.{Item};
-ghost use Rattle.scan_drive.specs.Actives.{Seated, groups_left, AllOk};
-ghost use Rattle.scan_drive.specs.Files.{Told, AllTell};
-ghost use Rattle.scan_drive.specs.Filling.{Fills};
-ghost use Rattle.scan_drive.specs.Phases.{SpentBelow, Takes, PhasesOk, rest, unopened, is_unopened, phase_at};
-ghost use Rattle.scan_drive.specs.declared.phase.Phase.TheVariants as held;
-ghost use Rattle.scan_drive.specs.Turns.{Counts, FitsIn, IsTally, SeatsOn, IsStuck};
+ghost use Rattle.std.specs.Prelude.{◌≡◌, ◌≢◌, ◌≤◌, ◌<◌, ◌+◌, ◌-◌, ◌^◌, [], true, false, nat_lt, OnOk, IfOk, length};
+ghost use Rattle.scan_drive.specs.Actives.{Seated};
+ghost use Rattle.scan_drive.specs.Claims.{AreClaimed, MayClaimMost, is_cut};
+ghost use Rattle.scan_drive.specs.Phases.{SpentBelow, Takes, unopened, is_unopened};
+ghost use Rattle.scan_drive.specs.Steps.{Activates};
+ghost use Rattle.scan_drive.specs.Turns.{Counts, FitsIn, IsFull, IsStuck};
 
 use crate::active::Active;
 use crate::work::SplitWork;
@@ -92,8 +90,82 @@ impl Tally {
     }
 }
 
-/// Makes splits active in the order of their files, as long as there is room. It goes on at a file below which none has a
-/// split left, and answers with such a file.
+/// What splits have not claimed of a limit in no order, where they claim rows before they are read.
+#[derive(Clone, Copy)]
+pub struct Unclaimed {
+    pub rows: u64,
+    /// Whether the last split that became active has claimed more rows than were left.
+    pub cut: bool,
+}
+
+impl Unclaimed {
+    /// So many rows, of which none is claimed.
+    pub(crate) fn new(rows: u64) -> Unclaimed
+        ensures { result ≡ record { rows = rows; cut = false } }
+    {
+        Unclaimed { rows, cut: false }
+    }
+
+    /// What is left once a split has claimed so many rows.
+    fn after(self, most: u64) -> Unclaimed
+        ensures { result ≡ record { rows = self.rows - most; cut = nat_lt self.rows most } }
+    {
+        Unclaimed {
+            rows: self.rows.saturating_sub(most),
+            cut: self.rows < most,
+        }
+    }
+}
+
+/// Whether splits have claimed all rows of a limit.
+pub(crate) fn all_claimed(unclaimed: Option<Unclaimed>) -> bool
+    ensures all { result ≡ true → AreClaimed unclaimed }
+    ensures some { result ≡ false → AreClaimed unclaimed → ⊥ }
+{
+    match unclaimed {
+        Some(unclaimed) => unclaimed.rows == 0,
+        None => false,
+    }
+}
+
+/// Whether the last split that became active has claimed more rows than were left.
+pub(crate) fn is_cut(unclaimed: Option<Unclaimed>) -> bool
+    ensures { result ≡ is_cut unclaimed }
+{
+    match unclaimed {
+        Some(unclaimed) => unclaimed.cut,
+        None => false,
+    }
+}
+
+/// Claims rows for a split, where splits do so before they are read.
+fn claim<W: SplitWork>(
+    alloc: Global,
+    unclaimed: &mut Option<Unclaimed>,
+    work: &W,
+) -> Result<(), NoMemory>
+    ensures { OnOk result (MayClaimMost W.split work.now unclaimed.old unclaimed.new) }
+{
+    let Some(before) = *unclaimed else {
+        return Ok(());
+    };
+    let most = work.most(alloc)?;
+    *unclaimed = Some(before.after(most));
+    Ok(())
+}
+
+/// Whether one more split may be active: as long as there is room and rows are left that none has claimed. Where no
+/// split is active one more is.
+fn has_room(turns: &VecDeque<usize>, room: usize, unclaimed: Option<Unclaimed>) -> bool
+    ensures room { result ≡ true → length turns.now.items < room }
+    ensures claimed { result ≡ true → AreClaimed unclaimed → turns.now.items ≡ [] }
+    ensures full { result ≡ false → IsFull room turns.now.items }
+{
+    turns.len() < room && (turns.is_empty() || !all_claimed(unclaimed))
+}
+
+/// Makes splits active in the order of their files, as long as there is room and rows are left that none has claimed. It
+/// goes on at a file below which none has a split left, and answers with such a file.
 pub fn activate<W: SplitWork + Drop, F: Drop>(
     alloc: Global,
     phases: &mut Vec<Phase<W, F>>,
@@ -101,6 +173,7 @@ pub fn activate<W: SplitWork + Drop, F: Drop>(
     active: &mut Active<W, W::Rows>,
     tally: &mut Tally,
     room: usize,
+    unclaimed: &mut Option<Unclaimed>,
 ) -> Result<usize, NoMemory>
     requires below { SpentBelow phases.old.items first }
     requires within { first ≤ length phases.old.items }
@@ -109,29 +182,21 @@ pub fn activate<W: SplitWork + Drop, F: Drop>(
     ensures opened { unopened phases.new.items ≤ unopened phases.old.items }
     ensures below { IfOk result (λ n. (n ≤ length phases.new.items) × SpentBelow phases.new.items n) }
     ensures seated { OnOk result (Seated active.new) }
-    ensures left { OnOk result ((tale : List (Told Item)) → length tale ≡ length phases.old.items →
-        groups_left W.split W.comes W.items tale active.new ++ rest W.split W.comes tale phases.new.items
-        ≡ groups_left W.split W.comes W.items tale active.old ++ rest W.split W.comes tale phases.old.items) }
-    ensures ok { OnOk result ((tale : List (Told Item)) → length tale ≡ length phases.old.items →
-        PhasesOk W.split W.comes tale phases.old.items → AllOk W.split W.comes W.items tale active.old →
-        PhasesOk W.split W.comes tale phases.new.items × AllOk W.split W.comes W.items tale active.new) }
-    ensures counted { OnOk result ((tale : List (Told Item)) → length tale ≡ length phases.old.items →
-        PhasesOk W.split W.comes tale phases.old.items → AllOk W.split W.comes W.items tale active.old →
-        IsTally tale tally.old → IsTally tale tally.new) }
-    ensures held { OnOk result ((k : ℕ) (why : F) → phase_at phases.new.items k ≡ held.Held why →
-        phase_at phases.old.items k ≡ held.Held why) }
-    ensures seats { IfOk result (λ n. SeatsOn W.split first n active.old active.new phases.old.items phases.new.items) }
-    ensures fills { IfOk result (λ n. Fills first n tally.old tally.new phases.old.items phases.new.items
-        active.old.slots.items active.new.slots.items) }
+    ensures goes { IfOk result (λ n. Activates W.split W.comes W.items first n tally.old tally.new active.old active.new
+        phases.old.items phases.new.items) }
     ensures stuck { IfOk result (λ n. IsStuck room n tally.new phases.new.items active.new.turns.items) }
+    ensures claimed { AreClaimed unclaimed.old → active.old.turns.items ≢ [] → active.new ≡ active.old }
 {
     let mut first = first;
-    while first < phases.len() && active.turns.len() < room {
+    while first < phases.len() && has_room(&active.turns, room, *unclaimed) {
         if !tally.count(first, &phases[first]) {
             return Ok(first);
         }
         match take_split(&mut phases[first]) {
-            Taken::Split(work) => active.seat(alloc, first, work)?,
+            Taken::Split(work) => {
+                claim(alloc, unclaimed, &work)?;
+                active.seat(alloc, first, work)?;
+            }
             Taken::Spent => first += 1,
             Taken::Waits => return Ok(first),
         }

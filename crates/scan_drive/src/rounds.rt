@@ -1,23 +1,11 @@
 //! Rounds of a drive over many files.
-ghost use Rattle.std.specs.Prelude.{◌≡◌, ◌<◌, [], ℕ, true, All, None, OnOk, IfOk, IfErr, length};
-ghost use Rattle.std.specs.List.Sorted.{SwapsInRange};
-ghost use Rattle.scan_drive.specs.Accounts.{AllServed, RoundKeeps, RunEnds, RunKeeps};
-ghost use Rattle.scan_drive.specs.Chunks.{given, HasRoom, HasRow, KeepsRows};
-ghost use Rattle.scan_drive.specs.Before.{SoundInOrder, StopsBefore};
+ghost use Rattle.std.specs.Prelude.{◌≡◌, ◌<◌, [], All, OnOk, IfOk, IfErr, length};
+ghost use Rattle.scan_drive.specs.Chunks.{HasRoom};
 ghost use Rattle.scan_drive.specs.Drives.{DesksAgree, EachLinked, IsIdle};
-ghost use Rattle.scan_drive.specs.Drivings.{WasAdmitted};
-ghost use Rattle.scan_drive.specs.Ends.{limit_in};
-ghost use Rattle.scan_drive.specs.Files.{AllTell, answer};
-ghost use Rattle.scan_drive.specs.Forward.{LinePolls};
-ghost use Rattle.scan_drive.specs.Grants.{AreGiven};
-ghost use Rattle.scan_drive.specs.Grounds.{At, IsGround, EndsGrounded, RoundGrounds};
-ghost use Rattle.scan_drive.specs.Line.{exchanged};
-ghost use Rattle.scan_drive.specs.Moves.{EachMoves, tells};
-ghost use Rattle.scan_drive.specs.Polls.{PollsOn};
-ghost use Rattle.scan_drive.specs.Rounds.{IsLawful, Stands, Sound};
-ghost use Rattle.scan_drive.specs.Runnings.{RoundIs, Starts, StopsIn, RunIs, StopsRun};
-ghost use Rattle.scan_drive.specs.Trades.{CacheAgrees, FilesTrade};
-ghost use Rattle.scan_drive.specs.declared.rounds.Round.TheVariants as rounds;
+ghost use Rattle.scan_drive.specs.Rounds.{Stands};
+ghost use Rattle.scan_drive.specs.Runnings.{Starts};
+ghost use Rattle.scan_drive.specs.Steps.{RoundsKeep, RoundComes, RoundStops, WaitComes, WaitStops, LineKeeps, LineEnds, LineStops};
+ghost use Rattle.scan_drive.specs.Trades.{CacheAgrees};
 
 use crate::delivery::DriveFault;
 use crate::desk::Desk;
@@ -68,33 +56,13 @@ pub fn make_round<
     requires agree { DesksAgree S.state files.old.items desks.old.items }
     requires stands { Stands (length files.old.items) drive.old }
     requires links { EachLinked desks.old.items drive.old.active.slots.items }
-    ensures agree { DesksAgree S.state files.new.items desks.new.items }
-    ensures moves { EachMoves (X.state context.now) X.polls S.state
-        (Sound W.split W.comes W.items (tells (X.state context.now) S.state files.old.items) drive.old)
-        files.old.items files.new.items }
-    ensures trades { FilesTrade S.state files.old.items files.new.items (C.cache cache.old) (C.cache cache.new) }
-    ensures round { IfOk result (λ r. RoundIs (X.state context.now) X.polls (X.refuses context.now) S.state
-        W.split W.comes W.items r
-        files.old.items files.new.items desks.new.items (C.cache cache.old) drive.old drive.new) }
-    ensures balance { IfOk result (λ r. RoundKeeps S.state files.old.items files.new.items
-        (C.cache cache.old) (C.cache cache.new) drive.old drive.new r) }
-    ensures out { IfOk result (λ r. r ≡ rounds.Done → limit_in W.split W.comes W.items drive.old ≡ None →
-        AllServed desks.new.items drive.old.active.slots.items) }
-    ensures some { OnOk result (KeepsRows W.items drive.old.chunks.items drive.new.chunks.items) }
-    ensures fault { IfErr result (λ e. StopsIn (X.state context.now) X.polls (X.refuses context.now) S.state
-        W.split W.comes W.items files.old.items files.new.items drive.old drive.new e) }
-    ensures polls { PollsOn (X.state context.now) W.items drive.old.ordered workers (limit_in W.split W.comes W.items drive.old)
-        (tells (X.state context.now) S.state files.old.items)
-        (SoundInOrder W.split W.comes W.items (tells (X.state context.now) S.state files.old.items) drive.old)
-        drive.old.phases.items files.old.items files.new.items }
-    ensures before { IfErr result (λ e. drive.old.ordered ≡ true →
-        SoundInOrder W.split W.comes W.items (tells (X.state context.now) S.state files.old.items) drive.old →
-        StopsBefore W.items (limit_in W.split W.comes W.items drive.old)
-        (tells (X.state context.now) S.state files.old.items) e) }
-    ensures grounds { IfOk result (λ r. RoundGrounds (X.state context.now) X.polls (X.admits context.now) S.state r
-        files.old.items files.new.items (C.cache cache.old) (C.cache cache.new) drive.old drive.new) }
-    ensures ends { IfErr result (λ e. EndsGrounded (X.state context.now) X.polls (X.admits context.now) S.state
-        files.old.items files.new.items (C.cache cache.old) drive.old e) }
+    ensures keeps { RoundsKeep (X.state context.now) X.polls S.state W.split W.comes W.items (Unit {0}) workers
+        files.old.items files.new.items desks.new.items (C.cache cache.old) (C.cache cache.new) drive.old }
+    ensures comes { IfOk result (λ r. RoundComes (X.state context.now) X.polls (X.refuses context.now) (X.admits context.now)
+        S.state W.split W.comes W.items r files.old.items files.new.items desks.new.items
+        (C.cache cache.old) (C.cache cache.new) drive.old drive.new) }
+    ensures stops { IfErr result (λ e. RoundStops (X.state context.now) X.polls (X.refuses context.now) (X.admits context.now)
+        S.state W.split W.comes W.items files.old.items files.new.items (C.cache cache.old) drive.old drive.new e) }
 {
     let opened = match bring_in(alloc, context, files, drive, workers) {
         Ok(opened) => opened,
@@ -150,33 +118,14 @@ fn wait_rounds<
     requires agree { DesksAgree S.state files.old.items desks.old.items }
     requires stands { Stands (length files.old.items) drive.old }
     requires links { EachLinked desks.old.items drive.old.active.slots.items }
-    ensures agree { DesksAgree S.state files.new.items desks.new.items }
-    ensures moves { EachMoves (X.state context.now) X.polls S.state
-        (CacheAgrees S.state files.old.items (C.cache cache.old)
-        × Sound W.split W.comes W.items (tells (X.state context.now) S.state files.old.items) drive.old)
-        files.old.items files.new.items }
-    ensures trades { FilesTrade S.state files.old.items files.new.items (C.cache cache.old) (C.cache cache.new) }
-    ensures fault { IfErr result (λ e. StopsRun (X.state context.now) X.polls (X.refuses context.now) S.state
-        W.split W.comes W.items files.old.items files.new.items (C.cache cache.old) drive.old drive.new e) }
-    ensures balance { IfOk result (λ r. RunKeeps S.state (limit_in W.split W.comes W.items drive.old)
-        files.old.items files.new.items desks.new.items (C.cache cache.old) (C.cache cache.new) drive.old drive.new r) }
-    ensures some { OnOk result (KeepsRows W.items drive.old.chunks.items drive.new.chunks.items) }
-    ensures polls { PollsOn (X.state context.now) W.items drive.old.ordered workers (limit_in W.split W.comes W.items drive.old)
-        (tells (X.state context.now) S.state files.old.items)
-        (CacheAgrees S.state files.old.items (C.cache cache.old)
-        × SoundInOrder W.split W.comes W.items (tells (X.state context.now) S.state files.old.items) drive.old)
-        drive.old.phases.items files.old.items files.new.items }
-    ensures before { IfErr result (λ e. drive.old.ordered ≡ true → CacheAgrees S.state files.old.items (C.cache cache.old) →
-        SoundInOrder W.split W.comes W.items (tells (X.state context.now) S.state files.old.items) drive.old →
-        StopsBefore W.items (limit_in W.split W.comes W.items drive.old)
-        (tells (X.state context.now) S.state files.old.items) e) }
-    ensures run { IfOk result (λ r. RunIs (X.state context.now) X.polls (X.refuses context.now) S.state
-        W.split W.comes W.items r
-        files.old.items files.new.items desks.new.items (C.cache cache.old) drive.old drive.new) }
-    ensures grounds { IfOk result (λ r. RoundGrounds (X.state context.now) X.polls (X.admits context.now) S.state r
-        files.old.items files.new.items (C.cache cache.old) (C.cache cache.new) drive.old drive.new) }
-    ensures ends { IfErr result (λ e. EndsGrounded (X.state context.now) X.polls (X.admits context.now) S.state
-        files.old.items files.new.items (C.cache cache.old) drive.old e) }
+    ensures keeps { RoundsKeep (X.state context.now) X.polls S.state W.split W.comes W.items
+        (CacheAgrees S.state files.old.items (C.cache cache.old)) workers
+        files.old.items files.new.items desks.new.items (C.cache cache.old) (C.cache cache.new) drive.old }
+    ensures comes { IfOk result (λ r. WaitComes (X.state context.now) X.polls (X.refuses context.now) (X.admits context.now)
+        S.state W.split W.comes W.items r files.old.items files.new.items desks.new.items
+        (C.cache cache.old) (C.cache cache.new) drive.old drive.new) }
+    ensures stops { IfErr result (λ e. WaitStops (X.state context.now) X.polls (X.refuses context.now) (X.admits context.now)
+        S.state W.split W.comes W.items files.old.items files.new.items (C.cache cache.old) drive.old drive.new e) }
 {
     'rounds: loop {
         match make_round(
@@ -220,36 +169,14 @@ pub fn run_rounds<
     requires starts { Starts (length files.old.items) drive.old.left drive.old }
     requires room { HasRoom drive.old.left }
     requires none { exchanges.old.items ≡ [] }
-    ensures places { SwapsInRange (length files.old.items) exchanges.new.items }
-    ensures order { drive.old.ordered ≡ true → exchanges.new.items ≡ [] }
-    ensures agree { DesksAgree S.state files.new.items desks.new.items }
-    ensures moves { EachMoves (X.state context.now) X.polls S.state
-        (CacheAgrees S.state (exchanged exchanges.new.items files.old.items) (C.cache cache.old))
-        (exchanged exchanges.new.items files.old.items) files.new.items }
-    ensures trades { FilesTrade S.state (exchanged exchanges.new.items files.old.items) files.new.items
-        (C.cache cache.old) (C.cache cache.new) }
-    ensures fault { IfErr result (λ e. StopsRun (X.state context.now) X.polls (X.refuses context.now) S.state
-        W.split W.comes W.items (exchanged exchanges.new.items files.old.items) files.new.items
-        (C.cache cache.old) drive.old drive.new e) }
-    ensures balance { OnOk result (RunEnds S.state (limit_in W.split W.comes W.items drive.old)
-        (exchanged exchanges.new.items files.old.items) files.new.items desks.new.items
+    ensures keeps { LineKeeps (X.state context.now) X.polls S.state W.split W.comes W.items workers files.old.items
+        exchanges.new.items files.new.items desks.new.items (C.cache cache.old) (C.cache cache.new) drive.old }
+    ensures comes { OnOk result (LineEnds (X.state context.now) X.polls (X.refuses context.now) (X.admits context.now)
+        S.state W.split W.comes W.items files.old.items exchanges.new.items files.new.items desks.new.items
         (C.cache cache.old) (C.cache cache.new) drive.old drive.new) }
-    ensures some { OnOk result (All (HasRow W.items) drive.new.chunks.items) }
-    ensures polls { LinePolls (X.state context.now) S.state W.items drive.old.ordered workers drive.old.left (C.cache cache.old)
-        files.old.items exchanges.new.items files.new.items }
-    ensures before { IfErr result (λ e. drive.old.ordered ≡ true →
-        IsLawful (X.state context.now) S.state files.old.items (C.cache cache.old) →
-        StopsBefore W.items drive.old.left (tells (X.state context.now) S.state files.old.items) e) }
-    ensures done { OnOk result (
-        IsLawful (X.state context.now) S.state (exchanged exchanges.new.items files.old.items) (C.cache cache.old) →
-        AreGiven drive.old.ordered drive.old.left
-        (answer (tells (X.state context.now) S.state (exchanged exchanges.new.items files.old.items)))
-        (given W.items drive.new.chunks.items)) }
-    ensures opened { OnOk result (drive.old.left ≡ None → (k : ℕ) → k < length files.old.items →
-        At (exchanged exchanges.new.items files.old.items) files.new.items
-        (WasAdmitted (X.state context.now) X.polls (X.admits context.now)) k) }
-    ensures ends { IfErr result (IsGround (X.state context.now) X.polls (X.admits context.now) S.state
-        (exchanged exchanges.new.items files.old.items) files.new.items (C.cache cache.old)) }
+    ensures stops { IfErr result (λ e. LineStops (X.state context.now) X.polls (X.refuses context.now) (X.admits context.now)
+        S.state W.split W.comes W.items files.old.items exchanges.new.items files.new.items
+        (C.cache cache.old) drive.old drive.new e) }
 {
     'opens: loop {
         match wait_rounds(

@@ -1,21 +1,16 @@
 //! What is given of a drive, and where it ends.
-ghost use Rattle.std.specs.Prelude.{◌≡◌, ◌≤◌, ◌<◌, [], true, false, None, ℕ, List, OnOk, IfOk, IfErr, IfSome, MatchOption, length};
+ghost use Rattle.std.specs.Prelude.{◌≡◌, ◌<◌, [], true, false, None, ℕ, OnOk, IfOk, IfErr, IfSome, MatchOption};
 ghost use Rattle.scan_drive.specs.Chunks.{given, KeepsRows};
-ghost use Rattle.scan_drive.specs.Before.{SoundInOrder, StopsBefore};
 ghost use Rattle.scan_drive.specs.Drives.{NoneOf};
-ghost use Rattle.scan_drive.specs.Accounts.{RunsOut};
-ghost use Rattle.scan_drive.specs.Ends.{EndIs, Settles, Stops, limit_in};
-ghost use Rattle.scan_drive.specs.Files.{Item, Told, AllTell, answer};
-ghost use Rattle.scan_drive.specs.Grants.{AreGiven};
-ghost use Rattle.scan_drive.specs.Grounds.{SettlesBy};
+ghost use Rattle.scan_drive.specs.Ends.{EndIs, Settles};
 ghost use Rattle.scan_drive.specs.Lost.{EachFollows};
-ghost use Rattle.scan_drive.specs.Phases.{phase_at};
-ghost use Rattle.scan_drive.specs.Rounds.{Stands, Sound};
+ghost use Rattle.scan_drive.specs.Rounds.{Stands};
+ghost use Rattle.scan_drive.specs.Steps.{SettlesAll, SettlesNot};
 ghost use Rattle.scan_drive.specs.declared.phase.Phase.TheVariants as phases;
 
 use crate::delivery::DriveFault;
 use crate::gate::Gate;
-use crate::phase::{Phase, Tally};
+use crate::phase::{Phase, Tally, is_cut};
 use crate::round::{Drive, give_out};
 use crate::work::SplitWork;
 use std::alloc::Global;
@@ -97,21 +92,11 @@ pub(crate) fn settle<R: Threads + Sync, W: SplitWork + Drop + Send, F: Drop, G: 
     requires stands { (n : ℕ) × Stands n drive.old }
     ensures report { drive.new.report ≡ drive.old.report }
     ensures waits { IfOk result (λ o. IfSome o (λ asking. Settles W.split W.comes W.items asking.items drive.old drive.new)) }
-    ensures done { IfOk result (λ o. o ≡ None → (tale : List (Told Item)) → AllTell tale →
-        Sound W.split W.comes W.items tale drive.old → AreGiven drive.old.ordered
-        (limit_in W.split W.comes W.items drive.old) (answer tale) (given W.items drive.new.chunks.items)) }
-    ensures out { IfOk result (λ o. o ≡ None → limit_in W.split W.comes W.items drive.old ≡ None →
-        RunsOut drive.old.active.slots.items) }
+    ensures all { IfOk result (λ o. o ≡ None → SettlesAll W.split W.comes W.items drive.old drive.new) }
     ensures some { OnOk result (KeepsRows W.items drive.old.chunks.items drive.new.chunks.items) }
-    ensures fault { IfErr result (λ e. (tale : List (Told Item)) → Sound W.split W.comes W.items tale drive.old →
-        Stops W.split W.comes W.items tale drive.old drive.new e) }
-    ensures before { IfErr result (λ e. drive.old.ordered ≡ true → (tale : List (Told Item)) → SoundInOrder W.split W.comes W.items tale drive.old →
-        StopsBefore W.items (limit_in W.split W.comes W.items drive.old) tale e) }
     ensures follows { IfOk result (λ o. IfSome o (λ asking.
         EachFollows NoneOf NoneOf drive.old.active.slots.items drive.new.active.slots.items)) }
-    ensures spent { IfOk result (λ o. o ≡ None → drive.old.left ≡ None →
-        length drive.old.phases.items ≤ drive.old.first) }
-    ensures settles { IfErr result (λ e. SettlesBy drive.old e) }
+    ensures stops { IfErr result (λ e. SettlesNot W.split W.comes W.items drive.old drive.new e) }
 {
     let asking = match give_out(
         rt,
@@ -123,6 +108,7 @@ pub(crate) fn settle<R: Threads + Sync, W: SplitWork + Drop + Send, F: Drop, G: 
         &mut drive.active,
         &mut drive.chunks,
         &mut drive.left,
+        is_cut(drive.unclaimed),
     ) {
         Ok(Some(asking)) => asking,
         Ok(None) => return Ok(None),

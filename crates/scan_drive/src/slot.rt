@@ -84,6 +84,16 @@ impl<W: Drop, R: Drop> Slot<W, R> {
             Stage::Empty | Stage::Read(_) | Stage::Halted(_, _) => false,
         }
     }
+
+    /// Whether its split is read.
+    pub(crate) fn has_rows(&self) -> bool
+        ensures { result ≡ is_read self.now.stage }
+    {
+        match &self.stage {
+            Stage::Read(_) => true,
+            Stage::Empty | Stage::Reads(_) | Stage::Halted(_, _) => false,
+        }
+    }
 }
 
 /// What arrived, shared.

@@ -1,22 +1,17 @@
 // What splits want: each want is looked up in the cache, and what is not there waits at the desk of the file.
 ghost use Rattle.std.specs.Prelude.{◌≡◌, [], ◌∷◌, true, false, Some, OnOk, IfOk, ℕ, length};
-ghost use Rattle.scan_segments.specs.Source.{Store};
 ghost use Rattle.scan_splits.specs.Wanted.{no_repeats};
 ghost use Rattle.scan_values.specs.Selections.{is_among};
 ghost use Rattle.scan_drive.specs.Asks.{WantsOne, WaitsThere, EachLinkedBut, IsWantedBy};
 ghost use Rattle.scan_drive.specs.Desks.{Agree, waits};
-ghost use Rattle.scan_drive.specs.Drives.{DesksAgree, SourcesMove, EachLinked, FilesWithin, SlotsKeep};
-ghost use Rattle.scan_drive.specs.Drivings.{IsKeptIn};
-ghost use Rattle.scan_drive.specs.Files.{Item, Part};
-ghost use Rattle.scan_drive.specs.Grounds.{SlotsFollow};
-ghost use Rattle.scan_drive.specs.Ledger.{KeepsReport, FilesKeepReport};
+ghost use Rattle.scan_drive.specs.Drives.{DesksAgree, SourcesMove, EachLinked, FilesWithin};
+ghost use Rattle.scan_drive.specs.Ledger.{KeepsReport};
 ghost use Rattle.scan_drive.specs.Links.{Among};
 ghost use Rattle.scan_drive.specs.Looks.{WaitsForAll};
-ghost use Rattle.scan_drive.specs.Lost.{Follows};
-ghost use Rattle.scan_drive.specs.Measures.{Advances, EachAdvances};
-ghost use Rattle.scan_drive.specs.Slots.{SlotKeeps, slot_at, stage_waits, wanted_in};
-ghost use Rattle.scan_drive.specs.Sources.{SourceMoves, NoId};
-ghost use Rattle.scan_drive.specs.Trades.{Trusts, Trades, FilesTrade, CacheAgrees};
+ghost use Rattle.scan_drive.specs.Slots.{slot_at, stage_waits, wanted_in};
+ghost use Rattle.scan_drive.specs.Sources.{SourceMoves};
+ghost use Rattle.scan_drive.specs.Steps.{WantsAll, WantsSlots};
+ghost use Rattle.scan_drive.specs.Trades.{Trades, FilesTrade};
 ghost use Rattle.scan_drive.specs.Wants.{OnlyLoses};
 
 use crate::cached::Wanted;
@@ -86,15 +81,9 @@ fn want_all<W: SplitWork + Drop, S: SegmentSource, C: KeyedSegmentCache>(
     ensures source { SourceMoves (Among ids.now) (S.state source.old) (S.state source.new) }
     ensures trades { Trades key.old.source_id (S.state source.old) (S.state source.new)
         (C.cache cache.old) (C.cache cache.new) }
-    ensures balance { OnOk result (KeepsReport key.old.source_id (S.state source.old) (S.state source.new)
-        (C.cache cache.old) (C.cache cache.new) report.old report.new) }
-    ensures keeps { OnOk result ((p : Part Item) (store : Store) → (S.state source.old).holds ≡ Some store →
-        Trusts key.old.source_id store (C.cache cache.old) →
-        SlotKeeps W.split W.comes W.items p store slot.old slot.new) }
-    ensures advances { OnOk result (Advances W.split slot.old slot.new) }
+    ensures wants { OnOk result (WantsAll W.split W.comes W.items key.old.source_id (S.state source.old) (S.state source.new)
+        (C.cache cache.old) (C.cache cache.new) report.old report.new slot.old slot.new) }
     ensures there { OnOk result (WaitsThere place slot.new desk.old desk.new) }
-    ensures loses { OnOk result (OnlyLoses (C.cache cache.old) (C.cache cache.new)) }
-    ensures follows { OnOk result (Follows (IsKeptIn (C.cache cache.old) key.old.source_id) NoId slot.old slot.new) }
 {
     for id in ids {
         key.segment = *id;
@@ -132,15 +121,9 @@ fn want_slot<W: SplitWork + Drop, S: SegmentSource, C: KeyedSegmentCache>(
     ensures source { SourceMoves (Among (wanted_in slot.old.stage)) (S.state source.old) (S.state source.new) }
     ensures trades { Trades name.now (S.state source.old) (S.state source.new)
         (C.cache cache.old) (C.cache cache.new) }
-    ensures balance { OnOk result (KeepsReport name.now (S.state source.old) (S.state source.new)
-        (C.cache cache.old) (C.cache cache.new) report.old report.new) }
-    ensures keeps { OnOk result ((p : Part Item) (store : Store) → (S.state source.old).holds ≡ Some store →
-        Trusts name.now store (C.cache cache.old) →
-        SlotKeeps W.split W.comes W.items p store slot.old slot.new) }
-    ensures advances { OnOk result (Advances W.split slot.old slot.new) }
+    ensures wants { OnOk result (WantsAll W.split W.comes W.items name.now (S.state source.old) (S.state source.new)
+        (C.cache cache.old) (C.cache cache.new) report.old report.new slot.old slot.new) }
     ensures there { OnOk result (WaitsThere place slot.new desk.old desk.new) }
-    ensures loses { OnOk result (OnlyLoses (C.cache cache.old) (C.cache cache.new)) }
-    ensures follows { OnOk result (Follows (IsKeptIn (C.cache cache.old) name.now) NoId slot.old slot.new) }
 {
     let ids = wanted_of(alloc, slot)?;
     let mut key = SegmentKey {
@@ -173,15 +156,9 @@ pub fn want_slots<W: SplitWork + Drop, O: Drop, S: SegmentSource + Drop, C: Keye
     ensures sources { SourcesMove S.state (IsWantedBy asking.old.items slots.old.items)
         files.old.items files.new.items }
     ensures trades { FilesTrade S.state files.old.items files.new.items (C.cache cache.old) (C.cache cache.new) }
-    ensures balance { OnOk result (FilesKeepReport S.state files.old.items files.new.items
-        (C.cache cache.old) (C.cache cache.new) report.old report.new) }
-    ensures keeps { OnOk result (CacheAgrees S.state files.old.items (C.cache cache.old) →
-        SlotsKeep S.state W.split W.comes W.items files.old.items slots.old.items slots.new.items) }
-    ensures advances { OnOk result (EachAdvances W.split slots.old.items slots.new.items) }
+    ensures wants { OnOk result (WantsSlots S.state W.split W.comes W.items files.old.items files.new.items
+        (C.cache cache.old) (C.cache cache.new) report.old report.new slots.old.items slots.new.items) }
     ensures links { OnOk result (EachLinked desks.new.items slots.new.items) }
-    ensures loses { OnOk result (OnlyLoses (C.cache cache.old) (C.cache cache.new)) }
-    ensures follows { OnOk result (SlotsFollow S.state (C.cache cache.old) files.old.items files.new.items
-        slots.old.items slots.new.items) }
 {
     'asking: while let Some(place) = asking.pop_front() {
         let k = slots[place].file;

@@ -23,13 +23,17 @@ pub trait SplitWork {
     /// What it comes to under a store, once so much has arrived.
     ghost comes: { Self → Arrivals → Store → Event → Type 0 };
 
-    ghost use Rattle.std.specs.Prelude.{◌≡◌, length, take, IfOk};
+    ghost use Rattle.std.specs.Prelude.{◌≡◌, ◌≤◌, length, take, IfOk};
     ghost use Rattle.scan_drive.specs.Splits.{SameSplit, Polls};
 
     /// The rows, or what is wanted next. After any answer but `Pending` and `NoMemory` it is not to be polled again.
     fn poll(&mut self, alloc: Global, inbox: &Inbox) -> Poll<Self::Rows>
         ensures answer { Polls split comes items inbox.now self.old result }
         ensures same { SameSplit split comes inbox.now self.new self.old };
+
+    /// How many rows it gives at most: all that it is about, where no filter has to tell which.
+    fn most(&self, alloc: Global) -> Result<u64, NoMemory>
+        ensures { IfOk result (λ n. (store : Store) → length ((split self.now).rows store) ≤ n) };
 
     /// How many rows these are.
     fn count(rows: &Self::Rows) -> usize

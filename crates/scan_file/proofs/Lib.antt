@@ -1,5 +1,6 @@
 pub mod Arriving
 pub mod Choosing
+pub mod Counted
 pub mod Evaluating
 pub mod FilesSent
 pub mod Lasting

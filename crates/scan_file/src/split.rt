@@ -58,6 +58,12 @@ impl SplitWork for FileSplit {
         }
     }
 
+    /// A split that can't be read to its end stands for one row.
+    fn most(&self, alloc: Global) -> Result<u64, NoMemory> {
+        let numbers = self.future.rows(alloc)?;
+        Ok((numbers.len() as u64).max(1))
+    }
+
     fn count(rows: &FileRows) -> usize {
         rows.len()
     }

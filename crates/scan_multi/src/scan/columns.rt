@@ -71,6 +71,7 @@ pub fn scan_columns_of<
         workers,
         request.limit,
         request.ordered,
+        request.filter.is_none(),
     ) {
         Ok(output) => Ok(ColumnOutput {
             chunks: chunks_of(alloc, output.chunks)?,

@@ -15,11 +15,6 @@ returns-in-Ok-Nothing-clause-delivered g c =
     let f = subst (λ (x : Front g.row.W-Rows.Denot). IsFront c.turns.active c.take_front.new.self x) c.in-Ok-Nothing.field-0-is c.in-Ok-Nothing.ensures in
     more_stays g.W.SplitWork.split g.W.SplitWork.comes g.W.SplitWork.items c.args.active.now c.turns.active c.take_front.new.self c.args.chunks.now.items c.turns.chunks.items c.args.left.now c.turns.left c.turns.invariant.more f.1
 
-pub returns-in-Ok-Waits-clause-ok : goal.returns-in-Ok-Waits-clause-ok
-returns-in-Ok-Waits-clause-ok g c tale ok =
-    let f = subst (λ (x : Front g.row.W-Rows.Denot). IsFront c.turns.active c.take_front.new.self x) c.in-Ok-Waits.field-0-is c.in-Ok-Waits.ensures in
-    stays_ok g.W.SplitWork.split g.W.SplitWork.comes g.W.SplitWork.items tale c.turns.active c.take_front.new.self f.0 (c.turns.invariant.ok tale ok)
-
 pub returns-in-Ok-Waits-clause-delivered : goal.returns-in-Ok-Waits-clause-delivered
 returns-in-Ok-Waits-clause-delivered g c =
     let f = subst (λ (x : Front g.row.W-Rows.Denot). IsFront c.turns.active c.take_front.new.self x) c.in-Ok-Waits.field-0-is c.in-Ok-Waits.ensures in
@@ -71,11 +66,6 @@ turns-preserved g c =
           c.turns.invariant.seated c.turns.invariant.ok c.turns.invariant.more f given;
     }
 
-pub returns-in-Ok-Full-clause-ok : goal.returns-in-Ok-Full-clause-ok
-returns-in-Ok-Full-clause-ok g c tale ok =
-    let f = subst (λ (x : Front g.row.W-Rows.Denot). IsFront c.turns.active c.take_front.new.self x) c.in-Ok-Rows.field-0-is c.in-Ok-Rows.ensures in
-    front_ok g.W.SplitWork.split g.W.SplitWork.comes g.W.SplitWork.items tale c.in-Ok-Rows.file c.in-Ok-Rows.rows c.turns.active c.take_front.new.self c.turns.invariant.seated f (c.turns.invariant.ok tale ok)
-
 pub returns-in-Ok-Full-clause-delivered : goal.returns-in-Ok-Full-clause-delivered
 returns-in-Ok-Full-clause-delivered g c =
     let f = subst (λ (x : Front g.row.W-Rows.Denot). IsFront c.turns.active c.take_front.new.self x) c.in-Ok-Rows.field-0-is c.in-Ok-Rows.ensures in
@@ -89,10 +79,25 @@ returns-in-Ok-Halted-clause-stops g c =
     subst (λ (e : DriveFault). StopsOver c.args.active.now.slots.items e) (sym c.held.ensures)
     (stops_over c.in-Ok-Halted.file c.in-Ok-Halted.halt c.args.active.now.slots.items c.turns.active.slots.items c.turns.active refl c.turns.invariant.gives.at f.0)
 
-pub returns-in-Ok-Full-clause-some : goal.returns-in-Ok-Full-clause-some
-returns-in-Ok-Full-clause-some g c h = c.in-Ok-Full.ensures.some (c.turns.invariant.some h)
+pub returns-in-Ok-Nothing-clause-keeps : goal.returns-in-Ok-Nothing-clause-keeps
+returns-in-Ok-Nothing-clause-keeps g c =
+    let f = subst (λ (x : Front g.row.W-Rows.Denot). IsFront c.turns.active c.take_front.new.self x) c.in-Ok-Nothing.field-0-is c.in-Ok-Nothing.ensures in
+    let inv = c.turns.invariant in
+    record { ok = λ tale ok. stays_ok g.W.SplitWork.split g.W.SplitWork.comes g.W.SplitWork.items tale c.turns.active c.take_front.new.self f.1 (inv.ok tale ok); rows = inv.some; files = inv.files }
 
-pub returns-in-Ok-Full-clause-files : goal.returns-in-Ok-Full-clause-files
-returns-in-Ok-Full-clause-files g c =
+pub returns-in-Ok-Waits-clause-keeps : goal.returns-in-Ok-Waits-clause-keeps
+returns-in-Ok-Waits-clause-keeps g c =
+    let f = subst (λ (x : Front g.row.W-Rows.Denot). IsFront c.turns.active c.take_front.new.self x) c.in-Ok-Waits.field-0-is c.in-Ok-Waits.ensures in
+    let inv = c.turns.invariant in
+    record { ok = λ tale ok. stays_ok g.W.SplitWork.split g.W.SplitWork.comes g.W.SplitWork.items tale c.turns.active c.take_front.new.self f.0 (inv.ok tale ok); rows = inv.some; files = inv.files }
+
+pub returns-in-Ok-Full-clause-keeps : goal.returns-in-Ok-Full-clause-keeps
+returns-in-Ok-Full-clause-keeps g c =
     let f = subst (λ (x : Front g.row.W-Rows.Denot). IsFront c.turns.active c.take_front.new.self x) c.in-Ok-Rows.field-0-is c.in-Ok-Rows.ensures in
-    files_rows c.in-Ok-Rows.file c.in-Ok-Rows.rows c.args.active.now.slots.items c.turns.active c.take_front.new.self c.args.chunks.now.items c.turns.chunks.items c.give.new.chunks.items c.turns.invariant.gives.at f c.turns.invariant.files c.in-Ok-Full.ensures.file
+    let inv = c.turns.invariant in
+    let e = c.in-Ok-Full.ensures in
+    record {
+      ok = λ tale ok. front_ok g.W.SplitWork.split g.W.SplitWork.comes g.W.SplitWork.items tale c.in-Ok-Rows.file c.in-Ok-Rows.rows c.turns.active c.take_front.new.self inv.seated f (inv.ok tale ok);
+      rows = λ h. e.some (inv.some h);
+      files = files_rows c.in-Ok-Rows.file c.in-Ok-Rows.rows c.args.active.now.slots.items c.turns.active c.take_front.new.self c.args.chunks.now.items c.turns.chunks.items c.give.new.chunks.items inv.gives.at f inv.files e.file;
+    }

@@ -20,8 +20,8 @@ returns-then-ordered-clause-fault g c =
 
 pub returns-then-ordered-clause-reads : goal.returns-then-ordered-clause-reads
 returns-then-ordered-clause-reads g c =
-    ok_any c.deliver.result (λ (d : Delivered). c.args.ordered ≡ false → d ≡ delivered.More → count (given g.W.SplitWork.items c.deliver.new.chunks.items) ≡ count (given g.W.SplitWork.items c.args.chunks.now.items) + read_rows g.W.SplitWork.items c.args.active.now.slots.items)
-    (λ d e is. let bad : true ≡ false = sym c.if-ordered.true ∙ e in absurd cc)
+    ok_any c.deliver.result (λ (d : Delivered). c.args.ordered ≡ false → c.args.cut ≡ false → d ≡ delivered.More → count (given g.W.SplitWork.items c.deliver.new.chunks.items) ≡ count (given g.W.SplitWork.items c.args.chunks.now.items) + read_rows g.W.SplitWork.items c.args.active.now.slots.items)
+    (λ d e un is. let bad : true ≡ false = sym c.if-ordered.true ∙ e in absurd cc)
 
 pub returns-clause-delivered : goal.returns-clause-delivered
 returns-clause-delivered g c =
@@ -35,5 +35,5 @@ returns-clause-fault g c =
 
 pub returns-clause-reads : goal.returns-clause-reads
 returns-clause-reads g c =
-    ok_under c.deliver_any.result (λ (d : Delivered). d ≡ delivered.More → count (given g.W.SplitWork.items c.deliver_any.new.chunks.items) ≡ count (given g.W.SplitWork.items c.args.chunks.now.items) + read_rows g.W.SplitWork.items c.args.active.now.slots.items)
-    (λ (d : Delivered). c.args.ordered ≡ false → d ≡ delivered.More → count (given g.W.SplitWork.items c.deliver_any.new.chunks.items) ≡ count (given g.W.SplitWork.items c.args.chunks.now.items) + read_rows g.W.SplitWork.items c.args.active.now.slots.items) (λ d h e. h) c.deliver_any.ensures.reads
+    ok_under c.deliver_any.result (λ (d : Delivered). c.args.cut ≡ false → d ≡ delivered.More → count (given g.W.SplitWork.items c.deliver_any.new.chunks.items) ≡ count (given g.W.SplitWork.items c.args.chunks.now.items) + read_rows g.W.SplitWork.items c.args.active.now.slots.items)
+    (λ (d : Delivered). c.args.ordered ≡ false → c.args.cut ≡ false → d ≡ delivered.More → count (given g.W.SplitWork.items c.deliver_any.new.chunks.items) ≡ count (given g.W.SplitWork.items c.args.chunks.now.items) + read_rows g.W.SplitWork.items c.args.active.now.slots.items) (λ d h e. h) c.deliver_any.ensures.reads

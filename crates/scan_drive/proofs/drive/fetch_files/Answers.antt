@@ -40,35 +40,31 @@ loop-i-preserved g c =
     let d = c.index_mut-desk.result.now in
     let ok = c.in_ok-fetch.ensures in
     let here = linked_at desks k d slots inv.links dlt c.index_mut-desk.ensures.value in
-    let then = ok.links k here in
+    let then = ok.polls.links k here in
     record {
       agree = agree_set source files desks k y c.fetch.new.desk inv.agree klt c.fetch.ensures.agree;
       sources = sources_moved source NoneOf files0 files k x y inv.sources klt c.index_mut-file.ensures.value refl refl (moves_weaker NoId (NoneOf k) (source x.source) (source y.source) (λ id n. n) c.fetch.ensures.source);
       trades = files_then source files0 files (set files k y) (cache c.args.cache.now) (cache c.loop-i.cache) (cache c.fetch.new.cache) inv.trades
           (files_set source files k x y (cache c.loop-i.cache) (cache c.fetch.new.cache) klt c.index_mut-file.ensures.value refl c.fetch.ensures.source.holds c.fetch.ensures.trades);
-      counts = files_counts_then source files0 files (set files k y) (cache c.args.cache.now) (cache c.loop-i.cache) (cache c.fetch.new.cache) slots new inv.trades.len (halts_advance g.W.SplitWork.split slots new ok.advances) inv.counts
-          (files_counts source files k x y (cache c.loop-i.cache) (cache c.fetch.new.cache) new klt c.index_mut-file.ensures.value refl ok.counts);
-      keeps = slots_kept source g.W.SplitWork.split g.W.SplitWork.comes g.W.SplitWork.items files0 files slots0 slots new k x inv.sources inv.keeps klt c.index_mut-file.ensures.value ok.keeps then.1;
+      counts = files_counts_then source files0 files (set files k y) (cache c.args.cache.now) (cache c.loop-i.cache) (cache c.fetch.new.cache) slots new inv.trades.len (halts_advance g.W.SplitWork.split slots new ok.polls.advances) inv.counts
+          (files_counts source files k x y (cache c.loop-i.cache) (cache c.fetch.new.cache) new klt c.index_mut-file.ensures.value refl ok.polls.counts);
+      keeps = slots_kept source g.W.SplitWork.split g.W.SplitWork.comes g.W.SplitWork.items files0 files slots0 slots new k x inv.sources inv.keeps klt c.index_mut-file.ensures.value ok.polls.keeps then.1;
       links = linked_set desks k c.fetch.new.desk slots new inv.links dlt then.0 then.1;
-      follows = polled_next source (cache c.args.cache.now) (cache c.args.cache.now) NoneOf files0 files k x y slots0 slots new (loses_self (cache c.args.cache.now)) inv.sources klt c.index_mut-file.ensures.value refl refl c.fetch.ensures.source then.1 ok.follows inv.follows;
-      advances = all_then g.W.SplitWork.split slots0 slots new inv.advances ok.advances;
+      follows = polled_next source (cache c.args.cache.now) (cache c.args.cache.now) NoneOf files0 files k x y slots0 slots new (loses_self (cache c.args.cache.now)) inv.sources klt c.index_mut-file.ensures.value refl refl c.fetch.ensures.source then.1 ok.polls.follows inv.follows;
+      advances = all_then g.W.SplitWork.split slots0 slots new inv.advances ok.polls.advances;
       nearer = polled_more source g.W.SplitWork.split (places found) (places (drop (i + 1) found)) k files0 files c.args.desks.now.items desks slots0 slots new x y d c.fetch.new.desk klt dlt c.index_mut-file.ensures.value c.index_mut-desk.ensures.value
-          c.fetch.ensures.source.turns inv.advances ok.advances ok.nearer
+          c.fetch.ensures.source.turns inv.advances ok.polls.advances ok.nearer
           (subst (λ (xs : List ℕ). PolledBut source g.W.SplitWork.split (places found) xs files0 files c.args.desks.now.items desks slots0 slots) (places_next found i c.index.result.now ilt c.index.ensures) inv.nearer);
     }
 
 pub returns-in_err-fetch-clause-sources : goal.returns-in_err-fetch-clause-sources
 returns-in_err-fetch-clause-sources g c =
     let source = g.S.SegmentSource.state in
-    let cache = g.C.KeyedSegmentCache.cache in
     let inv = c.loop-i.invariant in
     let i = c.loop-i.i in
     let k = c.index.result.now.1 in
-    let slots0 : List (Slot g.row.W.Denot g.row.W-Rows.Denot) = c.args.slots.now.items in
-    let slots : List (Slot g.row.W.Denot g.row.W-Rows.Denot) = c.loop-i.slots.items in
     let files0 : List (ScanFile g.row.O.Denot g.row.S.Denot) = c.args.files.now.items in
     let files : List (ScanFile g.row.O.Denot g.row.S.Denot) = c.loop-i.files.items in
-    let desks : List Waiters = c.loop-i.desks.items in
     let found = c.in_ok-found.found.items in
     let ilt : i < length found = omega (arith, c.loop-i-test.true, c.len-i-end.ensures, c.in_ok-found.found.ok.0) in
     let klt : k < length files = (let w = c.in_ok-found.ensures.within i c.index.result.now ilt in let e = ap (λ (p : ℕ × ℕ). p.1) c.index.ensures in omega (arith, w, e, inv.sources.len, c.requires.to)) in
@@ -83,11 +79,8 @@ returns-in_err-fetch-clause-trades g c =
     let inv = c.loop-i.invariant in
     let i = c.loop-i.i in
     let k = c.index.result.now.1 in
-    let slots0 : List (Slot g.row.W.Denot g.row.W-Rows.Denot) = c.args.slots.now.items in
-    let slots : List (Slot g.row.W.Denot g.row.W-Rows.Denot) = c.loop-i.slots.items in
     let files0 : List (ScanFile g.row.O.Denot g.row.S.Denot) = c.args.files.now.items in
     let files : List (ScanFile g.row.O.Denot g.row.S.Denot) = c.loop-i.files.items in
-    let desks : List Waiters = c.loop-i.desks.items in
     let found = c.in_ok-found.found.items in
     let ilt : i < length found = omega (arith, c.loop-i-test.true, c.len-i-end.ensures, c.in_ok-found.found.ok.0) in
     let klt : k < length files = (let w = c.in_ok-found.ensures.within i c.index.result.now ilt in let e = ap (λ (p : ℕ × ℕ). p.1) c.index.ensures in omega (arith, w, e, inv.sources.len, c.requires.to)) in
@@ -132,8 +125,16 @@ loop-i-init g c =
       nearer = none_polled source split (places c.in_ok-found.found.items) files c.args.desks.now.items slots;
     }
 
-pub returns-clause-nearer : goal.returns-clause-nearer
-returns-clause-nearer g c k from to =
+pub returns-clause-fetches : goal.returns-clause-fetches
+returns-clause-fetches g c =
     let found = c.in_ok-found.found.items in
-    all_polled g.S.SegmentSource.state g.W.SplitWork.split (places found) (places (drop c.loop-i.i found)) c.args.files.now.items c.loop-i.files.items c.args.desks.now.items c.loop-i.desks.items c.args.slots.now.items c.loop-i.slots.items
-    (places_end found c.loop-i.i (omega (arith, c.loop-i-test.false, c.len-i-end.ensures, c.in_ok-found.found.ok.0))) c.loop-i.invariant.nearer k (c.in_ok-found.ensures.all k from to)
+    let inv = c.loop-i.invariant in
+    record {
+      counts = inv.counts;
+      keeps = inv.keeps;
+      links = inv.links;
+      follows = inv.follows;
+      advances = inv.advances;
+      nearer = λ k from to. all_polled g.S.SegmentSource.state g.W.SplitWork.split (places found) (places (drop c.loop-i.i found)) c.args.files.now.items c.loop-i.files.items c.args.desks.now.items c.loop-i.desks.items c.args.slots.now.items c.loop-i.slots.items
+          (places_end found c.loop-i.i (omega (arith, c.loop-i-test.false, c.len-i-end.ensures, c.in_ok-found.found.ok.0))) inv.nearer k (c.in_ok-found.ensures.all k from to);
+    }

@@ -2,7 +2,7 @@ use Rattle.std.proofs.Common.{◌≡◌, List, ℕ, true, subst}
 use Rattle.std.specs.Prelude.{OnOk}
 use Rattle.scan_values.specs.Selections.{is_among}
 use Rattle.scan_drive.specs.Fetches.{BringsNearer}
-use Rattle.scan_drive.specs.Losses.{KeepsCounts}
+use Rattle.scan_drive.specs.Steps.{PollsSource}
 use Rattle.scan_drive.proofs.Bringing.{fetched_nearer}
 use Rattle.scan_drive.proofs.Linking.{on_ok}
 use Rattle.scan_drive.proofs.Trading.{trades_self}
@@ -22,8 +22,9 @@ returns-in_err-ids-clause-trades g c = trades_self c.args.name.now (g.S.SegmentS
 pub returns-in_err-try_clone-clause-trades : goal.returns-in_err-try_clone-clause-trades
 returns-in_err-try_clone-clause-trades g c = trades_self c.args.name.now (g.S.SegmentSource.state c.args.source.now) (g.C.KeyedSegmentCache.cache c.args.cache.now)
 
-pub returns-clause-counts : goal.returns-clause-counts
-returns-clause-counts g c =
+pub returns-clause-polls : goal.returns-clause-polls
+returns-clause-polls g c =
     let state = g.S.SegmentSource.state in
     let cache = g.C.KeyedSegmentCache.cache in
-    subst (λ (n : List ℕ). OnOk c.poll_all.result (KeepsCounts n (state c.args.source.now) (state c.poll_all.new.source) (cache c.args.cache.now) (cache c.poll_all.new.cache) c.poll_all.new.slots.items)) c.in_ok-try_clone.ensures c.poll_all.ensures.counts
+    subst (λ (n : List ℕ). OnOk c.poll_all.result (PollsSource g.W.SplitWork.split g.W.SplitWork.comes g.W.SplitWork.items n (state c.args.source.now) (state c.poll_all.new.source) (cache c.args.cache.now) (cache c.poll_all.new.cache)
+    c.args.desk.now c.poll_all.new.desk c.args.slots.now.items c.poll_all.new.slots.items)) c.in_ok-try_clone.ensures c.poll_all.ensures.polls

@@ -34,24 +34,23 @@ loop-id-preserved g c =
     record {
       agree = c.poll_one.ensures.agree;
       name = inv.name;
-      linked = (inv.linked.0, (ok.links inv.linked.0 inv.linked.1).0);
+      linked = (inv.linked.0, (ok.polls.links inv.linked.0 inv.linked.1).0);
       moves = moves_then NoId s t u inv.moves c.poll_one.ensures.source;
       trades = trades_then name s t u (cache c.args.cache.now) (cache c.loop-id.cache) (cache c.poll_one.new.cache) inv.moves.holds inv.trades
           (subst (λ (n : List ℕ). Trades n t u (cache c.loop-id.cache) (cache c.poll_one.new.cache)) inv.name c.poll_one.ensures.trades);
-      counts = counts_then name s t u (cache c.args.cache.now) (cache c.loop-id.cache) (cache c.poll_one.new.cache) now next (halts_advance split now next ok.advances) inv.counts
-          (subst (λ (n : List ℕ). KeepsCounts n t u (cache c.loop-id.cache) (cache c.poll_one.new.cache) next) inv.name ok.counts);
-      keeps = told_then split g.W.SplitWork.comes g.W.SplitWork.items s.holds t.holds old now next inv.moves.holds inv.keeps ok.keeps;
-      links = linked_then c.args.desk.now c.loop-id.desk c.poll_one.new.desk old now next inv.links ok.links;
-      follows = source_then NoId NoId s t u old now next inv.moves c.poll_one.ensures.source inv.follows ok.follows;
-      advances = all_then split old now next inv.advances ok.advances;
-      nearer = fetching_next split id ids (drop (i + 1) ids) s t u c.args.desk.now c.loop-id.desk c.poll_one.new.desk old now next f c.poll_one.ensures.source.turns ok.waits ok.advances ok.nearer;
+      counts = counts_then name s t u (cache c.args.cache.now) (cache c.loop-id.cache) (cache c.poll_one.new.cache) now next (halts_advance split now next ok.polls.advances) inv.counts
+          (subst (λ (n : List ℕ). KeepsCounts n t u (cache c.loop-id.cache) (cache c.poll_one.new.cache) next) inv.name ok.polls.counts);
+      keeps = told_then split g.W.SplitWork.comes g.W.SplitWork.items s.holds t.holds old now next inv.moves.holds inv.keeps ok.polls.keeps;
+      links = linked_then c.args.desk.now c.loop-id.desk c.poll_one.new.desk old now next inv.links ok.polls.links;
+      follows = source_then NoId NoId s t u old now next inv.moves c.poll_one.ensures.source inv.follows ok.polls.follows;
+      advances = all_then split old now next inv.advances ok.polls.advances;
+      nearer = fetching_next split id ids (drop (i + 1) ids) s t u c.args.desk.now c.loop-id.desk c.poll_one.new.desk old now next f c.poll_one.ensures.source.turns ok.waits ok.polls.advances ok.nearer;
     }
 
 pub loop-id-preserved-then-not-is_live : goal.loop-id-preserved-then-not-is_live
 loop-id-preserved-then-not-is_live g c =
     let split = g.W.SplitWork.split in
     let state = g.S.SegmentSource.state in
-    let cache = g.C.KeyedSegmentCache.cache in
     let inv = c.loop-id.invariant in
     let i = c.loop-id.id-index in
     let ids = c.args.ids.now in
@@ -110,3 +109,8 @@ loop-id-init g c =
       advances = all_refl split slots;
       nearer = fetching_all split c.args.ids.now s c.args.desk.now slots;
     }
+
+pub returns-clause-polls : goal.returns-clause-polls
+returns-clause-polls g c =
+    let inv = c.loop-id.invariant in
+    record { counts = inv.counts; keeps = inv.keeps; links = inv.links; follows = inv.follows; advances = inv.advances }

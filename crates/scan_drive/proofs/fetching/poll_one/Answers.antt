@@ -1,30 +1,35 @@
 use Rattle.std.proofs.Common.{◌≡◌, ◌∙◌, List, ℕ, subst, sym, ap}
+use Rattle.scan_drive.specs.Desks.{Waiters}
 use Rattle.scan_drive.specs.Fetches.{BringsNearer}
 use Rattle.scan_drive.specs.Grounds.{SourceFollows}
 use Rattle.scan_drive.specs.Links.{StaysLinked, KeepsTold}
 use Rattle.scan_drive.specs.Losses.{HasHalted}
 use Rattle.scan_drive.specs.Measures.{EachAdvances}
+use Rattle.scan_drive.specs.Steps.{PollsSource}
 use Rattle.scan_drive.specs.declared.desk.Reply.TheVariants as reply
 use Rattle.scan_drive.specs.Slots.{at_each, handed, given_up}
 use Rattle.scan_drive.specs.declared.slot.Halt.TheVariants as halt
 use Rattle.scan_drive.specs.declared.slot.Slot.{Slot}
 use Rattle.scan_drive.proofs.Bringing.{on_stay, on_ended, came_advances, lost_advances, came_nearer, lost_nearer, pending_nearer}
 use Rattle.scan_drive.proofs.Failing.{source_self, source_came, source_lost}
-use Rattle.scan_drive.proofs.Linking.{on_ok, told_handed, told_lost, linked_handed, linked_lost, take_all}
+use Rattle.scan_drive.proofs.Linking.{linked_self, on_ok, told_self, told_handed, told_lost, linked_handed, linked_lost, take_all}
 use Rattle.scan_drive.proofs.Losing.{counts_reply, has_lost}
 use Rattle.scan_drive.proofs.Nearing.{all_refl}
 use Rattle.scan_drive.proofs.Trading.{trades_came}
 use Rattle.scan_drive.proofs.fetching.poll_one.Goals as goal
 
-pub returns-in-Came-clause-keeps : goal.returns-in-Came-clause-keeps
-returns-in-Came-clause-keeps g c =
+pub returns-in-Came-clause-polls : goal.returns-in-Came-clause-polls
+returns-in-Came-clause-polls g c =
     let split = g.W.SplitWork.split in
     let comes = g.W.SplitWork.comes in
     let items = g.W.SplitWork.items in
+    let name = c.args.key.now.source_id in
     let id = c.args.key.now.segment in
     let d = c.args.desk.now in
     let s = g.S.SegmentSource.state c.args.source.now in
     let t = g.S.SegmentSource.state c.collect.new.source in
+    let was = g.C.KeyedSegmentCache.cache c.args.cache.now in
+    let cache = g.C.KeyedSegmentCache.cache c.collect.new.cache in
     let slots = c.args.slots.now.items in
     let ps = c.in-Came.places in
     let r = c.in-Came.ensures.replies in
@@ -32,51 +37,64 @@ returns-in-Came-clause-keeps g c =
     let links = c.requires.links.1 in
     let once = c.as_slice.ensures.distinct in
     let now : List ℕ → List (Slot g.row.W.Denot g.row.W-Rows.Denot) = λ xs. at_each (handed id c.in-Came.arrival) xs slots in
-    on_ok c.hand.result (λ (e : c.hand.new.slots.items ≡ now c.as_slice.result.now). subst (λ (ss : List (Slot g.row.W.Denot g.row.W-Rows.Denot)). KeepsTold split comes items s.holds slots ss)
-    (sym (e ∙ ap now c.as_slice.ensures.places)) (told_handed split comes items file s id c.in-Came.arrival ps d slots links r.0 once r.2)) c.hand.ensures
+    let polls : PollsSource split comes items name s t was cache d c.collect.new.self slots (now ps) = record {
+      counts = counts_reply name s t was cache (now ps) (reply.Came c.in-Came.arrival ps) c.in-Came.ensures.balance (λ f. absurd cc);
+      keeps = told_handed split comes items file s id c.in-Came.arrival ps d slots links r.0 once r.2;
+      links = linked_handed id c.in-Came.arrival ps d c.collect.new.self slots r.0 r.1 once;
+      follows = source_came file id c.in-Came.arrival ps s t d slots links c.requires.agree r.0 once;
+      advances = came_advances split file id c.in-Came.arrival ps d slots links r.0 once;
+    } in
+    on_ok c.hand.result (λ (e : c.hand.new.slots.items ≡ now c.as_slice.result.now). subst (λ (ss : List (Slot g.row.W.Denot g.row.W-Rows.Denot)). PollsSource split comes items name s t was cache d c.collect.new.self slots ss)
+    (sym (e ∙ ap now c.as_slice.ensures.places)) polls) c.hand.ensures
 
-pub returns-in-Came-clause-links : goal.returns-in-Came-clause-links
-returns-in-Came-clause-links g c =
+pub returns-in-Failed-clause-polls : goal.returns-in-Failed-clause-polls
+returns-in-Failed-clause-polls g c =
     let split = g.W.SplitWork.split in
     let comes = g.W.SplitWork.comes in
     let items = g.W.SplitWork.items in
+    let name = c.args.key.now.source_id in
     let id = c.args.key.now.segment in
     let d = c.args.desk.now in
     let s = g.S.SegmentSource.state c.args.source.now in
     let t = g.S.SegmentSource.state c.collect.new.source in
+    let was = g.C.KeyedSegmentCache.cache c.args.cache.now in
+    let cache = g.C.KeyedSegmentCache.cache c.collect.new.cache in
     let slots = c.args.slots.now.items in
-    let ps = c.in-Came.places in
-    let r = c.in-Came.ensures.replies in
+    let ps = c.in-Failed.places in
+    let r = c.in-Failed.ensures.replies in
     let file = c.requires.links.0 in
     let links = c.requires.links.1 in
-    let once = c.as_slice.ensures.distinct in
-    let now : List ℕ → List (Slot g.row.W.Denot g.row.W-Rows.Denot) = λ xs. at_each (handed id c.in-Came.arrival) xs slots in
-    on_ok c.hand.result (λ (e : c.hand.new.slots.items ≡ now c.as_slice.result.now). subst (λ (ss : List (Slot g.row.W.Denot g.row.W-Rows.Denot)). StaysLinked d c.collect.new.self slots ss)
-    (sym (e ∙ ap now c.as_slice.ensures.places)) (linked_handed id c.in-Came.arrival ps d c.collect.new.self slots r.0 r.1 once)) c.hand.ensures
+    let shown = c.as_slice-in-Failed.ensures in
+    let now : List ℕ → List (Slot g.row.W.Denot g.row.W-Rows.Denot) = λ xs. at_each (given_up (halt.Source id)) xs slots in
+    let polls : PollsSource split comes items name s t was cache d c.collect.new.self slots (now ps) = record {
+      counts = counts_reply name s t was cache (now ps) (reply.Failed ps) c.in-Failed.ensures.balance
+          (λ f. has_lost id (halt.Source id) ps slots (take_all file id ps d slots links r.0) shown.distinct shown.any);
+      keeps = told_lost split comes items file s.holds id ps d slots links r.0 shown.distinct;
+      links = linked_lost id (halt.Source id) ps d c.collect.new.self slots r.0 r.1 shown.distinct;
+      follows = source_lost file id ps s t d slots links c.requires.agree r.0 (r.2, r.3) shown.distinct;
+      advances = lost_advances split file id (halt.Source id) ps d slots links r.0 shown.distinct;
+    } in
+    subst (λ (ss : List (Slot g.row.W.Denot g.row.W-Rows.Denot)). PollsSource split comes items name s t was cache d c.collect.new.self slots ss) (sym (c.lose.ensures ∙ ap now shown.places)) polls
 
-pub returns-in-Came-clause-advances : goal.returns-in-Came-clause-advances
-returns-in-Came-clause-advances g c =
+pub returns-in-Pending-clause-polls : goal.returns-in-Pending-clause-polls
+returns-in-Pending-clause-polls g c =
     let split = g.W.SplitWork.split in
-    let comes = g.W.SplitWork.comes in
-    let items = g.W.SplitWork.items in
-    let id = c.args.key.now.segment in
-    let d = c.args.desk.now in
     let s = g.S.SegmentSource.state c.args.source.now in
     let t = g.S.SegmentSource.state c.collect.new.source in
+    let cache = g.C.KeyedSegmentCache.cache in
     let slots = c.args.slots.now.items in
-    let ps = c.in-Came.places in
-    let r = c.in-Came.ensures.replies in
-    let file = c.requires.links.0 in
-    let links = c.requires.links.1 in
-    let once = c.as_slice.ensures.distinct in
-    let now : List ℕ → List (Slot g.row.W.Denot g.row.W-Rows.Denot) = λ xs. at_each (handed id c.in-Came.arrival) xs slots in
-    on_ok c.hand.result (λ (e : c.hand.new.slots.items ≡ now c.as_slice.result.now). subst (λ (ss : List (Slot g.row.W.Denot g.row.W-Rows.Denot)). EachAdvances split slots ss)
-    (sym (e ∙ ap now c.as_slice.ensures.places)) (came_advances split file id c.in-Came.arrival ps d slots links r.0 once)) c.hand.ensures
+    let r = c.in-Pending.ensures.replies in
+    record {
+      counts = counts_reply c.args.key.now.source_id s t (cache c.args.cache.now) (cache c.collect.new.cache) slots reply.Pending c.in-Pending.ensures.balance (λ f. absurd cc);
+      keeps = told_self split g.W.SplitWork.comes g.W.SplitWork.items s.holds slots;
+      links = subst (λ (e : Waiters). StaysLinked c.args.desk.now e slots slots) (sym r.0) (linked_self c.args.desk.now slots);
+      follows = source_self s t slots;
+      advances = all_refl split slots;
+    }
 
 pub returns-in-Came-clause-nearer : goal.returns-in-Came-clause-nearer
 returns-in-Came-clause-nearer g c =
     let split = g.W.SplitWork.split in
-    let comes = g.W.SplitWork.comes in
     let items = g.W.SplitWork.items in
     let id = c.args.key.now.segment in
     let d = c.args.desk.now in
@@ -94,83 +112,17 @@ returns-in-Came-clause-nearer g c =
 
 pub returns-in-Came-clause-waits : goal.returns-in-Came-clause-waits
 returns-in-Came-clause-waits g c =
-    let split = g.W.SplitWork.split in
-    let comes = g.W.SplitWork.comes in
     let items = g.W.SplitWork.items in
     let id = c.args.key.now.segment in
     let d = c.args.desk.now in
-    let s = g.S.SegmentSource.state c.args.source.now in
-    let t = g.S.SegmentSource.state c.collect.new.source in
     let slots = c.args.slots.now.items in
-    let ps = c.in-Came.places in
     let r = c.in-Came.ensures.replies in
-    let file = c.requires.links.0 in
-    let links = c.requires.links.1 in
-    let once = c.as_slice.ensures.distinct in
     let now : List ℕ → List (Slot g.row.W.Denot g.row.W-Rows.Denot) = λ xs. at_each (handed id c.in-Came.arrival) xs slots in
     on_ok c.hand.result (λ (e : c.hand.new.slots.items ≡ now c.as_slice.result.now). on_ended id d c.collect.new.self r.1) c.hand.ensures
-
-pub returns-in-Failed-clause-keeps : goal.returns-in-Failed-clause-keeps
-returns-in-Failed-clause-keeps g c =
-    let split = g.W.SplitWork.split in
-    let comes = g.W.SplitWork.comes in
-    let items = g.W.SplitWork.items in
-    let id = c.args.key.now.segment in
-    let d = c.args.desk.now in
-    let s = g.S.SegmentSource.state c.args.source.now in
-    let t = g.S.SegmentSource.state c.collect.new.source in
-    let slots = c.args.slots.now.items in
-    let ps = c.in-Failed.places in
-    let r = c.in-Failed.ensures.replies in
-    let file = c.requires.links.0 in
-    let links = c.requires.links.1 in
-    let once = c.as_slice-in-Failed.ensures.distinct in
-    let now : List ℕ → List (Slot g.row.W.Denot g.row.W-Rows.Denot) = λ xs. at_each (given_up (halt.Source id)) xs slots in
-    let e : c.lose.new.slots.items ≡ now ps = c.lose.ensures ∙ ap now c.as_slice-in-Failed.ensures.places in
-    subst (λ (ss : List (Slot g.row.W.Denot g.row.W-Rows.Denot)). KeepsTold split comes items s.holds slots ss) (sym e) (told_lost split comes items file s.holds id ps d slots links r.0 once)
-
-pub returns-in-Failed-clause-links : goal.returns-in-Failed-clause-links
-returns-in-Failed-clause-links g c =
-    let split = g.W.SplitWork.split in
-    let comes = g.W.SplitWork.comes in
-    let items = g.W.SplitWork.items in
-    let id = c.args.key.now.segment in
-    let d = c.args.desk.now in
-    let s = g.S.SegmentSource.state c.args.source.now in
-    let t = g.S.SegmentSource.state c.collect.new.source in
-    let slots = c.args.slots.now.items in
-    let ps = c.in-Failed.places in
-    let r = c.in-Failed.ensures.replies in
-    let file = c.requires.links.0 in
-    let links = c.requires.links.1 in
-    let once = c.as_slice-in-Failed.ensures.distinct in
-    let now : List ℕ → List (Slot g.row.W.Denot g.row.W-Rows.Denot) = λ xs. at_each (given_up (halt.Source id)) xs slots in
-    let e : c.lose.new.slots.items ≡ now ps = c.lose.ensures ∙ ap now c.as_slice-in-Failed.ensures.places in
-    subst (λ (ss : List (Slot g.row.W.Denot g.row.W-Rows.Denot)). StaysLinked d c.collect.new.self slots ss) (sym e) (linked_lost id (halt.Source id) ps d c.collect.new.self slots r.0 r.1 once)
-
-pub returns-in-Failed-clause-advances : goal.returns-in-Failed-clause-advances
-returns-in-Failed-clause-advances g c =
-    let split = g.W.SplitWork.split in
-    let comes = g.W.SplitWork.comes in
-    let items = g.W.SplitWork.items in
-    let id = c.args.key.now.segment in
-    let d = c.args.desk.now in
-    let s = g.S.SegmentSource.state c.args.source.now in
-    let t = g.S.SegmentSource.state c.collect.new.source in
-    let slots = c.args.slots.now.items in
-    let ps = c.in-Failed.places in
-    let r = c.in-Failed.ensures.replies in
-    let file = c.requires.links.0 in
-    let links = c.requires.links.1 in
-    let once = c.as_slice-in-Failed.ensures.distinct in
-    let now : List ℕ → List (Slot g.row.W.Denot g.row.W-Rows.Denot) = λ xs. at_each (given_up (halt.Source id)) xs slots in
-    let e : c.lose.new.slots.items ≡ now ps = c.lose.ensures ∙ ap now c.as_slice-in-Failed.ensures.places in
-    subst (λ (ss : List (Slot g.row.W.Denot g.row.W-Rows.Denot)). EachAdvances split slots ss) (sym e) (lost_advances split file id (halt.Source id) ps d slots links r.0 once)
 
 pub returns-in-Failed-clause-nearer : goal.returns-in-Failed-clause-nearer
 returns-in-Failed-clause-nearer g c =
     let split = g.W.SplitWork.split in
-    let comes = g.W.SplitWork.comes in
     let items = g.W.SplitWork.items in
     let id = c.args.key.now.segment in
     let d = c.args.desk.now in
@@ -188,21 +140,9 @@ returns-in-Failed-clause-nearer g c =
 
 pub returns-in-Failed-clause-waits : goal.returns-in-Failed-clause-waits
 returns-in-Failed-clause-waits g c =
-    let split = g.W.SplitWork.split in
-    let comes = g.W.SplitWork.comes in
-    let items = g.W.SplitWork.items in
     let id = c.args.key.now.segment in
     let d = c.args.desk.now in
-    let s = g.S.SegmentSource.state c.args.source.now in
-    let t = g.S.SegmentSource.state c.collect.new.source in
-    let slots = c.args.slots.now.items in
-    let ps = c.in-Failed.places in
     let r = c.in-Failed.ensures.replies in
-    let file = c.requires.links.0 in
-    let links = c.requires.links.1 in
-    let once = c.as_slice-in-Failed.ensures.distinct in
-    let now : List ℕ → List (Slot g.row.W.Denot g.row.W-Rows.Denot) = λ xs. at_each (given_up (halt.Source id)) xs slots in
-    let e : c.lose.new.slots.items ≡ now ps = c.lose.ensures ∙ ap now c.as_slice-in-Failed.ensures.places in
     on_ended id d c.collect.new.self r.1
 
 pub returns-in-Pending-clause-nearer : goal.returns-in-Pending-clause-nearer
@@ -216,25 +156,10 @@ returns-in-Pending-clause-nearer g c =
     let r = c.in-Pending.ensures.replies in
     pending_nearer split id s t d slots slots r.1
 
-pub returns-in-Pending-clause-advances : goal.returns-in-Pending-clause-advances
-returns-in-Pending-clause-advances g c =
-    let split = g.W.SplitWork.split in
-    let id = c.args.key.now.segment in
-    let d = c.args.desk.now in
-    let s = g.S.SegmentSource.state c.args.source.now in
-    let t = g.S.SegmentSource.state c.collect.new.source in
-    let slots = c.args.slots.now.items in
-    let r = c.in-Pending.ensures.replies in
-    all_refl split slots
-
 pub returns-in-Pending-clause-waits : goal.returns-in-Pending-clause-waits
 returns-in-Pending-clause-waits g c =
-    let split = g.W.SplitWork.split in
     let id = c.args.key.now.segment in
     let d = c.args.desk.now in
-    let s = g.S.SegmentSource.state c.args.source.now in
-    let t = g.S.SegmentSource.state c.collect.new.source in
-    let slots = c.args.slots.now.items in
     let r = c.in-Pending.ensures.replies in
     on_stay id d c.collect.new.self r.0
 
@@ -257,74 +182,3 @@ pub returns-in-NoMemory-clause-trades : goal.returns-in-NoMemory-clause-trades
 returns-in-NoMemory-clause-trades g c =
     trades_came c.args.key.now (g.S.SegmentSource.state c.args.source.now) (g.S.SegmentSource.state c.collect.new.source) c.args.desk.now c.collect.new.self
     (g.C.KeyedSegmentCache.cache c.args.cache.now) (g.C.KeyedSegmentCache.cache c.collect.new.cache) c.collect.result c.collect.ensures.replies c.collect.ensures.puts c.collect.ensures.ledger
-
-pub returns-in-Came-clause-counts : goal.returns-in-Came-clause-counts
-returns-in-Came-clause-counts g c =
-    let s = g.S.SegmentSource.state c.args.source.now in
-    let t = g.S.SegmentSource.state c.collect.new.source in
-    let was = g.C.KeyedSegmentCache.cache c.args.cache.now in
-    let now = g.C.KeyedSegmentCache.cache c.collect.new.cache in
-    on_ok c.hand.result (λ (e : c.hand.new.slots.items ≡ at_each (handed c.args.key.now.segment c.in-Came.arrival) c.as_slice.result.now c.args.slots.now.items).
-    counts_reply c.args.key.now.source_id s t was now c.hand.new.slots.items (reply.Came c.in-Came.arrival c.in-Came.places) c.in-Came.ensures.balance (λ f. absurd cc)) c.hand.ensures
-
-pub returns-in-Pending-clause-counts : goal.returns-in-Pending-clause-counts
-returns-in-Pending-clause-counts g c =
-    let s = g.S.SegmentSource.state c.args.source.now in
-    let t = g.S.SegmentSource.state c.collect.new.source in
-    let was = g.C.KeyedSegmentCache.cache c.args.cache.now in
-    let now = g.C.KeyedSegmentCache.cache c.collect.new.cache in
-    counts_reply c.args.key.now.source_id s t was now c.args.slots.now.items reply.Pending c.in-Pending.ensures.balance (λ f. absurd cc)
-
-pub returns-in-Failed-clause-counts : goal.returns-in-Failed-clause-counts
-returns-in-Failed-clause-counts g c =
-    let id = c.args.key.now.segment in
-    let d = c.args.desk.now in
-    let s = g.S.SegmentSource.state c.args.source.now in
-    let t = g.S.SegmentSource.state c.collect.new.source in
-    let was = g.C.KeyedSegmentCache.cache c.args.cache.now in
-    let cache = g.C.KeyedSegmentCache.cache c.collect.new.cache in
-    let slots = c.args.slots.now.items in
-    let ps = c.in-Failed.places in
-    let r = c.in-Failed.ensures.replies in
-    let file = c.requires.links.0 in
-    let links = c.requires.links.1 in
-    let shown = c.as_slice-in-Failed.ensures in
-    let now : List ℕ → List (Slot g.row.W.Denot g.row.W-Rows.Denot) = λ xs. at_each (given_up (halt.Source id)) xs slots in
-    let e : c.lose.new.slots.items ≡ now ps = c.lose.ensures ∙ ap now shown.places in
-    counts_reply c.args.key.now.source_id s t was cache c.lose.new.slots.items (reply.Failed ps) c.in-Failed.ensures.balance
-    (λ f. subst (λ (ss : List (Slot g.row.W.Denot g.row.W-Rows.Denot)). HasHalted ss) (sym e) (has_lost id (halt.Source id) ps slots (take_all file id ps d slots links r.0) shown.distinct shown.any))
-
-pub returns-in-Came-clause-follows : goal.returns-in-Came-clause-follows
-returns-in-Came-clause-follows g c =
-    let id = c.args.key.now.segment in
-    let d = c.args.desk.now in
-    let s = g.S.SegmentSource.state c.args.source.now in
-    let t = g.S.SegmentSource.state c.collect.new.source in
-    let slots = c.args.slots.now.items in
-    let ps = c.in-Came.places in
-    let r = c.in-Came.ensures.replies in
-    let file = c.requires.links.0 in
-    let links = c.requires.links.1 in
-    let once = c.as_slice.ensures.distinct in
-    let now : List ℕ → List (Slot g.row.W.Denot g.row.W-Rows.Denot) = λ xs. at_each (handed id c.in-Came.arrival) xs slots in
-    on_ok c.hand.result (λ (e : c.hand.new.slots.items ≡ now c.as_slice.result.now). subst (λ (ss : List (Slot g.row.W.Denot g.row.W-Rows.Denot)). SourceFollows s t slots ss)
-    (sym (e ∙ ap now c.as_slice.ensures.places)) (source_came file id c.in-Came.arrival ps s t d slots links c.requires.agree r.0 once)) c.hand.ensures
-
-pub returns-in-Failed-clause-follows : goal.returns-in-Failed-clause-follows
-returns-in-Failed-clause-follows g c =
-    let id = c.args.key.now.segment in
-    let d = c.args.desk.now in
-    let s = g.S.SegmentSource.state c.args.source.now in
-    let t = g.S.SegmentSource.state c.collect.new.source in
-    let slots = c.args.slots.now.items in
-    let ps = c.in-Failed.places in
-    let r = c.in-Failed.ensures.replies in
-    let file = c.requires.links.0 in
-    let links = c.requires.links.1 in
-    let once = c.as_slice-in-Failed.ensures.distinct in
-    let now : List ℕ → List (Slot g.row.W.Denot g.row.W-Rows.Denot) = λ xs. at_each (given_up (halt.Source id)) xs slots in
-    let e : c.lose.new.slots.items ≡ now ps = c.lose.ensures ∙ ap now c.as_slice-in-Failed.ensures.places in
-    subst (λ (ss : List (Slot g.row.W.Denot g.row.W-Rows.Denot)). SourceFollows s t slots ss) (sym e) (source_lost file id ps s t d slots links c.requires.agree r.0 (r.2, r.3) once)
-
-pub returns-in-Pending-clause-follows : goal.returns-in-Pending-clause-follows
-returns-in-Pending-clause-follows g c = source_self (g.S.SegmentSource.state c.args.source.now) (g.S.SegmentSource.state c.collect.new.source) c.args.slots.now.items

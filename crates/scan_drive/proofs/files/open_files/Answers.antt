@@ -61,7 +61,6 @@ loop-i-preserved g c =
       sources = sources_set old now i x y inv.sources lt v refl;
       opened =
           let u = unopened_set_by ps i p q (as_number c.in_ok-opened.opened) plt w c.in_ok-opened.ensures.opened in
-          let o = inv.opened in
           let e = c.either-any.ensures.number in
           omega arith;
       same = λ is. (let both = c.either-any.ensures.none is in set_again ps i p q w (c.in_ok-opened.ensures.same both.1) ∙ inv.same both.0);
@@ -82,33 +81,11 @@ loop-i-preserved g c =
       ));
     }
 
-pub returns-in_err-opened-clause-moves : goal.returns-in_err-opened-clause-moves
-returns-in_err-opened-clause-moves g c =
+pub returns-in_err-opened-clause-keeps : goal.returns-in_err-opened-clause-keeps
+returns-in_err-opened-clause-keeps g c =
     let state = g.X.SplitOpener.state c.args.context.now in
     let polls = g.X.SplitOpener.polls in
     let source = g.S.SegmentSource.state in
-    let inv = c.loop-i.invariant in
-    let i = c.loop-i.i in
-    let old : List (ScanFile g.row.O.Denot g.row.S.Denot) = c.args.files.now.items in
-    let now : List (ScanFile g.row.O.Denot g.row.S.Denot) = c.loop-i.files.items in
-    let x : ScanFile g.row.O.Denot g.row.S.Denot = c.index_mut-file.result.now in
-    let y : ScanFile g.row.O.Denot g.row.S.Denot = record x { opener = c.open_file.new.opener } in
-    let n : length now ≡ length old = inv.moves.len in
-    let lt : i < length now = omega (arith, n, c.requires.within) in
-    moves_set state polls source (Unit {0}) old now i x y inv.moves lt c.index_mut-file.ensures.value (record { opens = c.open_file.ensures.opens; source_moves = moves_self (λ id. Unit {0} → IsNamed (tell state source x) id) (source x.source); name = refl })
-
-pub returns-in_err-opened-clause-rest : goal.returns-in_err-opened-clause-rest
-returns-in_err-opened-clause-rest g c =
-    let i = c.loop-i.i in
-    let old : List (ScanFile g.row.O.Denot g.row.S.Denot) = c.args.files.now.items in
-    let now : List (ScanFile g.row.O.Denot g.row.S.Denot) = c.loop-i.files.items in
-    let x : ScanFile g.row.O.Denot g.row.S.Denot = c.index_mut-file.result.now in
-    let y : ScanFile g.row.O.Denot g.row.S.Denot = record x { opener = c.open_file.new.opener } in
-    rest_done c.args.first (i + 1) c.args.last old (set now i y) (λ k from past. omega (arith, past)) (still_set c.args.first i old now y c.loop-i.auto.i c.loop-i.invariant.rest)
-
-pub returns-in_err-opened-clause-fit : goal.returns-in_err-opened-clause-fit
-returns-in_err-opened-clause-fit g c start h =
-    let state = g.X.SplitOpener.state c.args.context.now in
     let inv = c.loop-i.invariant in
     let i = c.loop-i.i in
     let old : List (ScanFile g.row.O.Denot g.row.S.Denot) = c.args.files.now.items in
@@ -118,33 +95,41 @@ returns-in_err-opened-clause-fit g c start h =
     let y : ScanFile g.row.O.Denot g.row.S.Denot = record x { opener = c.open_file.new.opener } in
     let p : Phase g.row.W.Denot g.row.F.Denot = c.index_mut-phase.result.now in
     let q : Phase g.row.W.Denot g.row.F.Denot = c.open_file.new.phase in
+    let v = c.index_mut-file.ensures.value in
+    let once = c.open_file.ensures.once in
     let n : length now ≡ length old = inv.moves.len in
     let lt : i < length now = omega (arith, n, c.requires.within) in
     let plt : i < length ps = omega (arith, n, inv.len, c.requires.within, c.requires.same) in
-    let s = inv.polled start h in
-    fit_set state start now ps i x y p q lt c.index_mut-file.ensures.value plt c.index_mut-phase.ensures.value c.open_file.ensures.once s.0 s.1
+    record {
+      moves = moves_set state polls source (Unit {0}) old now i x y inv.moves lt v (record { opens = c.open_file.ensures.opens; source_moves = moves_self (λ id. Unit {0} → IsNamed (tell state source x) id) (source x.source); name = refl });
+      sources = sources_set old now i x y inv.sources lt v refl;
+      others = rest_done c.args.first (i + 1) c.args.last old (set now i y) (λ k from past. omega (arith, past)) (still_set c.args.first i old now y c.loop-i.auto.i inv.rest);
+      grows = grows_set state old now i x y p lt v once inv.grows;
+      fit = λ start h. (let s = inv.polled start h in fit_set state start now ps i x y p q lt v plt c.index_mut-phase.ensures.value once s.0 s.1);
+    }
 
-pub returns-clause-fit : goal.returns-clause-fit
-returns-clause-fit g c start h = stand_fit (g.X.SplitOpener.state c.args.context.now) start c.loop-i.files.items c.loop-i.phases.items (c.loop-i.invariant.polled start h).0
-
-pub returns-clause-rest : goal.returns-clause-rest
-returns-clause-rest g c = rest_done c.args.first c.loop-i.i c.args.last c.args.files.now.items c.loop-i.files.items c.loop-i.invariant.within c.loop-i.invariant.rest
-
-pub returns-clause-polled : goal.returns-clause-polled
-returns-clause-polled g c start h = (c.loop-i.invariant.polled start h).0
-
-pub returns-in_err-opened-clause-grows : goal.returns-in_err-opened-clause-grows
-returns-in_err-opened-clause-grows g c =
-    let state = g.X.SplitOpener.state c.args.context.now in
+pub returns-clause-keeps : goal.returns-clause-keeps
+returns-clause-keeps g c =
     let inv = c.loop-i.invariant in
-    let i = c.loop-i.i in
-    let old : List (ScanFile g.row.O.Denot g.row.S.Denot) = c.args.files.now.items in
-    let now : List (ScanFile g.row.O.Denot g.row.S.Denot) = c.loop-i.files.items in
-    let x : ScanFile g.row.O.Denot g.row.S.Denot = c.index_mut-file.result.now in
-    let y : ScanFile g.row.O.Denot g.row.S.Denot = record x { opener = c.open_file.new.opener } in
-    let p : Phase g.row.W.Denot g.row.F.Denot = c.index_mut-phase.result.now in
-    let n : length now ≡ length old = inv.moves.len in
-    grows_set state old now i x y p (omega (arith, n, c.requires.within)) c.index_mut-file.ensures.value c.open_file.ensures.once inv.grows
+    record {
+      moves = inv.moves;
+      sources = inv.sources;
+      others = rest_done c.args.first c.loop-i.i c.args.last c.args.files.now.items c.loop-i.files.items inv.within inv.rest;
+      grows = inv.grows;
+      fit = λ start h. stand_fit (g.X.SplitOpener.state c.args.context.now) start c.loop-i.files.items c.loop-i.phases.items (inv.polled start h).0;
+    }
 
-pub returns-clause-grows : goal.returns-clause-grows
-returns-clause-grows g c = c.loop-i.invariant.grows
+pub returns-clause-opens : goal.returns-clause-opens
+returns-clause-opens g c =
+    let inv = c.loop-i.invariant in
+    record {
+      opened = inv.opened;
+      same = inv.same;
+      waits = λ e k from to. inv.waits e k from (omega (arith, to, c.loop-i-test.false));
+      left = inv.left;
+      ok = inv.ok;
+      why = inv.why;
+      polled = λ start h. (inv.polled start h).0;
+      splits = inv.splits;
+      rows = inv.rows;
+    }

@@ -11,10 +11,9 @@ pub returns : goal.returns
 returns g c =
     let ps : List (Phase g.row.W.Denot g.row.F.Denot) = c.args.drive.now.phases.items in
     let x : Phase g.row.W.Denot g.row.F.Denot = c.index.result.now in
-    let lt : c.args.front < length ps = omega (arith, c.requires.apart, c.requires.within) in
     brought_one c.args.front c.args.place c.args.exchanges.now.items c.push.new.self.items c.args.files.now.items c.swap.new.self.items c.args.desks.now.items c.swap-2.new.self.items c.args.drive.now (record c.args.drive.now { phases = c.swap-3.new.self })
     c.in_ok-push.ensures.items c.swap.ensures.items c.swap-2.ensures.items
-    (record { phases_are = c.swap-3.ensures.items; active = refl; chunks = refl; first = refl; tally = refl; left = refl; report = refl; ordered = refl; budget = refl })
+    (record { phases_are = c.swap-3.ensures.items; active = refl; chunks = refl; first = refl; tally = refl; left = refl; report = refl; ordered = refl; budget = refl; unclaimed = refl })
     (spare_by c.args.front c.args.place ps x c.requires.apart c.requires.within c.index.ensures (c.is_shut.ensures.shut c.if-not-is_shut.false) c.requires.opened)
 
 pub returns-then-not-is_shut : goal.returns-then-not-is_shut

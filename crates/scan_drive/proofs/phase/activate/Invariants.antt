@@ -1,5 +1,6 @@
-use Rattle.std.proofs.Common.{◌≡◌, ◌≤◌, ◌+◌, ◌-◌, ◌++◌, ℕ, List, length}
+use Rattle.std.proofs.Common.{◌≡◌, ◌≢◌, ◌≤◌, ◌+◌, ◌-◌, ◌++◌, ℕ, List, [], length}
 use Rattle.scan_drive.specs.Files.{Item}
+use Rattle.scan_drive.specs.Claims.{AreClaimed}
 use Rattle.scan_drive.specs.Actives.{Seated, groups_left, AllOk}
 use Rattle.scan_drive.specs.Files.{Told}
 use Rattle.scan_drive.specs.Filling.{Fills}
@@ -21,6 +22,7 @@ invariant-loop-first g l = record {
       PhasesOk g.W.SplitWork.split g.W.SplitWork.comes tale l.phases.items × AllOk g.W.SplitWork.split g.W.SplitWork.comes g.W.SplitWork.items tale l.active;
   counted : (tale : List (Told Item)) → length tale ≡ length l.fn.phases.items → PhasesOk g.W.SplitWork.split g.W.SplitWork.comes tale l.fn.phases.items → AllOk g.W.SplitWork.split g.W.SplitWork.comes g.W.SplitWork.items tale l.fn.active → IsTally tale l.fn.tally → IsTally tale l.tally;
   held : (k : ℕ) (why : g.row.F.Denot) → phase_at l.phases.items k ≡ phases.Held why → phase_at l.fn.phases.items k ≡ phases.Held why;
+  claimed : AreClaimed l.fn.unclaimed → l.fn.active.turns.items ≢ [] → (l.active ≡ l.fn.active) × (l.unclaimed ≡ l.fn.unclaimed);
   fills : Fills l.fn.first l.first l.fn.tally l.tally l.fn.phases.items l.phases.items l.fn.active.slots.items l.active.slots.items;
   seats : SeatsOn g.W.SplitWork.split l.fn.first l.first l.fn.active l.active l.fn.phases.items l.phases.items;
 }

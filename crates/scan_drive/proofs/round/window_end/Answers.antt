@@ -10,4 +10,4 @@ returns-then-ordered-clause-window g c =
 pub returns-clause-window : goal.returns-clause-window
 returns-clause-window g c =
     subst (λ (b : Bool). IsWindow b c.args.workers c.args.turns.now.items c.args.slots.now.items c.args.first c.window-2.result) (sym c.if-ordered.false)
-    (record { unfinished = c.count_busy-busy.result; are_busy = c.count_busy-busy.ensures.busy; most = λ lt. omega (arith, lt, c.window-2.ensures.most, c.saturating_sub.ensures) })
+    (record { unfinished = c.count_busy-busy.result; are_busy = c.count_busy-busy.ensures.busy; most = λ lt. omega (arith, lt, c.window-2.ensures.most, c.free_places.ensures.most) })

@@ -91,3 +91,8 @@ loop-id-init g c =
       advances = advances_refl g.W.SplitWork.split c.args.slot.now;
       wanting = wanting_all c.args.ids.now c.args.place c.args.slot.now c.args.desk.now c.requires.new c.requires.distinct c.requires.takes;
     }
+
+pub returns-clause-wants : goal.returns-clause-wants
+returns-clause-wants g c =
+    let inv = c.loop-id.invariant in
+    record { balance = inv.balance; keeps = inv.keeps; advances = inv.advances; loses = inv.loses; follows = inv.follows }

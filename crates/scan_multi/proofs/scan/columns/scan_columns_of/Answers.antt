@@ -71,7 +71,7 @@ returns-in_err-chunks_of-in-Ok-clause-err g c =
     let q = c.args.request.now in
     let a = c.in_ok-ask.ask in
     let asked = c.in_ok-ask.ensures.ok in
-    let did = c.drive_files.ensures in
+    let did = c.drive_files.ensures.keeps in
     let means : Means d q a = means_of d q a asked.asks in
     let p = err_from_is_err_and c.from_residual-in_err-chunks_of-in-Ok.result c.from_residual-in_err-chunks_of-in-Ok.ensures.1 in
     rw (p.1, p.2)
@@ -85,11 +85,11 @@ returns-in_err-chunks_of-in-Ok-clause-moves g c =
     let q = c.args.request.now in
     let a = c.in_ok-ask.ask in
     let asked = c.in_ok-ask.ensures.ok in
-    let did = c.drive_files.ensures in
+    let did = c.drive_files.ensures.keeps in
     let means : Means d q a = means_of d q a asked.asks in
     scan_moved g.O.LayoutReaderFactory.opener g.S.SegmentSource.state c.args.workers d q a asked.asks means
     (g.C.KeyedSegmentCache.cache c.args.cache.now) (g.C.KeyedSegmentCache.cache c.drive_files.new.cache) c.args.files.now.items c.drive_files.new.files.items
-    asked.no_fault did.moves did.polls did.trades did.cache did.lookups c.requires did.idle
+    asked.no_fault did.moves did.polled did.trades did.cache did.lookups c.requires did.idle
 
 -- ---- all chunks
 pub returns-in-Ok-clause-ok : goal.returns-in-Ok-clause-ok
@@ -98,9 +98,9 @@ returns-in-Ok-clause-ok g c =
     let q = c.args.request.now in
     let a = c.in_ok-ask.ask in
     let asked = c.in_ok-ask.ensures.ok in
-    let did = c.drive_files.ensures in
+    let did = c.drive_files.ensures.keeps in
     let means : Means d q a = means_of d q a asked.asks in
-    let had = c.in-Ok.ensures in
+    let had = c.in-Ok.ensures.gives in
     let made = c.in_ok-chunks_of-in-Ok.ensures in
     let opener = g.O.LayoutReaderFactory.opener in
     let source = g.S.SegmentSource.state in
@@ -118,11 +118,11 @@ returns-in-Ok-clause-moves g c =
     let q = c.args.request.now in
     let a = c.in_ok-ask.ask in
     let asked = c.in_ok-ask.ensures.ok in
-    let did = c.drive_files.ensures in
+    let did = c.drive_files.ensures.keeps in
     let means : Means d q a = means_of d q a asked.asks in
     scan_moved g.O.LayoutReaderFactory.opener g.S.SegmentSource.state c.args.workers d q a asked.asks means
     (g.C.KeyedSegmentCache.cache c.args.cache.now) (g.C.KeyedSegmentCache.cache c.drive_files.new.cache) c.args.files.now.items c.drive_files.new.files.items
-    asked.no_fault did.moves did.polls did.trades did.cache did.lookups c.requires did.idle
+    asked.no_fault did.moves did.polled did.trades did.cache did.lookups c.requires did.idle
 
 -- ---- a fault of the drive
 pub returns-clause-err : goal.returns-clause-err
@@ -131,7 +131,7 @@ returns-clause-err g c =
     let q = c.args.request.now in
     let a = c.in_ok-ask.ask in
     let asked = c.in_ok-ask.ensures.ok in
-    let did = c.drive_files.ensures in
+    let did = c.drive_files.ensures.keeps in
     let means : Means d q a = means_of d q a asked.asks in
     let opener = g.O.LayoutReaderFactory.opener in
     let source = g.S.SegmentSource.state in
@@ -148,8 +148,8 @@ returns-clause-moves g c =
     let q = c.args.request.now in
     let a = c.in_ok-ask.ask in
     let asked = c.in_ok-ask.ensures.ok in
-    let did = c.drive_files.ensures in
+    let did = c.drive_files.ensures.keeps in
     let means : Means d q a = means_of d q a asked.asks in
     scan_moved g.O.LayoutReaderFactory.opener g.S.SegmentSource.state c.args.workers d q a asked.asks means
     (g.C.KeyedSegmentCache.cache c.args.cache.now) (g.C.KeyedSegmentCache.cache c.drive_files.new.cache) c.args.files.now.items c.drive_files.new.files.items
-    asked.no_fault did.moves did.polls did.trades did.cache did.lookups c.requires did.idle
+    asked.no_fault did.moves did.polled did.trades did.cache did.lookups c.requires did.idle
