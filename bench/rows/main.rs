@@ -26,6 +26,10 @@ struct Reader<'a> {
     at: usize,
 }
 
+fn is_special(byte: u8) -> bool {
+    byte < 32 || byte == b'"' || byte == b'\\'
+}
+
 /// Whether one of eight bytes is a quote, a backslash or below a blank.
 fn has_special(word: u64) -> bool {
     const ONES: u64 = 0x0101_0101_0101_0101;
@@ -34,19 +38,20 @@ fn has_special(word: u64) -> bool {
     (zero(word ^ (ONES * 34)) | zero(word ^ (ONES * 92)) | low) & (ONES << 7) != 0
 }
 
-fn is_special(byte: u8) -> bool {
-    byte < 32 || byte == b'"' || byte == b'\\'
+/// How many bytes at the front of a text that may be long stand for themselves in quotes. A block is looked through without
+/// a way out, so that its bytes are compared side by side.
+fn plain_far(bytes: &[u8]) -> usize {
+    let blocks = bytes.as_chunks::<64>().0;
+    let block = blocks.iter().position(|block| block.iter().fold(false, |seen, b| seen | is_special(*b)));
+    let at = block.unwrap_or(blocks.len()) * 64;
+    at + plain(&bytes[at..])
 }
 
-/// How many bytes at the front stand for themselves in quotes.
+/// The same of a text that is short, a word at a time.
 fn plain(bytes: &[u8]) -> usize {
-    let mut at = 0;
-    while let Some(word) = bytes.get(at..at + 8) {
-        if has_special(u64::from_le_bytes(word.try_into().unwrap())) {
-            break;
-        }
-        at += 8;
-    }
+    let words = bytes.as_chunks::<8>().0;
+    let word = words.iter().position(|word| has_special(u64::from_le_bytes(*word)));
+    let at = word.unwrap_or(words.len()) * 8;
     at + bytes[at..].iter().position(|b| is_special(*b)).unwrap_or(bytes.len() - at)
 }
 
@@ -141,7 +146,7 @@ impl<'a> Reader<'a> {
     fn string(&mut self) -> Status<Cow<'a, str>> {
         self.word("\"")?;
         let from = self.at;
-        self.at += plain(&self.bytes[from..]);
+        self.at += plain_far(&self.bytes[from..]);
         if self.next()? == b'"' {
             self.at += 1;
             return Ok(Cow::Borrowed(&self.text[from..self.at - 1]));
@@ -150,7 +155,7 @@ impl<'a> Reader<'a> {
         while self.next()? != b'"' {
             made.push(self.escape()?);
             let from = self.at;
-            self.at += plain(&self.bytes[from..]);
+            self.at += plain_far(&self.bytes[from..]);
             made.push_str(&self.text[from..self.at]);
         }
         self.at += 1;
@@ -285,30 +290,23 @@ fn layout(json: &Json) -> Status<Layout> {
     }
 }
 
-/// What each byte is as a digit, or 255.
-static DIGITS: [u8; 256] = {
-    let mut table = [255; 256];
-    let mut n = 0;
-    while n < 16 {
-        table[b"0123456789abcdef"[n] as usize] = n as u8;
-        table[b"0123456789ABCDEF"[n] as usize] = n as u8;
-        n += 1;
-    }
-    table
-};
+/// Whether each byte is a digit of base sixteen.
+fn are_digits(bytes: &[u8]) -> bool {
+    let is_digit = |b: u8| (b.wrapping_sub(b'0') < 10) | ((b | 32).wrapping_sub(b'a') < 6);
+    bytes.iter().fold(true, |are, b| are & is_digit(*b))
+}
 
 fn hex(text: &str) -> Status<Vec<u8>> {
     let (pairs, rest) = text.as_bytes().as_chunks::<2>();
-    let mut seen = 0;
-    let bytes = pairs
-        .iter()
-        .map(|[high, low]| {
-            let (high, low) = (DIGITS[*high as usize], DIGITS[*low as usize]);
-            seen |= high | low;
-            high << 4 | low & 15
-        })
-        .collect();
-    if seen > 15 || !rest.is_empty() { Err(2) } else { Ok(bytes) }
+    if !rest.is_empty() || !are_digits(text.as_bytes()) {
+        return Err(2);
+    }
+    let byte = |pair: &[u8; 2]| {
+        let both = u16::from_le_bytes(*pair);
+        let digits = (both & 0x0f0f) + (both >> 6 & 0x0101) * 9;
+        (digits << 4 | digits >> 8) as u8
+    };
+    Ok(pairs.iter().map(byte).collect())
 }
 
 fn manifest(json: &Json) -> Status<Manifest> {
@@ -427,106 +425,158 @@ fn column(m: &Manifest, dtype: &DType, layout: &Layout, rows: u64) -> Status<Col
 }
 
 // ---- lines
-static PAIRS: &[u8; 200] = b"0001020304050607080910111213141516171819\
-2021222324252627282930313233343536373839\
-4041424344454647484950515253545556575859\
-6061626364656667686970717273747576777879\
-8081828384858687888990919293949596979899";
+/// The two digits of each number below a hundred.
+static PAIRS: [[u8; 2]; 100] = {
+    let mut pairs = [[0; 2]; 100];
+    let mut n = 0;
+    while n < 100 {
+        pairs[n] = [b'0' + (n / 10) as u8, b'0' + (n % 10) as u8];
+        n += 1;
+    }
+    pairs
+};
 
-fn push_number(mut n: u64, out: &mut Vec<u8>) {
-    let mut digits = [0; 20];
-    let mut at = 20;
-    while n >= 100 {
-        let pair = (n % 100) as usize * 2;
-        n /= 100;
-        at -= 2;
-        digits[at..at + 2].copy_from_slice(&PAIRS[pair..pair + 2]);
-    }
-    if n >= 10 {
-        let pair = n as usize * 2;
-        at -= 2;
-        digits[at..at + 2].copy_from_slice(&PAIRS[pair..pair + 2]);
-    } else {
-        at -= 1;
-        digits[at] = b'0' + n as u8;
-    }
-    out.extend_from_slice(&digits[at..]);
+/// Lines in a piece that is written when it is full.
+struct Lines<'a> {
+    piece: Vec<u8>,
+    at: usize,
+    out: std::io::StdoutLock<'a>,
 }
 
-fn push_quoted(text: &str, out: &mut Vec<u8>) {
-    out.push(b'"');
-    let mut rest = text.as_bytes();
-    loop {
-        let (front, more) = rest.split_at(plain(rest));
-        out.extend_from_slice(front);
-        let Some((byte, more)) = more.split_first() else { break };
-        match byte {
-            b'"' | b'\\' => out.extend_from_slice(&[b'\\', *byte]),
-            8 => out.extend_from_slice(b"\\b"),
-            9 => out.extend_from_slice(b"\\t"),
-            10 => out.extend_from_slice(b"\\n"),
-            12 => out.extend_from_slice(b"\\f"),
-            13 => out.extend_from_slice(b"\\r"),
-            _ => write!(out, "\\u{byte:04x}").unwrap(),
-        }
-        rest = more;
-    }
-    out.push(b'"');
-}
+/// How many bytes a number of 64 bits, or an escape, takes at most.
+const SHORT: usize = 20;
 
-fn push_value(column: &Column, i: usize, out: &mut Vec<u8>) {
-    match column {
-        Column::Numbers(numbers) => {
-            if numbers[i] < 0 {
-                out.push(b'-');
+impl Lines<'_> {
+    /// Room for so many bytes more.
+    fn room(&mut self, count: usize) -> std::io::Result<()> {
+        if self.piece.len() - self.at < count {
+            self.out.write_all(&self.piece[..self.at])?;
+            self.at = 0;
+            if self.piece.len() < count {
+                self.piece.resize(count, 0);
             }
-            push_number(u64::from(numbers[i].unsigned_abs()), out);
         }
-        Column::Bytes(numbers) => push_number(u64::from(numbers[i]), out),
-        Column::Texts(texts, ends) => {
-            let start = if i == 0 { 0 } else { ends[i - 1] as usize };
-            push_quoted(&texts[start..ends[i] as usize], out);
+        Ok(())
+    }
+
+    fn push(&mut self, bytes: &[u8]) {
+        self.piece[self.at..self.at + bytes.len()].copy_from_slice(bytes);
+        self.at += bytes.len();
+    }
+
+    fn push_number(&mut self, n: u64) {
+        match u32::try_from(n) {
+            Ok(n) => self.push_short(n),
+            Err(_) => self.push(n.to_string().as_bytes()),
         }
-        Column::Lists(ends, elements) => {
-            out.push(b'[');
-            for k in ends[i]..ends[i + 1] {
-                if k > ends[i] {
-                    out.push(b',');
+    }
+
+    #[inline(always)]
+    fn push_short(&mut self, mut n: u32) {
+        let mut len = (n | 1).ilog10() as usize + 1;
+        let digits = &mut self.piece[self.at..self.at + len];
+        self.at += len;
+        while n >= 100 {
+            digits[len - 2..len].copy_from_slice(&PAIRS[(n % 100) as usize]);
+            n /= 100;
+            len -= 2;
+        }
+        if n >= 10 {
+            digits[..2].copy_from_slice(&PAIRS[n as usize]);
+        } else {
+            digits[0] = b'0' + n as u8;
+        }
+    }
+
+    /// Writes a text in quotes, of which each byte takes six at most.
+    fn quote(&mut self, text: &str) -> std::io::Result<()> {
+        self.room(6 * text.len() + 2)?;
+        self.push(b"\"");
+        let mut rest = text.as_bytes();
+        loop {
+            let (front, more) = rest.split_at(plain(rest));
+            self.push(front);
+            let Some((byte, more)) = more.split_first() else { break };
+            match byte {
+                b'"' | b'\\' => self.push(&[b'\\', *byte]),
+                8 => self.push(b"\\b"),
+                9 => self.push(b"\\t"),
+                10 => self.push(b"\\n"),
+                12 => self.push(b"\\f"),
+                13 => self.push(b"\\r"),
+                _ => self.push(format!("\\u{byte:04x}").as_bytes()),
+            }
+            rest = more;
+        }
+        self.push(b"\"");
+        Ok(())
+    }
+
+    fn value(&mut self, column: &Column, i: usize) -> std::io::Result<()> {
+        match column {
+            Column::Numbers(numbers) => {
+                self.room(SHORT)?;
+                if numbers[i] < 0 {
+                    self.push(b"-");
                 }
-                push_value(elements, k as usize, out);
+                self.push_short(numbers[i].unsigned_abs());
             }
-            out.push(b']');
+            Column::Bytes(numbers) => {
+                self.room(SHORT)?;
+                self.push_short(u32::from(numbers[i]));
+            }
+            Column::Texts(texts, ends) => {
+                let start = if i == 0 { 0 } else { ends[i - 1] as usize };
+                self.quote(&texts[start..ends[i] as usize])?;
+            }
+            Column::Lists(ends, elements) => {
+                self.room(SHORT)?;
+                self.push(b"[");
+                for k in ends[i]..ends[i + 1] {
+                    self.room(SHORT)?;
+                    if k > ends[i] {
+                        self.push(b",");
+                    }
+                    self.value(elements, k as usize)?;
+                }
+                self.room(SHORT)?;
+                self.push(b"]");
+            }
         }
+        Ok(())
     }
+}
+
+/// What stands before the value of each field.
+fn heads(m: &Manifest) -> std::io::Result<Vec<Vec<u8>>> {
+    let quoted = |name: &String| {
+        let mut lines = Lines { piece: Vec::new(), at: 0, out: std::io::stdout().lock() };
+        lines.quote(name)?;
+        lines.piece.truncate(lines.at);
+        Ok(lines.piece)
+    };
+    let names = m.fields.iter().map(|(name, _)| quoted(name)).collect::<std::io::Result<Vec<_>>>()?;
+    Ok(names.into_iter().enumerate().map(|(k, name)| [if k > 0 { &b","[..] } else { b"" }, &name, b":"].concat()).collect())
 }
 
 fn print(m: &Manifest, columns: &[Column]) -> std::io::Result<()> {
-    let heads = m.fields.iter().enumerate().map(|(k, (name, _))| {
-        let mut head = Vec::new();
-        head.extend_from_slice(if k > 0 { b"," } else { b"" });
-        push_quoted(name, &mut head);
-        head.push(b':');
-        head
-    });
-    let fields: Vec<_> = heads.zip(columns).collect();
-    let mut out = std::io::stdout().lock();
-    let mut text = Vec::with_capacity(1 << 17);
+    let heads = heads(m)?;
+    let mut lines = Lines { piece: vec![0; 1 << 16], at: 0, out: std::io::stdout().lock() };
     for i in 0..m.rows {
-        text.extend_from_slice(b"{\"file\":0,\"row\":");
-        push_number(i, &mut text);
-        text.extend_from_slice(b",\"value\":{");
-        for (head, column) in &fields {
-            text.extend_from_slice(head);
-            push_value(column, i as usize, &mut text);
+        lines.room(64)?;
+        lines.push(b"{\"file\":0,\"row\":");
+        lines.push_number(i);
+        lines.push(b",\"value\":{");
+        for (head, column) in heads.iter().zip(columns) {
+            lines.room(head.len())?;
+            lines.push(head);
+            lines.value(column, i as usize)?;
         }
-        text.extend_from_slice(b"}}\n");
-        if text.len() >= 1 << 16 {
-            out.write_all(&text)?;
-            text.clear();
-        }
+        lines.room(SHORT)?;
+        lines.push(b"}}\n");
     }
-    out.write_all(&text)?;
-    out.flush()
+    lines.out.write_all(&lines.piece[..lines.at])?;
+    lines.out.flush()
 }
 
 fn run() -> Status<()> {

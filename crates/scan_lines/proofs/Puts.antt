@@ -4,7 +4,7 @@ use Rattle.std.proofs.Math.Nat.{le_refl}
 use Rattle.std.specs.Fmt.{decimal, signed_decimal}
 use Rattle.std.proofs.lemmas.List.{append_assoc, length-append, take_more_set, length-set, take-take, take_at, length-take-le, take-append-le}
 use Rattle.std.proofs.Math.Seq.{take-append-add}
-use Rattle.scan_lines.specs.Writes.{Writes, Stays, Ends}
+use Rattle.scan_lines.specs.Writes.{Writes}
 
 -- one text behind another
 pub put_then : (a b old mid new : List ℕ) (at m e : ℕ) → m ≡ at + length a → take m mid ≡ take at old ++ a
@@ -43,10 +43,6 @@ writes text old new at e fits is room h =
       whole = (omega arith, room, h);
     }
 
--- there was no room
-pub writes_none : (text old new : List ℕ) (at : ℕ) → take at new ≡ take at old → Writes text at old new None
-writes_none text old new at h = record { kept = h; whole = tt }
-
 -- one text behind another, or no room for the second
 pub writes_then : (a b old mid new : List ℕ) (at m : ℕ) (end : Option ℕ) → Writes a at old mid (Some m) → Writes b m mid new end → Writes (a ++ b) at old new end
 writes_then a b old mid new at m None f g =
@@ -63,10 +59,6 @@ writes_then a b old mid new at m (Some e) f g =
       whole = (omega arith, v.1, v.2 ∙ ap (λ xs. xs ++ b) w.2 ∙ append_assoc (take at old) a b);
     }
 
--- no room for the first
-pub writes_stop : (a b old new : List ℕ) (at : ℕ) → Writes a at old new None → Writes (a ++ b) at old new None
-writes_stop a b old new at f = record { kept = f.kept; whole = tt }
-
 -- a number that is not negative
 pub natural : (z : ℤ) → int_le (pos 0) z ≡ true → decimal (unsigned_abs z) ≡ signed_decimal z
 natural (pos n) e = refl
@@ -81,53 +73,32 @@ pub stopped : (text a b old mid new : List ℕ) (at m : ℕ) (e f : Option ℕ) 
 stopped text a b old mid new at m e f w v none =
     subst (λ r. Writes text at old new r) (sym none) (record { kept = (writes_then a b old mid new at m e w v).kept; whole = tt })
 
-pub stopped_first : (text a old new : List ℕ) (at : ℕ) (e f : Option ℕ) → Writes a at old new e → f ≡ None → Writes text at old new f
-stopped_first text a old new at e f w none = subst (λ r. Writes text at old new r) (sym none) (record { kept = w.kept; whole = tt })
-
 -- a write that found room
 pub found : (text old new : List ℕ) (at e : ℕ) (r : Option ℕ) → Writes text at old new r → r ≡ Some e → Writes text at old new (Some e)
 found text old new at e r w h = subst (λ x. Writes text at old new x) h w
 
--- ---- the two halves of a write
+-- where a write found room it ends in the buffer
+pub ends_within : (text old new : List ℕ) (at e : ℕ) (r : Option ℕ) → Writes text at old new r → r ≡ Some e → e ≤ length new
+ends_within text old new at e r w h = let f = found text old new at e r w h in let v = f.whole in v.1
 
-pub stays_of : (text old new : List ℕ) (at : ℕ) (r : Option ℕ) → Writes text at old new r → Stays at old new r
-stays_of text old new at None w = record { kept = w.kept; within = tt }
-stays_of text old new at (Some e) w = let v = w.whole in record { kept = w.kept; within = (v.0, v.1) }
+-- ---- a text between two others
+module _ (first text : List ℕ) (a b d : List ℕ) (at i : ℕ) (r s : Option ℕ) (f : Writes first at a b r) (p : r ≡ Some i) (g : Writes text i b d s) where
+  pub enclosed : (last e : List ℕ) (j : ℕ) (t : Option ℕ) → s ≡ Some j → Writes last j d e t → Writes (first ++ (text ++ last)) at a e t
+  enclosed last e j t q h =
+      writes_then first (text ++ last) a b e at i t (found first a b at i r f p) (writes_then text last b d e i j t (found text b d i j s g q) h)
 
-pub ends_of : (text old new : List ℕ) (at : ℕ) (r : Option ℕ) → Writes text at old new r → Ends text at old new r
-ends_of text old new at None w = tt
-ends_of text old new at (Some e) w = let v = w.whole in v.2
+  pub opened_stopped : (whole : List ℕ) (t : Option ℕ) → t ≡ None → Writes whole at a d t
+  opened_stopped whole t none = stopped whole first text a b d at i s t (found first a b at i r f p) g none
 
-pub stays_then : (old mid new : List ℕ) (at m : ℕ) (r : Option ℕ) → Stays at old mid (Some m) → Stays m mid new r → Stays at old new r
-stays_then old mid new at m None f g =
-    let w = f.within in
-    record { kept = sym (take-take at m new w.0) ∙ ap (λ xs. take at xs) g.kept ∙ take-take at m mid w.0 ∙ f.kept; within = tt }
-stays_then old mid new at m (Some e) f g =
-    let w = f.within in
-    let v = g.within in
-    record { kept = sym (take-take at m new w.0) ∙ ap (λ xs. take at xs) g.kept ∙ take-take at m mid w.0 ∙ f.kept; within = (omega arith, v.1) }
+-- ---- two texts more behind those of a loop
+module _ (done first second : List ℕ) (a b d e : List ℕ) (at m i : ℕ) (r s : Option ℕ) (w : Writes done at a b (Some m)) (f : Writes first m b d r) (p : r ≡ Some i) (g : Writes second i d e s) where
+  pub two_more : (whole : List ℕ) (j : ℕ) → s ≡ Some j → done ++ (first ++ second) ≡ whole → Writes whole at a e (Some j)
+  two_more whole j q is =
+      subst (λ text. Writes text at a e (Some j)) is
+      (writes_then done (first ++ second) a b e at m (Some j) w (writes_then first second b d e m i (Some j) (found first b d m i r f p) (found second d e i j s g q)))
 
-pub stays_first : (old : List ℕ) (at : ℕ) → at ≤ length old → Stays at old old (Some at)
-stays_first old at h = record { kept = refl; within = (le_refl at, h) }
-
--- no room, for what is behind this
-pub stays_none : (old mid new : List ℕ) (at m : ℕ) (r s : Option ℕ) → Stays at old mid (Some m) → Stays m mid new r → s ≡ None → Stays at old new s
-stays_none old mid new at m r s f g none =
-    subst (λ x. Stays at old new x) (sym none) (record { kept = (stays_then old mid new at m r f g).kept; within = tt })
-
-pub ends_then : (a b old mid new : List ℕ) (at m : ℕ) (r : Option ℕ) → take m mid ≡ take at old ++ a → Ends b m mid new r → Ends (a ++ b) at old new r
-ends_then a b old mid new at m None f g = tt
-ends_then a b old mid new at m (Some e) f g = g ∙ ap (λ xs. xs ++ b) f ∙ append_assoc (take at old) a b
-
-pub ends_none : (text old new : List ℕ) (at : ℕ) (s : Option ℕ) → s ≡ None → Ends text at old new s
-ends_none text old new at s none = subst (λ x. Ends text at old new x) (sym none) tt
-
--- the same where the answer is known
-pub stays_at : (old new : List ℕ) (at e : ℕ) (r : Option ℕ) → Stays at old new r → r ≡ Some e → Stays at old new (Some e)
-stays_at old new at e r w h = subst (λ x. Stays at old new x) h w
-
-pub ends_at : (text old new : List ℕ) (at e : ℕ) (r : Option ℕ) → Ends text at old new r → r ≡ Some e → take e new ≡ take at old ++ text
-ends_at text old new at e r w h = subst (λ x. Ends text at old new x) h w
+  pub two_stopped : (whole : List ℕ) (t : Option ℕ) → t ≡ None → Writes whole at a e t
+  two_stopped whole t none = stopped whole (done ++ first) second a d e at i s t (writes_then done first a b d at m (Some i) w (found first b d m i r f p)) g none
 
 -- the front of what was written into the middle
 pub front_of_middle : (xs ys rest text : List ℕ) (at len : ℕ) → at ≤ length xs → len ≤ length ys → ys ≡ text

@@ -6,7 +6,9 @@ pub mod Fronts
 pub mod Printing
 pub mod Stopping
 pub mod Running
+pub mod Ending
 pub mod Numbers
+pub mod Making
 pub mod Cutting
 pub mod Valuing
 pub mod Mapping

@@ -1,6 +1,6 @@
 -- Texts that are written in pieces: what was sent, and what is kept.
 use Rattle.std.proofs.Common.{◌≡◌, ◌≢◌, ℕ, zero, suc, ◌+◌, ◌<◌, ◌≤◌, List, [], ◌∷◌, ◌++◌, length, take, drop, get_or, map, zip, refl, sym, ap, ◌∙◌, append_assoc, append-nil, arith, subst, Option, None, Some}
-use Rattle.std.specs.Prelude.{option_map, All, slice_get}
+use Rattle.std.specs.Prelude.{option_map, All, slice_get, Result, Ok, Err, OnOk}
 use Rattle.std.specs.List.{flat_map}
 use Rattle.scan_values.specs.DataType.{DataType}
 use Rattle.scan_values.specs.Val.{Val, null_val}
@@ -13,6 +13,9 @@ use Rattle.scan_run.specs.Io.{OutputState}
 use Rattle.scan_run.specs.Printed.{chunk_lines, chunks_lines}
 use Rattle.scan_run.specs.Run.{item_line}
 use Rattle.scan_run.specs.WriteAll.{WroteFront, Sends}
+use Rattle.scan_run.specs.Writers.{Writes, WritesAll}
+use Rattle.scan_run.specs.declared.output.WriteFault.{WriteFault}
+use Rattle.scan_run.specs.declared.output.WriteFault.TheVariants.{Failed}
 use Rattle.scan_run.proofs.Pieces.{mapped_nil, mapped_twice, nothing_wrote}
 
 pub sends_nothing : (k : List ℕ) (s : OutputState) → Sends [] k k s s
@@ -131,3 +134,26 @@ pub front_last : (x k m : List ℕ) (a b c : OutputState) → k ≡ [] → Sends
 front_last x k m a b c none p w =
     subst (λ t. WroteFront t a c) (ap (λ t. t ++ (x ++ [])) none ∙ append-nil x)
     (front_then x [] k m a b c p (subst (λ t. WroteFront t b c) (sym (append-nil m)) w))
+
+-- ---- what a writer has done at its exits
+module _ (x k l : List ℕ) (a b : OutputState) where
+  pub wrote_ok : Sends x k l a b → Writes x k l a b (Ok tt)
+  wrote_ok s = record { ok = s; err = tt; failed = λ e. absurd cc }
+
+  pub wrote_err : (e : WriteFault) → WroteFront (k ++ x) a b → (◌≡◌ {A = Result (Unit {0}) WriteFault} (Err e) (Err Failed) → Rose a.faults b.faults) → Writes x k l a b (Err e)
+  wrote_err e w f = record { ok = tt; err = w; failed = f }
+
+-- the piece that is left was written, after all of a text was sent or kept
+pub writes_last : (x k m : List ℕ) (a b c : OutputState) (r : Result (Unit {0}) WriteFault) → k ≡ [] → Sends x k m a b → WroteFront m b c → OnOk r (c.written ≡ option_map (λ before. before ++ m) b.written)
+    → (r ≡ Err Failed → Rose b.faults c.faults) → WritesAll x a c r
+writes_last x k m a b c r none p w e f = record {
+  front = front_last x k m a b c none p w;
+  ok = whole r e;
+  failed = λ h. rose_later a.faults b.faults c.faults p.faults (f h);
+}
+  where
+    whole : (s : Result (Unit {0}) WriteFault) → OnOk s (c.written ≡ option_map (λ before. before ++ m) b.written) → OnOk s (c.written ≡ option_map (λ before. before ++ x) a.written)
+    whole (Ok t) h =
+        h ∙ ap (option_map (λ before. before ++ m)) p.written ∙ mapped_twice a.written p.sent m
+        ∙ ap (λ t. option_map (λ before. before ++ t) a.written) (sym p.parts ∙ ap (λ t. t ++ x) none)
+    whole (Err e) h = tt

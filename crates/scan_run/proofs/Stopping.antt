@@ -70,7 +70,7 @@ told_spec spec f is =
     let by : Option Given → Option Store → ToldFile = λ g s. record { given = unwrap_or g skip; store = unwrap_or s (λ id. None) } in
     ap (λ g. by g (source_state f.source).holds) is.gives ∙ ap (λ s. by (Some (given_by spec)) s) is.holds
 
-told_same : (specs : List FileSpec) (files : List File) → AreFilesOf specs files → told memory_opener source_state files ≡ map told_by specs
+pub told_same : (specs : List FileSpec) (files : List File) → AreFilesOf specs files → told memory_opener source_state files ≡ map told_by specs
 told_same [] [] are = refl
 told_same [] (x ∷ files) are = absurd are
 told_same (s ∷ specs) [] are = absurd are

@@ -2,6 +2,7 @@ pub mod Io
 pub mod Answers
 pub mod ReadAll
 pub mod WriteAll
+pub mod Writers
 pub mod Memory
 pub mod Std
 pub mod Line
@@ -16,3 +17,4 @@ pub mod GeneratedBytes
 pub mod GeneratedFiles
 pub mod Totals
 pub mod GeneratedLine
+pub mod Ran

@@ -1,14 +1,13 @@
 //! The lines of the chunks of a scan, written in pieces.
-ghost use Rattle.std.specs.Prelude.{◌≡◌, ◌<◌, ◌++◌, [], Err, All, OnOk, OnErr, get_or, length, option_map};
+ghost use Rattle.std.specs.Prelude.{◌≡◌, ◌<◌, [], All, OnOk, get_or, length};
 ghost use Rattle.scan_columns.specs.Cells.{vals_in};
 ghost use Rattle.scan_values.specs.DataType.{DataType};
 ghost use Rattle.scan_values.specs.Val.{null_val};
-ghost use Rattle.scan_segments.specs.Faults.{Rose};
 ghost use Rattle.scan_multi.specs.Output.{IsChunk};
 ghost use Rattle.scan_lines.specs.Heads.{lines_of_rows};
 ghost use Rattle.scan_run.specs.Line.{line_of};
 ghost use Rattle.scan_run.specs.Printed.{chunk_lines, chunks_lines};
-ghost use Rattle.scan_run.specs.WriteAll.{WroteFront, Sends};
+ghost use Rattle.scan_run.specs.Writers.{Writes, WritesAll};
 
 use crate::output::{Output, WriteFault, write_all};
 use scan_columns::Cells;
@@ -64,12 +63,8 @@ fn write_full<O: Output>(
     i: usize,
 ) -> Result<(), WriteFault>
     requires { i < length (vals_in cells.now) }
-    ensures ok { OnOk result (Sends (line_of heads.now front.now row (get_or (vals_in cells.now) i null_val))
-        piece.old piece.new (O.output output.old) (O.output output.new)) }
-    ensures err { OnErr result (WroteFront
-        (piece.old ++ line_of heads.now front.now row (get_or (vals_in cells.now) i null_val))
-        (O.output output.old) (O.output output.new)) }
-    ensures failed { result ≡ Err WriteFault.Failed → Rose (O.output output.old).faults (O.output output.new).faults }
+    ensures { Writes (line_of heads.now front.now row (get_or (vals_in cells.now) i null_val)) piece.old piece.new
+        (O.output output.old) (O.output output.new) result }
 {
     match write_all(output, piece.as_slice()) {
         Ok(()) => {
@@ -96,12 +91,8 @@ fn write_row<O: Output>(
     i: usize,
 ) -> Result<(), WriteFault>
     requires { i < length (vals_in cells.now) }
-    ensures ok { OnOk result (Sends (line_of heads.now front.now row (get_or (vals_in cells.now) i null_val))
-        piece.old piece.new (O.output output.old) (O.output output.new)) }
-    ensures err { OnErr result (WroteFront
-        (piece.old ++ line_of heads.now front.now row (get_or (vals_in cells.now) i null_val))
-        (O.output output.old) (O.output output.new)) }
-    ensures failed { result ≡ Err WriteFault.Failed → Rose (O.output output.old).faults (O.output output.new).faults }
+    ensures { Writes (line_of heads.now front.now row (get_or (vals_in cells.now) i null_val)) piece.old piece.new
+        (O.output output.old) (O.output output.new) result }
 {
     if piece.put_row(front, row, cells, heads, i) {
         return Ok(());
@@ -120,12 +111,8 @@ fn write_rows<O: Output>(
     heads: &Heads,
 ) -> Result<(), WriteFault>
     requires { length rows.now ≡ length (vals_in cells.now) }
-    ensures ok { OnOk result (Sends (lines_of_rows heads.now front.now rows.now (vals_in cells.now))
-        piece.old piece.new (O.output output.old) (O.output output.new)) }
-    ensures err { OnErr result (WroteFront
-        (piece.old ++ lines_of_rows heads.now front.now rows.now (vals_in cells.now))
-        (O.output output.old) (O.output output.new)) }
-    ensures failed { result ≡ Err WriteFault.Failed → Rose (O.output output.old).faults (O.output output.new).faults }
+    ensures { Writes (lines_of_rows heads.now front.now rows.now (vals_in cells.now)) piece.old piece.new
+        (O.output output.old) (O.output output.new) result }
 {
     for (i, row) in rows.iter().enumerate() {
         write_row(alloc, output, piece, front, *row, cells, heads, i)?;
@@ -142,11 +129,7 @@ fn write_chunk<O: Output>(
     chunk: &ColumnChunk,
 ) -> Result<(), WriteFault>
     requires { IsChunk heads.now chunk.now }
-    ensures ok { OnOk result (Sends (chunk_lines chunk.now)
-        piece.old piece.new (O.output output.old) (O.output output.new)) }
-    ensures err { OnErr result (WroteFront (piece.old ++ chunk_lines chunk.now)
-        (O.output output.old) (O.output output.new)) }
-    ensures failed { result ≡ Err WriteFault.Failed → Rose (O.output output.old).faults (O.output output.new).faults }
+    ensures { Writes (chunk_lines chunk.now) piece.old piece.new (O.output output.old) (O.output output.new) result }
 {
     let front = Front::new(alloc, chunk.file)?;
     let cells = chunk.values.cells();
@@ -170,11 +153,7 @@ fn write_each<O: Output>(
     chunks: &[ColumnChunk],
 ) -> Result<(), WriteFault>
     requires { All (IsChunk heads.now) chunks.now }
-    ensures ok { OnOk result (Sends (chunks_lines chunks.now)
-        piece.old piece.new (O.output output.old) (O.output output.new)) }
-    ensures err { OnErr result (WroteFront (piece.old ++ chunks_lines chunks.now)
-        (O.output output.old) (O.output output.new)) }
-    ensures failed { result ≡ Err WriteFault.Failed → Rose (O.output output.old).faults (O.output output.new).faults }
+    ensures { Writes (chunks_lines chunks.now) piece.old piece.new (O.output output.old) (O.output output.new) result }
 {
     for chunk in chunks {
         write_chunk(alloc, output, piece, heads, chunk)?;
@@ -194,10 +173,7 @@ fn write_chunks<O: Output>(
     chunks: &[ColumnChunk],
 ) -> Result<(), WriteFault>
     requires { (d : DataType) × All (IsChunk d) chunks.now }
-    ensures front { WroteFront (chunks_lines chunks.now) (O.output output.old) (O.output output.new) }
-    ensures ok { OnOk result ((O.output output.new).written ≡
-        option_map (λ before. before ++ chunks_lines chunks.now) (O.output output.old).written) }
-    ensures failed { result ≡ Err WriteFault.Failed → Rose (O.output output.old).faults (O.output output.new).faults }
+    ensures { WritesAll (chunks_lines chunks.now) (O.output output.old) (O.output output.new) result }
 {
     match chunks {
         [] => Ok(()),
@@ -218,10 +194,7 @@ pub(crate) fn write_output<O: Output>(
     out: &ColumnOutput,
 ) -> Result<(), WriteFault>
     requires { (d : DataType) × All (IsChunk d) out.now.chunks }
-    ensures front { WroteFront (chunks_lines out.now.chunks) (O.output output.old) (O.output output.new) }
-    ensures ok { OnOk result ((O.output output.new).written ≡
-        option_map (λ before. before ++ chunks_lines out.now.chunks) (O.output output.old).written) }
-    ensures failed { result ≡ Err WriteFault.Failed → Rose (O.output output.old).faults (O.output output.new).faults }
+    ensures { WritesAll (chunks_lines out.now.chunks) (O.output output.old) (O.output output.new) result }
 {
     write_chunks(alloc, output, out.chunks.as_slice())
 }

@@ -7,9 +7,9 @@ ghost use Rattle.scan_opener.specs.Opener.{skip, layout_of};
 ghost use Rattle.scan_opener.specs.OpenerMemory.{given_of};
 ghost use Rattle.scan_multi.specs.Output.{ChunkData};
 ghost use Rattle.scan_multi.specs.declared.scan.fault.ScanFault.TheVariants as fault;
-ghost use Rattle.scan_run.specs.ReadAll.{TookMore};
-ghost use Rattle.scan_run.specs.Run.{is_scan_words, IsScanned, IsDone, IsRefused, IsFound, IsUnbound, IsUnreadable, IsFailing, WroteNone};
-ghost use Rattle.scan_run.specs.Stops.{stop_of, status_of, IsStop, WroteFrontOfLines, IsGiven, Halts, IsReady, Ends};
+ghost use Rattle.scan_run.specs.Run.{is_scan_words, IsScanned, WroteNone};
+ghost use Rattle.scan_run.specs.Stops.{stop_of, status_of, IsStop, IsGiven, Halts, IsReady, Ends};
+ghost use Rattle.scan_run.specs.Ran.{RanScan, RanOther, StatusTells};
 ghost use Rattle.scan_run.specs.GeneratedLine.{IsGenerated, WroteFrontOfLine, AskNothing};
 ghost use Rattle.scan_run.specs.FileOf.{IsFileOf, AreFilesOf, AreReady};
 ghost use Rattle.scan_run.specs.AskedOf.{IsAsked};
@@ -83,14 +83,15 @@ fn make_file(
 
 /// Why a run stops before it prints.
 #[derive(Clone, Copy, Debug, PartialEq, Eq)]
-enum Stop {
+pub enum Stop {
     Unbound,
     Unreadable,
     Failed,
     NoMemory,
 }
 
-fn stop_of(e: ScanFault) -> Stop
+/// Why a run stops by a fault of its scan.
+pub fn stop_of(e: ScanFault) -> Stop
     ensures { result ≡ stop_of e }
 {
     match e {
@@ -116,7 +117,8 @@ fn stop_of(e: ScanFault) -> Stop
     }
 }
 
-fn status_of(stop: Stop) -> u8
+/// The status of a run that stops so.
+pub fn status_of(stop: Stop) -> u8
     ensures { result ≡ status_of stop }
 {
     match stop {
@@ -128,7 +130,7 @@ fn status_of(stop: Stop) -> u8
 }
 
 /// The objects in memory that the files of a manifest tell.
-fn make_files(
+pub fn make_files(
     alloc: Global,
     files: Files,
 ) -> Result<Vec<ScanFile<MemoryOpener, MemorySource>>, NoMemory>
@@ -192,7 +194,7 @@ fn run_manifest<R: Threads + Sync, G: Gate, S: BuildHasher + Copy + Drop>(
 }
 
 /// An empty cache of a manifest's size and eviction, whose keys are hashed by this.
-fn new_cache<S: BuildHasher + Copy + Drop>(
+pub fn new_cache<S: BuildHasher + Copy + Drop>(
     alloc: Global,
     size: &CacheSpec,
     hasher: S,
@@ -327,30 +329,14 @@ pub fn run<R: Threads + Sync, I: Input, O: Output, G: Gate, S: BuildHasher + Cop
     gate: &G,
     hasher: S,
 ) -> u8
-    ensures done { is_scan_words (map string_bytes words.now) ≡ true → result ≡ 0 →
-        IsDone (I.input input.old) (I.input input.new) (O.output output.old) (O.output output.new) }
-    ensures generated { is_scan_words (map string_bytes words.now) ≡ false → result ≡ 0 →
-        IsGenerated (map string_bytes words.now) (O.output output.old) (O.output output.new) }
+    ensures scan { is_scan_words (map string_bytes words.now) ≡ true →
+        RanScan result (I.input input.old) (I.input input.new) (O.output output.old) (O.output output.new) }
+    ensures other { is_scan_words (map string_bytes words.now) ≡ false → RanOther (map string_bytes words.now) result
+        (I.input input.old) (I.input input.new) (O.output output.old) (O.output output.new) }
     ensures words { (result ≡ 1) ↔ ((is_scan_words (map string_bytes words.now) ≡ false)
         × AskNothing (map string_bytes words.now)) }
-    ensures untouched { is_scan_words (map string_bytes words.now) ≡ false → I.input input.new ≡ I.input input.old }
-    ensures ends { is_scan_words (map string_bytes words.now) ≡ false →
-        (result ≡ 0) ⊎ (result ≡ 1) ⊎ (result ≡ 6) ⊎ (result ≡ 7) }
-    ensures unread { result ≡ 1 → I.input input.new ≡ I.input input.old }
-    ensures refused { result ≡ 2 → IsRefused (I.input input.old) (I.input input.new) }
-    ensures unbound { result ≡ 3 → IsFound (I.input input.old) (I.input input.new) IsUnbound }
-    ensures unreadable { result ≡ 4 → IsFound (I.input input.old) (I.input input.new) IsUnreadable }
-    ensures failing { result ≡ 5 → IsFound (I.input input.old) (I.input input.new) IsFailing }
-    ensures io { result ≡ 6 → (Rose (I.input input.old).faults (I.input input.new).faults
-        ⊎ Rose (O.output output.old).faults (O.output output.new).faults)
-        ⊎ TookMore MOST_BYTES (I.input input.old) (I.input input.new) }
-    ensures nothing { 0 < result → result < 6 → WroteNone (O.output output.old) (O.output output.new) }
-    ensures unwritten { result ≡ 6 → Rose (O.output output.old).faults (O.output output.new).faults
-        ⊎ WroteNone (O.output output.old) (O.output output.new) }
-    ensures front_of_line { is_scan_words (map string_bytes words.now) ≡ false →
-        WroteFrontOfLine (map string_bytes words.now) (O.output output.old) (O.output output.new) }
-    ensures front { is_scan_words (map string_bytes words.now) ≡ true →
-        WroteFrontOfLines (I.input input.old) (I.input input.new) (O.output output.old) (O.output output.new) }
+    ensures status { StatusTells result (I.input input.old) (I.input input.new)
+        (O.output output.old) (O.output output.new) }
     ensures stops { (I.input input.new).taken ≤ (I.input input.old).taken + (MOST_BYTES + 65_536) }
     ensures statuses { result < 8 }
 {

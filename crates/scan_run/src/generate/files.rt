@@ -9,7 +9,7 @@ ghost use Rattle.scan_run.specs.FileOf.{memory_opener};
 ghost use Rattle.scan_segments.specs.MemorySource.{source_state};
 ghost use Rattle.scan_spelling.specs.declared.spelling.Spelling.{Spelling};
 
-use super::columns::{element_bytes, id_bytes, offset_bytes};
+use super::columns::{element_bytes, id_words, offset_words};
 use super::request::{lists_type, number_type, table_type, value_type};
 use super::segments::{by_number, piece_count, pieces_of, push_column, push_values};
 use crate::memory_input::no_numbers;
@@ -123,8 +123,9 @@ fn push_ids(
     ensures { OnOk result ((s : Spelling) → segments.new.items
         ≡ segments.old.items ++ column_segments s (number_type PType.U32) (ids first count)) }
 {
-    let bytes = id_bytes(alloc, first, count)?;
-    push_column(alloc, segments, bytes.as_slice(), 4, count as usize)
+    let words = id_words(alloc, first, count)?;
+    let bytes = words.as_flattened();
+    push_column(alloc, segments, bytes, 4, count as usize)
 }
 
 // The segments of the offsets.
@@ -138,8 +139,9 @@ fn push_offsets(
     ensures { OnOk result ((s : Spelling) → segments.new.items
         ≡ segments.old.items ++ column_segments s (number_type PType.U32) (offsets first count)) }
 {
-    let bytes = offset_bytes(alloc, first, count)?;
-    push_column(alloc, segments, bytes.as_slice(), 4, count as usize + 1)
+    let words = offset_words(alloc, first, count)?;
+    let bytes = words.as_flattened();
+    push_column(alloc, segments, bytes, 4, count as usize + 1)
 }
 
 // All segments of a file, of which the elements are written.

@@ -6,7 +6,7 @@ use Rattle.scan_values.specs.Val.{null_val, vals_of}
 use Rattle.scan_values.specs.Values.{val_of}
 use Rattle.scan_lines.specs.Line.{comma, value_text, elements_text, fields_text, fields_in}
 use Rattle.scan_lines.specs.Writes.{Writes}
-use Rattle.scan_lines.proofs.Puts.{writes_then, writes_nothing, stopped, found}
+use Rattle.scan_lines.proofs.Puts.{writes_nothing, stopped, ends_within, enclosed, opened_stopped, two_more, two_stopped}
 use Rattle.scan_lines.proofs.Texts.{elements_more, fields_more, fields_over, mapped_at, no_field}
 use Rattle.scan_lines.proofs.Valuing.{one_size, list_is, struct_is}
 use Rattle.scan_lines.proofs.values.+values.Goals as goal
@@ -27,25 +27,21 @@ put_value-returns-in-Struct t c =
 -- ---- a list
 pub put_list-put_elements-requires : goal.put_list-put_elements-requires
 put_list-put_elements-requires t c =
-    let f = found (codes "[") c.args.buf.now c.put_bytes.new.buf c.args.at c.in_ok-end.end c.put_bytes.result c.put_bytes.ensures c.in_ok-end.was in
-    let w = f.whole in (omega arith, w.1)
+    let end = ends_within (codes "[") c.args.buf.now c.put_bytes.new.buf c.args.at c.in_ok-end.end c.put_bytes.result c.put_bytes.ensures c.in_ok-end.was in (omega arith, end)
 
 pub put_list-put_bytes-requires-2 : goal.put_list-put_bytes-requires-2
 put_list-put_bytes-requires-2 t c =
-    let f = found _ c.put_bytes.new.buf c.put_elements.new.buf c.in_ok-end.end c.in_ok-end-2.end c.put_elements.result c.put_elements.ensures c.in_ok-end-2.was in
-    let w = f.whole in w.1
+    ends_within _ c.put_bytes.new.buf c.put_elements.new.buf c.in_ok-end.end c.in_ok-end-2.end c.put_elements.result c.put_elements.ensures c.in_ok-end-2.was
 
 pub put_list-returns-in_err-end-2 : goal.put_list-returns-in_err-end-2
 put_list-returns-in_err-end-2 t c =
-    let f = found (codes "[") c.args.buf.now c.put_bytes.new.buf c.args.at c.in_ok-end.end c.put_bytes.result c.put_bytes.ensures c.in_ok-end.was in
-    stopped _ _ _ c.args.buf.now c.put_bytes.new.buf c.put_elements.new.buf c.args.at c.in_ok-end.end c.put_elements.result _ f c.put_elements.ensures c.from_residual-in_err-end-2.ensures
+    opened_stopped (codes "[") _ c.args.buf.now c.put_bytes.new.buf c.put_elements.new.buf c.args.at c.in_ok-end.end c.put_bytes.result c.put_elements.result c.put_bytes.ensures c.in_ok-end.was c.put_elements.ensures
+    _ _ c.from_residual-in_err-end-2.ensures
 
 pub put_list-returns : goal.put_list-returns
 put_list-returns t c =
-    let f = found (codes "[") c.args.buf.now c.put_bytes.new.buf c.args.at c.in_ok-end.end c.put_bytes.result c.put_bytes.ensures c.in_ok-end.was in
-    let e = found _ c.put_bytes.new.buf c.put_elements.new.buf c.in_ok-end.end c.in_ok-end-2.end c.put_elements.result c.put_elements.ensures c.in_ok-end-2.was in
-    writes_then (codes "[") _ c.args.buf.now c.put_bytes.new.buf c.put_bytes-2.new.buf c.args.at c.in_ok-end.end c.put_bytes-2.result f
-    (writes_then _ (codes "]") c.put_bytes.new.buf c.put_elements.new.buf c.put_bytes-2.new.buf c.in_ok-end.end c.in_ok-end-2.end c.put_bytes-2.result e c.put_bytes-2.ensures)
+    enclosed (codes "[") _ c.args.buf.now c.put_bytes.new.buf c.put_elements.new.buf c.args.at c.in_ok-end.end c.put_bytes.result c.put_elements.result c.put_bytes.ensures c.in_ok-end.was c.put_elements.ensures
+    (codes "]") c.put_bytes-2.new.buf c.in_ok-end-2.end c.put_bytes-2.result c.in_ok-end-2.was c.put_bytes-2.ensures
 
 -- ---- the elements of a list
 pub put_elements-loop-k-init : goal.put_elements-loop-k-init
@@ -57,8 +53,7 @@ put_elements-put_comma-requires t c = let w = c.loop-k.invariant.whole in w.1
 pub put_elements-put_value-requires : goal.put_elements-put_value-requires
 put_elements-put_value-requires t c =
     let size = one_size c.args.values.now c.loop-k.k c.index-values-k.result (omega arith) c.index-values-k.is in
-    let f = found _ c.loop-k.buf c.put_comma.new.buf c.loop-k.end c.in_ok-end.end c.put_comma.result c.put_comma.ensures c.in_ok-end.was in
-    let w = f.whole in (omega (arith, size), w.1)
+    let end = ends_within _ c.loop-k.buf c.put_comma.new.buf c.loop-k.end c.in_ok-end.end c.put_comma.result c.put_comma.ensures c.in_ok-end.was in (omega (arith, size), end)
 
 pub put_elements-returns-in_err-end : goal.put_elements-returns-in_err-end
 put_elements-returns-in_err-end t c =
@@ -66,9 +61,8 @@ put_elements-returns-in_err-end t c =
 
 pub put_elements-returns-in_err-end-2 : goal.put_elements-returns-in_err-end-2
 put_elements-returns-in_err-end-2 t c =
-    let f = found _ c.loop-k.buf c.put_comma.new.buf c.loop-k.end c.in_ok-end.end c.put_comma.result c.put_comma.ensures c.in_ok-end.was in
-    stopped _ _ _ c.args.buf.now c.put_comma.new.buf c.put_value.new.buf c.args.at c.in_ok-end.end c.put_value.result _
-    (writes_then _ _ c.args.buf.now c.loop-k.buf c.put_comma.new.buf c.args.at c.loop-k.end (Some c.in_ok-end.end) c.loop-k.invariant f) c.put_value.ensures c.from_residual-in_err-end-2.ensures
+    two_stopped _ _ _ c.args.buf.now c.loop-k.buf c.put_comma.new.buf c.put_value.new.buf c.args.at c.loop-k.end c.in_ok-end.end c.put_comma.result c.put_value.result c.loop-k.invariant c.put_comma.ensures c.in_ok-end.was c.put_value.ensures
+    _ _ c.from_residual-in_err-end-2.ensures
 
 pub put_elements-loop-k-preserved : goal.put_elements-loop-k-preserved
 put_elements-loop-k-preserved t c =
@@ -77,12 +71,9 @@ put_elements-loop-k-preserved t c =
     let d = c.args.element.now in
     let v = val_of c.index-values-k.result in
     let long = length-map c.args.values.now val_of in
-    let f = found _ c.loop-k.buf c.put_comma.new.buf c.loop-k.end c.in_ok-end.end c.put_comma.result c.put_comma.ensures c.in_ok-end.was in
-    let g = found (value_text v d) c.put_comma.new.buf c.put_value.new.buf c.in_ok-end.end c.in_ok-end-2.end c.put_value.result c.put_value.ensures c.in_ok-end-2.was in
-    subst (λ text. Writes text c.args.at c.args.buf.now c.put_value.new.buf (Some c.in_ok-end-2.end))
+    two_more (elements_text true (vals_of (take k vs)) d) (comma (k == 0)) (value_text v d) c.args.buf.now c.loop-k.buf c.put_comma.new.buf c.put_value.new.buf c.args.at c.loop-k.end c.in_ok-end.end c.put_comma.result c.put_value.result
+    c.loop-k.invariant c.put_comma.ensures c.in_ok-end.was c.put_value.ensures _ c.in_ok-end-2.end c.in_ok-end-2.was
     (elements_more d vs k (k == 0) v (omega (arith, long)) refl (mapped_at val_of c.args.values.now k c.index-values-k.result null_val (omega arith) c.index-values-k.is))
-    (writes_then (elements_text true (vals_of (take k vs)) d) _ c.args.buf.now c.loop-k.buf c.put_value.new.buf c.args.at c.loop-k.end (Some c.in_ok-end-2.end) c.loop-k.invariant
-    (writes_then (comma (k == 0)) (value_text v d) c.loop-k.buf c.put_comma.new.buf c.put_value.new.buf c.loop-k.end c.in_ok-end.end (Some c.in_ok-end-2.end) f g))
 
 pub put_elements-returns : goal.put_elements-returns
 put_elements-returns t c =
@@ -93,25 +84,21 @@ put_elements-returns t c =
 -- ---- a struct
 pub put_struct-put_fields-requires : goal.put_struct-put_fields-requires
 put_struct-put_fields-requires t c =
-    let f = found (codes "{") c.args.buf.now c.put_bytes.new.buf c.args.at c.in_ok-end.end c.put_bytes.result c.put_bytes.ensures c.in_ok-end.was in
-    let w = f.whole in (omega arith, w.1)
+    let end = ends_within (codes "{") c.args.buf.now c.put_bytes.new.buf c.args.at c.in_ok-end.end c.put_bytes.result c.put_bytes.ensures c.in_ok-end.was in (omega arith, end)
 
 pub put_struct-put_bytes-requires-2 : goal.put_struct-put_bytes-requires-2
 put_struct-put_bytes-requires-2 t c =
-    let f = found _ c.put_bytes.new.buf c.put_fields.new.buf c.in_ok-end.end c.in_ok-end-2.end c.put_fields.result c.put_fields.ensures c.in_ok-end-2.was in
-    let w = f.whole in w.1
+    ends_within _ c.put_bytes.new.buf c.put_fields.new.buf c.in_ok-end.end c.in_ok-end-2.end c.put_fields.result c.put_fields.ensures c.in_ok-end-2.was
 
 pub put_struct-returns-in_err-end-2 : goal.put_struct-returns-in_err-end-2
 put_struct-returns-in_err-end-2 t c =
-    let f = found (codes "{") c.args.buf.now c.put_bytes.new.buf c.args.at c.in_ok-end.end c.put_bytes.result c.put_bytes.ensures c.in_ok-end.was in
-    stopped _ _ _ c.args.buf.now c.put_bytes.new.buf c.put_fields.new.buf c.args.at c.in_ok-end.end c.put_fields.result _ f c.put_fields.ensures c.from_residual-in_err-end-2.ensures
+    opened_stopped (codes "{") _ c.args.buf.now c.put_bytes.new.buf c.put_fields.new.buf c.args.at c.in_ok-end.end c.put_bytes.result c.put_fields.result c.put_bytes.ensures c.in_ok-end.was c.put_fields.ensures
+    _ _ c.from_residual-in_err-end-2.ensures
 
 pub put_struct-returns : goal.put_struct-returns
 put_struct-returns t c =
-    let f = found (codes "{") c.args.buf.now c.put_bytes.new.buf c.args.at c.in_ok-end.end c.put_bytes.result c.put_bytes.ensures c.in_ok-end.was in
-    let e = found _ c.put_bytes.new.buf c.put_fields.new.buf c.in_ok-end.end c.in_ok-end-2.end c.put_fields.result c.put_fields.ensures c.in_ok-end-2.was in
-    writes_then (codes "{") _ c.args.buf.now c.put_bytes.new.buf c.put_bytes-2.new.buf c.args.at c.in_ok-end.end c.put_bytes-2.result f
-    (writes_then _ (codes "}") c.put_bytes.new.buf c.put_fields.new.buf c.put_bytes-2.new.buf c.in_ok-end.end c.in_ok-end-2.end c.put_bytes-2.result e c.put_bytes-2.ensures)
+    enclosed (codes "{") _ c.args.buf.now c.put_bytes.new.buf c.put_fields.new.buf c.args.at c.in_ok-end.end c.put_bytes.result c.put_fields.result c.put_bytes.ensures c.in_ok-end.was c.put_fields.ensures
+    (codes "}") c.put_bytes-2.new.buf c.in_ok-end-2.end c.put_bytes-2.result c.in_ok-end-2.was c.put_bytes-2.ensures
 
 -- ---- the fields of a struct
 pub put_fields-loop-k-init : goal.put_fields-loop-k-init
@@ -123,8 +110,7 @@ put_fields-put-requires t c = let w = c.loop-k.invariant.whole in w.1
 pub put_fields-put_value-requires : goal.put_fields-put_value-requires
 put_fields-put_value-requires t c =
     let size = one_size c.args.values.now c.loop-k.k c.index-values-k.result (omega arith) c.index-values-k.is in
-    let f = found _ c.loop-k.buf c.put.new.buf c.loop-k.end c.in_ok-end.end c.put.result c.put.ensures c.in_ok-end.was in
-    let w = f.whole in (omega (arith, size), w.1)
+    let end = ends_within _ c.loop-k.buf c.put.new.buf c.loop-k.end c.in_ok-end.end c.put.result c.put.ensures c.in_ok-end.was in (omega (arith, size), end)
 
 pub put_fields-returns-in_default : goal.put_fields-returns-in_default
 put_fields-returns-in_default t c =
@@ -138,9 +124,8 @@ put_fields-returns-in_err-end t c =
 
 pub put_fields-returns-in_err-end-2 : goal.put_fields-returns-in_err-end-2
 put_fields-returns-in_err-end-2 t c =
-    let f = found _ c.loop-k.buf c.put.new.buf c.loop-k.end c.in_ok-end.end c.put.result c.put.ensures c.in_ok-end.was in
-    stopped _ _ _ c.args.buf.now c.put.new.buf c.put_value.new.buf c.args.at c.in_ok-end.end c.put_value.result _
-    (writes_then _ _ c.args.buf.now c.loop-k.buf c.put.new.buf c.args.at c.loop-k.end (Some c.in_ok-end.end) c.loop-k.invariant f) c.put_value.ensures c.from_residual-in_err-end-2.ensures
+    two_stopped _ _ _ c.args.buf.now c.loop-k.buf c.put.new.buf c.put_value.new.buf c.args.at c.loop-k.end c.in_ok-end.end c.put.result c.put_value.result c.loop-k.invariant c.put.ensures c.in_ok-end.was c.put_value.ensures
+    _ _ c.from_residual-in_err-end-2.ensures
 
 pub put_fields-loop-k-preserved : goal.put_fields-loop-k-preserved
 put_fields-loop-k-preserved t c =
@@ -150,12 +135,9 @@ put_fields-loop-k-preserved t c =
     let h : List ℕ × DataType = (c.in-Some.head.now, c.in-Some.inner.now) in
     let v = val_of c.index-values-k.result in
     let long = length-map c.args.values.now val_of in
-    let f = found _ c.loop-k.buf c.put.new.buf c.loop-k.end c.in_ok-end.end c.put.result c.put.ensures c.in_ok-end.was in
-    let g = found (value_text v h.1) c.put.new.buf c.put_value.new.buf c.in_ok-end.end c.in_ok-end-2.end c.put_value.result c.put_value.ensures c.in_ok-end-2.was in
-    subst (λ text. Writes text c.args.at c.args.buf.now c.put_value.new.buf (Some c.in_ok-end-2.end))
+    two_more (fields_text true (vals_of (take k vs)) fs) h.0 (value_text v h.1) c.args.buf.now c.loop-k.buf c.put.new.buf c.put_value.new.buf c.args.at c.loop-k.end c.in_ok-end.end c.put.result c.put_value.result
+    c.loop-k.invariant c.put.ensures c.in_ok-end.was c.put_value.ensures _ c.in_ok-end-2.end c.in_ok-end-2.was
     (fields_more fs vs k h v (omega (arith, long)) c.in-Some.ensures (mapped_at val_of c.args.values.now k c.index-values-k.result null_val (omega arith) c.index-values-k.is))
-    (writes_then (fields_text true (vals_of (take k vs)) fs) _ c.args.buf.now c.loop-k.buf c.put_value.new.buf c.args.at c.loop-k.end (Some c.in_ok-end-2.end) c.loop-k.invariant
-    (writes_then h.0 (value_text v h.1) c.loop-k.buf c.put.new.buf c.put_value.new.buf c.loop-k.end c.in_ok-end.end (Some c.in_ok-end-2.end) f g))
 
 pub put_fields-returns : goal.put_fields-returns
 put_fields-returns t c =

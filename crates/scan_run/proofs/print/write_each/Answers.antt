@@ -3,8 +3,7 @@ use Rattle.std.proofs.lemmas.List.Elements.{All-get_or}
 use Rattle.std.proofs.lemmas.Result.{err_from_is_err_and}
 use Rattle.scan_multi.specs.Output.{ChunkData, IsChunk}
 use Rattle.scan_run.specs.Printed.{chunk_lines, chunks_lines}
-use Rattle.scan_run.proofs.Fronts.{on_err}
-use Rattle.scan_run.proofs.Sending.{sent_none, sent_more, sent_all, sent_front, rose_later, chunks_step, chunks_over}
+use Rattle.scan_run.proofs.Sending.{sent_none, sent_more, sent_all, sent_front, rose_later, chunks_step, chunks_over, wrote_ok, wrote_err}
 use Rattle.scan_run.proofs.print.write_each.Goals as goal
 
 pub loop-chunk-init : goal.loop-chunk-init
@@ -20,18 +19,21 @@ loop-chunk-preserved g c =
     sent_more (chunks_lines c.args.chunks.now) c.args.piece.now c.loop-chunk.piece c.write_chunk.new.piece (chunk_lines c.chunk-item.result) _ _
     (g.O.Output.output c.args.output.now) (g.O.Output.output c.loop-chunk.output) (g.O.Output.output c.write_chunk.new.output) c.loop-chunk.invariant step c.in_ok-write_chunk.ensures.ok
 
-pub returns-in_err-write_chunk-clause-err : goal.returns-in_err-write_chunk-clause-err
-returns-in_err-write_chunk-clause-err g c =
+pub returns-in_err-write_chunk : goal.returns-in_err-write_chunk
+returns-in_err-write_chunk g c =
+    let x = chunks_lines c.args.chunks.now in
+    let old = g.O.Output.output c.args.output.now in
+    let mid = g.O.Output.output c.loop-chunk.output in
+    let now = g.O.Output.output c.write_chunk.new.output in
     let step = chunks_step c.args.chunks.now c.loop-chunk.chunk-index c.chunk-item.result (omega arith) c.chunk-item.is in
-    on_err _ _ (sent_front (chunks_lines c.args.chunks.now) c.args.piece.now c.loop-chunk.piece (chunk_lines c.chunk-item.result) _ _
-    (g.O.Output.output c.args.output.now) (g.O.Output.output c.loop-chunk.output) (g.O.Output.output c.write_chunk.new.output) c.loop-chunk.invariant step c.in_err-write_chunk.ensures.err)
-
-pub returns-in_err-write_chunk-clause-failed : goal.returns-in_err-write_chunk-clause-failed
-returns-in_err-write_chunk-clause-failed g c =
+    let front = sent_front x c.args.piece.now c.loop-chunk.piece (chunk_lines c.chunk-item.result) _ _ old mid now c.loop-chunk.invariant step c.in_err-write_chunk.ensures.err in
     let p = err_from_is_err_and c.from_residual.result c.from_residual.ensures.1 in
-    rw (p.1, p.2) (λ h. rose_later (g.O.Output.output c.args.output.now).faults _ _ c.loop-chunk.invariant.sends.faults (c.in_err-write_chunk.ensures.failed h))
+    rw (p.1, p.2) (wrote_err x c.args.piece.now _ old now _ front (λ h. rose_later old.faults _ _ c.loop-chunk.invariant.sends.faults (c.in_err-write_chunk.ensures.failed h)))
 
-pub returns-clause-ok : goal.returns-clause-ok
-returns-clause-ok g c =
-    sent_all _ c.args.piece.now c.loop-chunk.piece _ (g.O.Output.output c.args.output.now) (g.O.Output.output c.loop-chunk.output) c.loop-chunk.invariant
-    (chunks_over c.args.chunks.now c.loop-chunk.chunk-index (omega arith))
+pub returns : goal.returns
+returns g c =
+    let x = chunks_lines c.args.chunks.now in
+    let old = g.O.Output.output c.args.output.now in
+    let now = g.O.Output.output c.loop-chunk.output in
+    wrote_ok x c.args.piece.now c.loop-chunk.piece old now (sent_all x c.args.piece.now c.loop-chunk.piece _ old now c.loop-chunk.invariant
+    (chunks_over c.args.chunks.now c.loop-chunk.chunk-index (omega arith)))

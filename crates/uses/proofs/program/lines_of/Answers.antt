@@ -15,7 +15,7 @@ returns-then-status-eq0-clause-lines g c =
     let zero : c.run-status.result ≡ 0 = search rules in
     let scan : is_scan_words (map string_bytes c.as_slice.result.now) ≡ true = search rules in
     lines-are c.args.manifest.items input.bytes.items output.bytes.items now.bytes.items input.at input.taken input.ends input.faults output.faults output.short now.faults now.short _
-    c.new-input.ensures.bytes c.new-output.ensures.bytes (c.run-status.ensures.done scan zero)
+    c.new-input.ensures.bytes c.new-output.ensures.bytes ((c.run-status.ensures.scan scan).done zero)
 
 pub returns-then-status-eq0-clause-refused : goal.returns-then-status-eq0-clause-refused
 returns-then-status-eq0-clause-refused g c e m i = let n = ap code_of e in absurd (omega (arith, n))
@@ -23,4 +23,4 @@ returns-then-status-eq0-clause-refused g c e m i = let n = ap code_of e in absur
 pub returns-clause-refused : goal.returns-clause-refused
 returns-clause-refused g c e m i =
     let input = c.new-input.result in
-    is-none c.args.manifest.items input.bytes.items input.at input.taken input.ends input.faults _ c.new-input.ensures.bytes (c.run-status.ensures.refused (ap code_of e)) m i
+    is-none c.args.manifest.items input.bytes.items input.at input.taken input.ends input.faults _ c.new-input.ensures.bytes (c.run-status.ensures.status.refused (ap code_of e)) m i

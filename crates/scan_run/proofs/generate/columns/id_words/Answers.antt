@@ -1,0 +1,17 @@
+use Rattle.std.proofs.Common.{◌+◌, ◌∙◌, ap, refl, rules}
+use Rattle.std.specs.List.{flat_map}
+use Rattle.std.proofs.lemmas.Iterator.{YieldsList-from_range, YieldsList-from_map_by, items_from_collect}
+use Rattle.std.proofs.lemmas.Result.{IfOk-weaker}
+use Rattle.scan_values.specs.Selections.{numbers}
+use Rattle.scan_spelling.specs.Written.{slot_bytes}
+use Rattle.scan_run.specs.Generated.{id_of}
+use Rattle.scan_run.specs.GeneratedBytes.{longs}
+use Rattle.scan_run.proofs.Making.{slots_joined}
+use Rattle.scan_run.proofs.generate.columns.id_words.Goals as goal
+
+pub returns : goal.returns
+returns c =
+    let a = c.args.first in
+    let b = a + c.args.count in
+    IfOk-weaker c.collect.result _ _ (λ v h. ap (flat_map (λ x. x)) h ∙ slots_joined longs id_of (numbers a b))
+    (items_from_collect c.collect.result c.collect.ensures.ran (YieldsList-from_map_by _ (λ r. r) (λ g. slot_bytes longs (id_of g)) (YieldsList-from_range a b _ c.map.ensures.source refl) c.map.ensures.closure (λ x r q k. search rules)))
