@@ -65,7 +65,7 @@ exact_key (x ∷ xs) (y ∷ ys) s h =
     let f : xs ≡ ys = exact_key xs ys (and_second (is_scalar x) (are_scalars xs) s) (then_second (value_cmp x y) (key_cmp xs ys) h) in
     λ i. e i ∷ f i
 
-equal_from_test : (r : Ordering) → is_eq r ≡ true → r ≡ Equal
+pub equal_from_test : (r : Ordering) → is_eq r ≡ true → r ≡ Equal
 equal_from_test Less h = absurd (let z : false ≡ true = h in cc)
 equal_from_test Equal h = refl
 equal_from_test Greater h = absurd (let z : false ≡ true = h in cc)

@@ -1,9 +1,13 @@
 pub mod Permuting
 pub mod Sums
-pub mod Regrouping
 pub mod Extremes
-pub mod Totalling
 pub mod Exact
-pub mod Entries
+pub mod Regrouping
+pub mod Placing
+pub mod Learning
+pub mod Runs
+pub mod Added
+pub mod Tallying
+pub mod Totalling
 pub mod Grouping
 pub mod Whole

@@ -1,17 +1,24 @@
 //! The running totals of all groups.
-ghost use Rattle.std.specs.Prelude.{◌≡◌, ◌++◌, ◌<◌, ℕ, List, IfErr, IfOk, MatchOption, None, map, [], ◌∷◌, true, false, length};
-ghost use Rattle.std.specs.BTreeMap.{get, IsOrdered};
+ghost use Rattle.std.specs.Prelude.{◌≡◌, ◌++◌, ◌<◌, ◌+◌, ℕ, List, IfErr, IfOk, MatchOption, Some, map, [], ◌∷◌, true, false, length, replicate};
+ghost use Rattle.std.specs.List.{list_all, slice_get};
 ghost use Rattle.scan_values.specs.Values.{val_of};
-ghost use Rattle.scan_groups.specs.Order.{are_scalars, key_cmp};
+ghost use Rattle.scan_groups.specs.Cells.{cell_val, run_vals};
+ghost use Rattle.scan_groups.specs.Order.{are_scalars, is_scalar};
+ghost use Rattle.scan_groups.specs.Places.{ArePlaces};
 ghost use Rattle.scan_groups.specs.Rows.{Row, AreGroups, IsPast};
-ghost use Rattle.scan_groups.specs.Running.{AreOf, HasGroupsCause, IsMapOf, is_past_in, made_of};
+ghost use Rattle.scan_groups.specs.Running.{AreOf, HasGroupsCause, HasRead, HavePlaces, count_of, is_past_in, made_of, measures_in, reads_in, val_in};
+ghost use Rattle.scan_groups.specs.Totals.{length_of, measured_by, total_val, val_at};
 ghost use Rattle.scan_groups.specs.declared.measure.Measured.{Measured};
 
+use crate::adding::past_last;
+use crate::cell::Cell;
 use crate::fault::GroupsFault;
 use crate::group::Group;
 use crate::key::Key;
 use crate::measure::Measured;
-use crate::totals::Totals;
+use crate::places::Places;
+use crate::run::Run;
+use crate::tally::Tally;
 use scan_values::{NoMemory, Value, Values};
 use std::alloc::Global;
 use std::collections::BTreeMap;
@@ -19,67 +26,82 @@ use std::collections::BTreeMap;
 /// The groups of the rows that have come so far.
 #[derive(Drop)]
 pub struct Groups {
-    measures: Vec<Measured>,
-    groups: BTreeMap<Key, Totals>,
+    places: Places,
+    tallies: Vec<Tally>,
 }
 
-/// The groups of no rows: where keys have no values, the one of the empty key.
-fn of_no_rows(
-    alloc: Global,
-    keys: usize,
-    measures: &[Measured],
-) -> Result<BTreeMap<Key, Totals>, NoMemory>
-    ensures { IfOk result (λ m. IsMapOf keys measures.now [] m) }
+/// The keys of no rows: where keys have no values, the empty one.
+fn of_no_rows(alloc: Global, keys: usize) -> Result<Places, NoMemory>
+    ensures { IfOk result (ArePlaces keys []) }
 {
-    let mut groups = BTreeMap::new(alloc);
+    let mut places = Places::new(alloc);
     if keys > 0 {
-        return Ok(groups);
+        return Ok(places);
     }
-    let key = Key::new(Values::new(Vec::new(alloc)));
-    let totals = Totals::none(alloc, measures)?;
-    groups.insert(key, totals)?;
-    Ok(groups)
+    places.begin(Key::new(Values::new(Vec::new(alloc))))?;
+    Ok(places)
 }
 
-/// A row of a key that no row had.
-fn begin(
-    groups: &mut BTreeMap<Key, Totals>,
-    alloc: Global,
-    measures: &[Measured],
-    key: Key,
-    read: &[Value],
-) -> Result<(), NoMemory>
-    requires { get key_cmp groups.old key ≡ None }
-    ensures { (keys : ℕ) (rows : List Row) → IsMapOf keys measures.now rows groups.old → are_scalars key ≡ true →
-        IfOk result (λ _. IsMapOf keys measures.now (rows ++ record { key = key; read = map val_of read.now } ∷ []) groups.new) }
+/// For each measure what it has come to over no rows.
+fn no_tallies(alloc: Global, measures: &[Measured]) -> Result<Vec<Tally>, NoMemory>
+    ensures of { IfOk result (λ ts. map measured_by ts.items ≡ measures.now) }
+    ensures none { IfOk result (λ ts. map length_of ts.items ≡ replicate (length measures.now) 0) }
 {
-    let mut totals = Totals::none(alloc, measures)?;
-    totals.add(alloc, read)?;
-    groups.insert(key, totals)?;
-    Ok(())
+    let mut tallies = Vec::with_capacity(alloc, measures.len())?;
+    for measure in measures {
+        tallies.push(Tally::none(alloc, *measure))?;
+    }
+    Ok(tallies)
+}
+
+/// What is read at a place; null behind the last.
+fn read_at<'a>(read: &'a [Value], place: Option<usize>) -> Cell<'a>
+    ensures { cell_val result ≡ val_in place (map val_of read.entry.now) }
+{
+    let Some(place) = place else {
+        return Cell::Null;
+    };
+    match read.get(place) {
+        Some(value) => Cell::of(value),
+        None => Cell::Null,
+    }
+}
+
+/// The values of measures at a place.
+fn values_at(alloc: Global, tallies: &[Tally], place: usize) -> Result<Values, NoMemory>
+    ensures { IfOk result (λ vs. vs ≡ map (total_val place) tallies.now) }
+{
+    let mut values = Vec::with_capacity(alloc, tallies.len())?;
+    for tally in tallies {
+        values.push(tally.value(alloc, place)?)?;
+    }
+    Ok(Values::new(values))
 }
 
 /// The groups, by their keys.
-fn groups_of(alloc: Global, groups: BTreeMap<Key, Totals>) -> Result<Vec<Group>, NoMemory>
-    ensures made { IfOk result (λ gs. gs.items ≡ map made_of groups.entries) }
-    ensures ordered { IsOrdered key_cmp groups }
+fn groups_of(
+    alloc: Global,
+    keys: BTreeMap<Key, usize>,
+    tallies: &[Tally],
+) -> Result<Vec<Group>, NoMemory>
+    ensures { IfOk result (λ gs. gs.items ≡ map (made_of tallies.now) keys.entries) }
 {
-    let mut made = Vec::with_capacity(alloc, groups.len())?;
-    for (key, totals) in groups {
+    let mut made = Vec::with_capacity(alloc, keys.len())?;
+    for (key, place) in keys {
         made.push(Group {
             key: key.into_values(),
-            measures: totals.into_values(alloc)?,
+            measures: values_at(alloc, tallies, place)?,
         })?;
     }
     Ok(made)
 }
 
 /// Whether some group's sum of a measure is neither an i64 nor a u64.
-fn is_past(groups: &BTreeMap<Key, Totals>, measure: usize) -> bool
-    ensures { result ≡ is_past_in groups.now measure }
+fn is_past(keys: &BTreeMap<Key, usize>, tally: &Tally) -> bool
+    ensures { result ≡ is_past_in keys.now (Some tally.now) }
 {
-    for totals in groups.values() {
-        if totals.is_past(measure) {
+    for place in keys.values() {
+        if tally.is_past(*place) {
             return true;
         }
     }
@@ -91,8 +113,59 @@ impl Groups {
     pub fn new(alloc: Global, keys: usize, measures: Vec<Measured>) -> Result<Groups, NoMemory>
         ensures { IfOk result (AreOf keys measures.items []) }
     {
-        let groups = of_no_rows(alloc, keys, measures.as_slice())?;
-        Ok(Groups { measures, groups })
+        let places = of_no_rows(alloc, keys)?;
+        let tallies = no_tallies(alloc, measures.as_slice())?;
+        Ok(Groups { places, tallies })
+    }
+
+    /// How many measures there are.
+    pub fn measure_count(&self) -> usize
+        ensures { result ≡ count_of self.now }
+    {
+        self.tallies.len()
+    }
+
+    /// The place of what a measure reads, where it reads something.
+    pub fn reads(&self, measure: usize) -> Option<usize>
+        requires { measure < count_of self.now }
+        ensures { result ≡ reads_in (measures_in self.now) measure }
+    {
+        self.tallies[measure].reads()
+    }
+
+    /// The places of the groups of further rows, whose keys are of one value each.
+    pub fn place_run(&mut self, alloc: Global, run: Run) -> Result<Vec<usize>, NoMemory>
+        ensures { (keys : ℕ) → list_all is_scalar (run_vals run.entry) ≡ true →
+            IfOk result (λ ps. HavePlaces keys (map (λ v. v ∷ []) (run_vals run.entry)) ps.items self.old self.new) }
+    {
+        self.places.place_run(alloc, run)
+    }
+
+    /// The places of the groups of so many further rows, whose keys have no values.
+    pub fn place_keyless(&mut self, alloc: Global, len: usize) -> Result<Vec<usize>, NoMemory>
+        ensures { IfOk result (λ ps. HavePlaces 0 (replicate len []) ps.items self.old self.new) }
+    {
+        let place = self.places.place(Key::new(Values::new(Vec::new(alloc))))?;
+        Ok(vec![in alloc; place; len]?)
+    }
+
+    /// Of rows whose groups were found, what a measure reads.
+    pub fn add_run(
+        &mut self,
+        alloc: Global,
+        measure: usize,
+        places: &[usize],
+        run: Run,
+    ) -> Result<(), NoMemory>
+        requires measure { measure < count_of self.old }
+        requires even { length (run_vals run) ≡ length places.now }
+        ensures { IfOk result (λ _. HasRead measure places.now (run_vals run.entry) self.old self.new) }
+    {
+        let groups = past_last(places)?;
+        let tally = std::mem::replace(&mut self.tallies[measure], Tally::Count(Vec::new(alloc)));
+        let more = tally.with_rows(alloc, groups, places, run)?;
+        self.tallies[measure] = more;
+        Ok(())
     }
 
     /// One more row: its key, of truth values, integers, texts and null, and what measures read. A place behind what is read
@@ -101,20 +174,22 @@ impl Groups {
         ensures { (keys : ℕ) (ms : List Measured) (rows : List Row) → AreOf keys ms rows self.old → are_scalars key ≡ true →
             IfOk result (λ _. AreOf keys ms (rows ++ record { key = key; read = map val_of read.now } ∷ []) self.new) }
     {
-        let key = Key::new(key);
-        match self.groups.get_mut(&key) {
-            Some(totals) => totals.add(alloc, read),
-            None => begin(&mut self.groups, alloc, self.measures.as_slice(), key, read),
+        let place = self.places.place(Key::new(key))?;
+        for measure in 0..self.tallies.len() {
+            let cell = read_at(read, self.tallies[measure].reads());
+            self.add_run(alloc, measure, &[place], Run::Cells(&[cell]))?;
         }
+        Ok(())
     }
-
     /// The first measure of which some group's sum is neither an i64 nor a u64.
     fn first_past(&self) -> Option<usize>
-        ensures { MatchOption result ((i : ℕ) → i < length self.now.measures.items → is_past_in self.now.groups i ≡ false)
-            (λ i. (is_past_in self.now.groups i ≡ true) × ((j : ℕ) → j < i → is_past_in self.now.groups j ≡ false)) }
+        ensures { MatchOption result
+            ((i : ℕ) → i < length self.now.tallies.items → is_past_in self.now.places.keys (slice_get self.now.tallies.items i) ≡ false)
+            (λ i. (is_past_in self.now.places.keys (slice_get self.now.tallies.items i) ≡ true)
+            × ((j : ℕ) → j < i → is_past_in self.now.places.keys (slice_get self.now.tallies.items j) ≡ false)) }
     {
-        for measure in 0..self.measures.len() {
-            if is_past(&self.groups, measure) {
+        for measure in 0..self.tallies.len() {
+            if is_past(&self.places.keys, &self.tallies[measure]) {
                 return Some(measure);
             }
         }
@@ -128,10 +203,11 @@ impl Groups {
         ensures err { (keys : ℕ) (ms : List Measured) (rows : List Row) → AreOf keys ms rows self →
             IfErr result (HasGroupsCause ms rows) }
     {
-        let _count = self.groups.len();
-        match self.first_past() {
-            Some(measure) => Err(GroupsFault::SumRange { measure }),
-            None => Ok(groups_of(alloc, self.groups)?),
+        let _count = self.places.keys.len();
+        if let Some(measure) = self.first_past() {
+            return Err(GroupsFault::SumRange { measure });
         }
+        let Groups { places, tallies } = self;
+        Ok(groups_of(alloc, places.into_keys(), &tallies)?)
     }
 }

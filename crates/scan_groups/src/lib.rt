@@ -1,20 +1,26 @@
 //! Groups of rows by their keys, and running totals over each.
 #![tactic(auto)]
 
+mod adding;
+mod cell;
 mod fault;
 mod group;
 mod groups;
 mod key;
+mod known;
 mod laws;
 mod measure;
 mod order;
+mod places;
+mod run;
 mod sum;
-mod total;
-mod totals;
+mod tally;
 
+pub use cell::Cell;
 pub use fault::GroupsFault;
 pub use group::Group;
 pub use groups::Groups;
 pub use laws::order_does_not_matter;
 pub use measure::Measured;
 pub use order::compare;
+pub use run::Run;

@@ -2,12 +2,14 @@
 ghost use Rattle.std.specs.Prelude.{◌≡◌, map};
 ghost use Rattle.std.specs.Cmp.Lexicographic.{slice_cmp};
 ghost use Rattle.scan_values.specs.Values.{val_of};
+ghost use Rattle.scan_groups.specs.Cells.{cell_val};
 ghost use Rattle.scan_groups.specs.Order.{kind_of, truth_of, number_of, text_of, value_cmp};
 
+use crate::cell::Cell;
 use scan_values::Value;
 use std::cmp::Ordering;
 
-fn kind_of(value: &Value) -> u8
+fn kind_in(value: &Value) -> u8
     ensures { result ≡ kind_of (val_of value.now) }
 {
     match value {
@@ -20,7 +22,7 @@ fn kind_of(value: &Value) -> u8
     }
 }
 
-fn truth_of(value: &Value) -> bool
+fn truth_in(value: &Value) -> bool
     ensures { result ≡ truth_of (val_of value.now) }
 {
     match value {
@@ -29,7 +31,7 @@ fn truth_of(value: &Value) -> bool
     }
 }
 
-pub(crate) fn number_of(value: &Value) -> i128
+fn number_in(value: &Value) -> i128
     ensures { result ≡ number_of (val_of value.now) }
 {
     match value {
@@ -38,7 +40,7 @@ pub(crate) fn number_of(value: &Value) -> i128
     }
 }
 
-fn text_of(value: &Value) -> &[u8]
+fn text_in(value: &Value) -> &[u8]
     ensures { result.now ≡ text_of (val_of value.now) }
 {
     match value {
@@ -47,16 +49,71 @@ fn text_of(value: &Value) -> &[u8]
     }
 }
 
-/// Which of two values comes first: null before false, true, integers by value, texts by their bytes, lists and structs.
-/// Two lists, and two structs, are not told apart.
-pub fn compare(a: &Value, b: &Value) -> Ordering
-    ensures { result ≡ value_cmp (val_of a.now) (val_of b.now) }
+fn kind_of(cell: Cell) -> u8
+    ensures { result ≡ kind_of (cell_val cell.entry) }
+{
+    match cell {
+        Cell::Null => 0,
+        Cell::Truth(_) => 1,
+        Cell::Number(_) => 2,
+        Cell::Text(_) => 3,
+        Cell::Held(value) => kind_in(value),
+    }
+}
+
+fn truth_of(cell: Cell) -> bool
+    ensures { result ≡ truth_of (cell_val cell.entry) }
+{
+    match cell {
+        Cell::Truth(b) => b,
+        Cell::Held(value) => truth_in(value),
+        Cell::Null => false,
+        Cell::Number(_) => false,
+        Cell::Text(_) => false,
+    }
+}
+
+pub(crate) fn number_of(cell: Cell) -> i128
+    ensures { result ≡ number_of (cell_val cell.entry) }
+{
+    match cell {
+        Cell::Number(n) => n,
+        Cell::Held(value) => number_in(value),
+        Cell::Null => 0,
+        Cell::Truth(_) => 0,
+        Cell::Text(_) => 0,
+    }
+}
+
+fn text_of<'a>(cell: Cell<'a>) -> &'a [u8]
+    ensures { result.now ≡ text_of (cell_val cell.entry) }
+{
+    match cell {
+        Cell::Text(text) => text.as_bytes(),
+        Cell::Held(value) => text_in(value),
+        Cell::Null => &[],
+        Cell::Truth(_) => &[],
+        Cell::Number(_) => &[],
+    }
+}
+
+/// Which of two lent values comes first.
+pub(crate) fn compare_cells(a: Cell, b: Cell) -> Ordering
+    ensures { result ≡ value_cmp (cell_val a.entry) (cell_val b.entry) }
 {
     kind_of(a)
         .cmp(&kind_of(b))
         .then(truth_of(a).cmp(&truth_of(b)))
         .then(number_of(a).cmp(&number_of(b)))
         .then(text_of(a).cmp(&text_of(b)))
+}
+
+/// Which of two values comes first: null before false, true, integers by value, texts by their bytes, lists and structs.
+/// Two lists, and two structs, are not told apart.
+pub fn compare(a: &Value, b: &Value) -> Ordering
+    ensures { result ≡ value_cmp (val_of a.now) (val_of b.now) }
+{
+    compare_cells(Cell::of(a), Cell::of(b))
 }
 
 /// Which of two lists of values comes first, by the first two that differ, else by their lengths.

@@ -4,3 +4,8 @@ pub mod Scalars
 pub mod Rowing
 pub mod Answered
 pub mod Concluding
+pub mod Columned
+pub mod Parsing
+pub mod Running
+pub mod Answering
+pub mod Lines

@@ -5,3 +5,6 @@ pub mod Rows
 pub mod Tables
 pub mod Totalled
 pub mod Scans
+pub mod Jobs
+pub mod Runs
+pub mod AskedOf

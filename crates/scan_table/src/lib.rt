@@ -3,6 +3,9 @@
 
 mod check;
 mod fault;
+mod lent;
+mod program;
+mod reading;
 mod request;
 mod rows;
 mod scan;
@@ -10,6 +13,7 @@ mod spec;
 mod table;
 
 pub use fault::TableFault;
+pub use program::run_table;
 pub use scan::scan_table;
 pub use scan_groups::Group;
 pub use spec::{Measure, TableSpec};

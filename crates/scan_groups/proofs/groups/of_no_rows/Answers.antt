@@ -1,15 +1,24 @@
-use Rattle.std.proofs.Common.{◌≡◌, [], sym, subst, arith, rules}
-use Rattle.scan_groups.specs.Totals.{AreTotals}
-use Rattle.scan_groups.proofs.Totalling.{none_totals}
-use Rattle.scan_groups.proofs.Entries.{no_group, one_group_at}
+use Rattle.std.proofs.Common.{◌≡◌, [], List, refl, sym, ap, ◌∙◌, subst, cond, arith, rules}
+use Rattle.std.specs.Prelude.{Some}
+use Rattle.std.specs.BTreeMap.{is_at}
+use Rattle.scan_values.specs.Val.{Val}
+use Rattle.scan_groups.specs.Order.{key_cmp}
+use Rattle.scan_groups.specs.Places.{place_of}
+use Rattle.scan_groups.proofs.Placing.{no_places, one_place, nothing_at}
 use Rattle.scan_groups.proofs.groups.of_no_rows.Goals as goal
 
 pub returns-then-keys-gt0 : goal.returns-then-keys-gt0
-returns-then-keys-gt0 c = no_group c.args.keys c.args.measures.now c.new-groups.result c.new-groups.ensures.empty (omega (arith, c.if-keys-gt0.true))
+returns-then-keys-gt0 c = let e = c.new-places.ensures in no_places c.args.keys c.new-places.result (e.keys, e.count, e.known) c.if-keys-gt0.true
+
+pub begin-requires : goal.begin-requires
+begin-requires c = nothing_at c.new-places.result c.new-3.result c.new-places.ensures.keys
 
 pub returns : goal.returns
 returns c =
-    let ms = c.args.measures.now in
-    let none : AreTotals ms [] c.in_ok-totals.totals.totals.items = subst (λ ts. AreTotals ms [] ts) (sym c.in_ok-totals.ensures) (none_totals ms) in
-    let empty : c.new-key.result ≡ [] = search rules in
-    one_group_at c.args.keys ms c.new-groups.result _ c.in_ok-totals.totals c.new-key.result empty c.new-groups.ensures.empty (omega (arith, c.if-keys-gt0.false)) none c.in_ok-insert.ensures.updates.0
+    let e = c.new-places.ensures in
+    let old = c.new-places.result in
+    let new = c.begin.new.self in
+    let b = c.in_ok-begin.ensures in
+    let empty : c.new-3.result ≡ [] = search rules in
+    one_place c.args.keys old new (e.keys, e.count, e.known) (omega (arith, c.if-keys-gt0.false)) b.count b.known
+    (subst (λ (k : List Val). (q : List Val) → place_of new q ≡ cond (is_at (key_cmp k) q) (Some old.count) (place_of old q)) empty b.at)

@@ -12,7 +12,7 @@ runs-preserved c =
     let d = c.args.column.now.dtype in
     let vs = c.args.column.now.items in
     let run : ArrayData = c.in_ok-run.run' in
-    let is = c.in_ok-run.ensures ∙ c.in_ok-slice.ensures in
+    let is = c.in_ok-run.ensures in
     let le : c.runs.from ≤ c.run_end-to.result = let m = c.run_end-to.ensures.more c.runs-test.true in omega (arith, m) in
     record {
       within = c.run_end-to.ensures.within;

@@ -1,31 +1,55 @@
-use Rattle.std.proofs.Common.{◌≡◌, List, [], ◌∷◌, ◌++◌, map, true, refl, sym, ap, subst}
-use Rattle.std.specs.Prelude.{is_some, IfOk}
-use Rattle.scan_values.specs.Val.{Val}
+use Rattle.std.proofs.Common.{◌≡◌, ◌<◌, [], ◌∷◌, length, map, refl, sym, ap, ◌∙◌, arith}
 use Rattle.scan_values.specs.Values.{val_of}
+use Rattle.scan_groups.specs.Cells.{cell_val}
 use Rattle.scan_groups.specs.Order.{are_scalars}
-use Rattle.scan_groups.specs.Running.{AreOf}
+use Rattle.scan_groups.specs.Rows.{Row}
+use Rattle.scan_groups.specs.Running.{reads_in, val_in}
+use Rattle.scan_groups.specs.Totals.{measured_by, place_read, val_at}
 use Rattle.scan_groups.specs.declared.groups.Groups.{Groups}
-use Rattle.scan_groups.proofs.Whole.{joins_ok, begins_ok}
+use Rattle.scan_groups.proofs.Placing.{placed_one}
+use Rattle.scan_groups.proofs.Totalling.{count_same, reads_there, under_begins, under_ends, val_as}
 use Rattle.scan_groups.proofs.groups.Groups.add.Goals as goal
 
-pub returns-in-Some : goal.returns-in-Some
-returns-in-Some c =
-    let k = c.new-key.result in
-    let reads = map val_of c.args.read.now in
-    let same = c.new-key.ensures in
-    let new : Groups = record { measures = c.args.self.now.measures; groups = c.get_mut.follows.lender c.add.new.self } in
-    let updates = ((c.get_mut.follows.holds c.add.new.self).3 (sym (ap is_some c.in-Some.ensures.value))).0 in
-    λ keys ms rows h scalar. subst (λ (z : List Val). IfOk c.add.result (λ _. AreOf keys ms (rows ++ record { key = z; read = reads } ∷ []) new)) same
-    (joins_ok c.add.result keys ms rows k reads c.args.self.now new c.in-Some.totals.now c.add.new.self h (subst (λ (z : List Val). are_scalars z ≡ true) (sym same) scalar) (sym c.in-Some.ensures.value)
-    c.add.ensures refl updates)
+pub loop-measure-init : goal.loop-measure-init
+loop-measure-init c =
+    let old = c.args.self.now in
+    let new : Groups = record { places = c.place.new.self; tallies = old.tallies } in
+    let key = c.new.ensures in
+    record {
+      count = refl;
+      under = λ keys ms rows row h e scalar read.
+          let one = c.in_ok-place.ensures.places keys rows row (e ∙ sym key) h.places (ap are_scalars key ∙ scalar) in
+          under_begins keys ms rows (row ∷ []) (c.in_ok-place.place ∷ []) old new h refl refl (placed_one keys rows row old.places c.place.new.self c.in_ok-place.place one);
+    }
 
-pub returns-in-None : goal.returns-in-None
-returns-in-None c =
-    let k = c.new-key.result in
-    let reads = map val_of c.args.read.now in
-    let same = c.new-key.ensures in
-    let old : Groups = record { measures = c.args.self.now.measures; groups = c.get_mut.follows.lender-at-none } in
-    let new : Groups = record { measures = c.args.self.now.measures; groups = c.begin.new.groups } in
-    λ keys ms rows h scalar. subst (λ (z : List Val). IfOk c.begin.result (λ _. AreOf keys ms (rows ++ record { key = z; read = reads } ∷ []) new)) same
-    (begins_ok c.begin.result keys ms rows k reads c.as_slice.result.now old new (subst (λ g. AreOf keys ms rows (record { measures = c.args.self.now.measures; groups = g })) (sym c.get_mut.follows.holds-at-none) h)
-    (subst (λ (z : List Val). are_scalars z ≡ true) (sym same) scalar) c.as_slice.ensures.value c.begin.ensures refl)
+pub index-requires : goal.index-requires
+index-requires c = omega (arith, c.loop-measure-test.true, c.len-measure-end.ensures, c.args.self.now.tallies.ok.0, c.loop-measure.invariant.count, c.loop-measure.self.tallies.ok.0)
+
+pub add_run-requires-clause-measure : goal.add_run-requires-clause-measure
+add_run-requires-clause-measure c = omega (arith, c.loop-measure-test.true, c.len-measure-end.ensures, c.args.self.now.tallies.ok.0, c.loop-measure.invariant.count)
+
+pub loop-measure-preserved : goal.loop-measure-preserved
+loop-measure-preserved c =
+    let now = c.loop-measure.self in
+    let ts = now.tallies.items in
+    let m = c.loop-measure.measure in
+    let t = c.index.result.now in
+    let lt : m < length ts = omega (arith, c.loop-measure-test.true, c.len-measure-end.ensures, c.args.self.now.tallies.ok.0, c.loop-measure.invariant.count) in
+    let one = c.in_ok-add_run.ensures in
+    record {
+      count = count_same now c.add_run.new.self one.measures ∙ c.loop-measure.invariant.count;
+      under = λ keys ms rows row h e scalar read.
+          let u = c.loop-measure.invariant.under keys ms rows row h e scalar read in
+          let at : reads_in ms m ≡ c.reads.result =
+          ap (λ ns. reads_in ns m) (sym u.measures) ∙ reads_there ts m t lt ∙ sym (c.reads.ensures ∙ ap (λ x. place_read (measured_by x)) c.index.ensures) in
+          let is : val_at (reads_in ms m) row ≡ cell_val c.read_at-cell.result =
+          ap (λ o. val_at o row) at ∙ val_as c.reads.result row ∙ ap (val_in c.reads.result) read ∙ sym c.read_at-cell.ensures in
+          one.reads keys ms rows (row ∷ []) u (ap (λ v. v ∷ []) is);
+    }
+
+pub returns : goal.returns
+returns c = λ keys ms rows h scalar.
+    let row : Row = record { key = c.args.key; read = map val_of c.args.read.now } in
+    let inv = c.loop-measure.invariant in
+    under_ends keys ms rows (row ∷ []) (c.in_ok-place.place ∷ []) c.loop-measure.measure c.loop-measure.self (inv.under keys ms rows row h refl scalar refl)
+    (omega (arith, inv.count, c.loop-measure-test.false, c.len-measure-end.ensures, c.args.self.now.tallies.ok.0))

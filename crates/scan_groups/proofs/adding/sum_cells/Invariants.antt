@@ -1,0 +1,11 @@
+use Rattle.std.proofs.Common.{◌≡◌, ℕ, List, length, take}
+use Rattle.scan_values.specs.Val.{Val}
+use Rattle.scan_groups.specs.Cells.{run_vals}
+use Rattle.scan_groups.specs.Totals.{Adds, IsSumOf, no_sum}
+use Rattle.scan_groups.proofs.adding.sum_cells.Given as goal
+
+abbrev pub invariant-loop-i : goal.invariant-loop-i
+invariant-loop-i l = record {
+  long : length l.sums.items ≡ length l.fn.sums.items;
+  more : Adds IsSumOf no_sum (take l.i l.places) (take l.i (run_vals l.run)) l.fn.sums.items l.sums.items;
+}

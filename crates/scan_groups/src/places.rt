@@ -1,0 +1,105 @@
+//! Which group each key has.
+ghost use Rattle.std.specs.Prelude.{◌≡◌, ◌∷◌, [], IfOk, List, None, Some, length, map, true, ℕ};
+ghost use Rattle.std.specs.List.{list_all};
+ghost use Rattle.scan_values.specs.Val.{Val};
+ghost use Rattle.scan_groups.specs.Cells.{cell_val, run_vals};
+ghost use Rattle.scan_groups.specs.Order.{are_scalars, is_scalar};
+ghost use Rattle.scan_groups.specs.Places.{ArePlaces, Begins, Placed, PlacedAll, known, place_of};
+ghost use Rattle.scan_groups.specs.Rows.{Row};
+
+use crate::cell::Cell;
+use crate::key::Key;
+use crate::known::Known;
+use crate::run::Run;
+use scan_values::NoMemory;
+use std::alloc::Global;
+use std::collections::BTreeMap;
+
+/// The place of the group of each key, and how many there are.
+#[derive(Drop)]
+pub(crate) struct Places {
+    pub keys: BTreeMap<Key, usize>,
+    count: usize,
+    known: Known,
+}
+
+impl Places {
+    /// No keys.
+    pub(crate) fn new(alloc: Global) -> Places
+        ensures keys { result.keys.entries ≡ [] }
+        ensures count { result.count ≡ 0 }
+        ensures known { (v : Val) → known result.known v ≡ None }
+    {
+        Places {
+            keys: BTreeMap::new(alloc),
+            count: 0,
+            known: Known::new(alloc),
+        }
+    }
+
+    fn find(&self, key: &Key) -> Option<usize>
+        ensures { result ≡ place_of self.now key.now }
+    {
+        self.keys.get(key).copied()
+    }
+
+    /// A key that has no place gets the next one.
+    pub(crate) fn begin(&mut self, key: Key) -> Result<usize, NoMemory>
+        requires { place_of self.old key ≡ None }
+        ensures { IfOk result (λ i. Begins self.old key i self.new) }
+    {
+        let place = self.count;
+        let Some(count) = place.checked_add(1) else {
+            return Err(NoMemory);
+        };
+        self.keys.insert(key, place)?;
+        self.count = count;
+        Ok(place)
+    }
+
+    /// The place of a key, a new one where it has none.
+    pub(crate) fn place(&mut self, key: Key) -> Result<usize, NoMemory>
+        ensures places { (keys : ℕ) (rows : List Row) (row : Row) → row.key ≡ key → ArePlaces keys rows self.old →
+            are_scalars key ≡ true → IfOk result (Placed keys rows row self.old self.new) }
+        ensures found { (i : ℕ) → place_of self.old key ≡ Some i → (self.new ≡ self.old) × IfOk result (λ p. p ≡ i) }
+    {
+        if let Some(place) = self.find(&key) {
+            return Ok(place);
+        }
+        self.begin(key)
+    }
+
+    /// The place of each key.
+    pub(crate) fn into_keys(self) -> BTreeMap<Key, usize>
+        ensures { result ≡ self.keys }
+    {
+        self.keys
+    }
+
+    /// The place of a key of one value.
+    pub(crate) fn place_cell(&mut self, alloc: Global, cell: Cell) -> Result<usize, NoMemory>
+        ensures { (keys : ℕ) (rows : List Row) (row : Row) → row.key ≡ cell_val cell.entry ∷ [] → ArePlaces keys rows self.old →
+            is_scalar (cell_val cell.entry) ≡ true → IfOk result (Placed keys rows row self.old self.new) }
+    {
+        if let Some(place) = self.known.get(cell) {
+            return Ok(place);
+        }
+        let place = self.place(Key::of(alloc, cell)?)?;
+        self.known.learn(alloc, cell, place)?;
+        Ok(place)
+    }
+
+    /// The places of keys of one value each.
+    pub(crate) fn place_run(&mut self, alloc: Global, run: Run) -> Result<Vec<usize>, NoMemory>
+        ensures even { IfOk result (λ ps. length ps.items ≡ length (run_vals run.entry)) }
+        ensures places { (keys : ℕ) (rows more : List Row) → map (λ row. row.key) more ≡ map (λ v. v ∷ []) (run_vals run.entry) →
+            ArePlaces keys rows self.old → list_all is_scalar (run_vals run.entry) ≡ true →
+            IfOk result (λ ps. PlacedAll keys rows more self.old self.new ps.items) }
+    {
+        let mut places = vec![in alloc; 0usize; run.len()]?;
+        for i in 0..places.len() {
+            places[i] = self.place_cell(alloc, run.cell(i))?;
+        }
+        Ok(places)
+    }
+}
