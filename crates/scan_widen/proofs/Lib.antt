@@ -1,0 +1,16 @@
+pub mod Fitting
+pub mod Leaves
+pub mod Slotted
+pub mod Again
+pub mod Fills
+pub mod RowsUnder
+pub mod RowsAll
+pub mod FormsAll
+pub mod Whole
+pub mod Forming
+pub mod Counting
+pub mod Readable
+pub mod Building
+pub mod Blanked
+pub mod RunBytes
+pub mod Gaining

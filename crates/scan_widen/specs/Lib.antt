@@ -1,0 +1,12 @@
+pub mod FitsUnder
+pub mod Wide
+pub mod Scalars
+pub mod Blanks
+pub mod Under
+pub mod Stores
+pub mod Rows
+pub mod Countable
+pub mod Counts
+pub mod Parts
+pub mod Slots
+pub mod Laws
