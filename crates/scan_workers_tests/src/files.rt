@@ -144,6 +144,116 @@ fn one_file(
     Ok(files)
 }
 
+/// Three files of three rows. The source of the first puts off its first polls, and that of the second fails.
+fn three_files(alloc: Global) -> Result<Vec<ScanFile<MemoryOpener, MemorySource>>, Fail>
+    ensures { IfOk result (λ files. All (λ f. (source_state f.source).live ≡ none_live) files.items) }
+{
+    let slow = source(alloc, 3, &[], &[0, 1, 2, 3, 4, 5, 6, 7, 8])?;
+    let failing = source(alloc, 3, &[0, 1, 2], &[])?;
+    let mut files = Vec::new(alloc);
+    files.push(file(alloc, 3, slow, &[])?)?;
+    files.push(file(alloc, 3, failing, &[])?)?;
+    files.push(file(alloc, 3, source(alloc, 3, &[], &[])?, &[])?)?;
+    Ok(files)
+}
+
+/// What two workers give of the three files, row by row, where they give something, and how many segments of the second
+/// file they ask for.
+pub(crate) fn of_three<R: Threads + Sync>(
+    rt: &R,
+    alloc: Global,
+    asked: Asked,
+) -> Result<(Option<Vec<(usize, u64, bool)>>, usize), Fail> {
+    let dtype = number();
+    let mut files = three_files(alloc)?;
+    let request = request(alloc, asked)?;
+    let mut cache = NoOpSegmentCache::new();
+    let gate = NoGate::new();
+    let given = scan_files(
+        rt, alloc, &dtype, &mut files, &mut cache, &request, 2, &gate,
+    );
+    let asked = if files.len() > 1 {
+        files[1].source.asked().len()
+    } else {
+        0
+    };
+    match given {
+        Ok(output) => Ok((Some(rows_of(alloc, output.chunks.as_slice())?), asked)),
+        Err(_) => Ok((None, asked)),
+    }
+}
+
+/// So many files of three rows. The polls of each one's source below a number are put off, and the first one's number is
+/// another.
+fn waiting_files(
+    alloc: Global,
+    files: usize,
+    first: u64,
+    others: u64,
+) -> Result<Vec<ScanFile<MemoryOpener, MemorySource>>, Fail>
+    ensures { IfOk result (λ files. All (λ f. (source_state f.source).live ≡ none_live) files.items) }
+{
+    let mut made = Vec::new(alloc);
+    for k in 0..files {
+        made.push(waiting_file(alloc, if k == 0 { first } else { others })?)?;
+    }
+    Ok(made)
+}
+
+/// A file of three rows. The polls of its source below this number are put off.
+fn waiting_file(alloc: Global, number: u64) -> Result<ScanFile<MemoryOpener, MemorySource>, Fail>
+    ensures { IfOk result (λ f. (source_state f.source).live ≡ none_live) }
+{
+    let numbers = below(alloc, number)?;
+    let source = source(alloc, 3, &[], numbers.as_slice())?;
+    file(alloc, 3, source, &[])
+}
+
+/// The numbers below one.
+fn below(alloc: Global, number: u64) -> Result<Vec<u64>, Fail> {
+    let mut numbers = Vec::new(alloc);
+    for k in 0..number {
+        numbers.push(k)?;
+    }
+    Ok(numbers)
+}
+
+/// The files of chunks.
+fn files_of(alloc: Global, chunks: &[ScanChunk]) -> Result<Vec<usize>, Fail> {
+    let mut files = Vec::new(alloc);
+    for chunk in chunks {
+        files.push(chunk.file)?;
+    }
+    Ok(files)
+}
+
+/// The files of the chunks of a scan of so many files without an order, as they come: the polls of the first one's source
+/// below a number are put off, and those of each other one below another.
+pub(crate) fn files_as_they_come<R: Threads + Sync>(
+    rt: &R,
+    alloc: Global,
+    workers: usize,
+    files: usize,
+    first: u64,
+    others: u64,
+) -> Result<Vec<usize>, Fail> {
+    let dtype = number();
+    let mut files = waiting_files(alloc, files, first, others)?;
+    let request = request(alloc, IN_ANY)?;
+    let mut cache = NoOpSegmentCache::new();
+    let output = scan_files(
+        rt,
+        alloc,
+        &dtype,
+        &mut files,
+        &mut cache,
+        &request,
+        workers,
+        &NoGate::new(),
+    )?;
+    files_of(alloc, output.chunks.as_slice())
+}
+
 /// The rows of chunks: of each its file, its number and whether it has its value.
 fn rows_of(alloc: Global, chunks: &[ScanChunk]) -> Result<Vec<(usize, u64, bool)>, Fail> {
     let mut rows = Vec::new(alloc);

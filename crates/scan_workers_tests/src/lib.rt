@@ -2,6 +2,8 @@
 #![tactic(auto)]
 
 #[cfg(test)]
+mod claims;
+#[cfg(test)]
 mod files;
 #[cfg(test)]
 mod gates;
@@ -9,5 +11,7 @@ mod gates;
 mod limits;
 #[cfg(test)]
 mod phases;
+#[cfg(test)]
+mod turns;
 #[cfg(test)]
 mod waits;

@@ -31,7 +31,8 @@ fn up_to(limit: u64, ordered: bool, least: Option<u8>) -> Asked {
     }
 }
 
-/// The second row's segment fails. The first row meets a limit of one, and without an order the first and the third one of two.
+/// The second row's segment fails. The first row meets a limit of one, and without an order the first and the third one of
+/// two, where a filter is to tell which rows are given: without one the first two claim it before they are read.
 #[test]
 fn no_fault_is_told_behind_the_limit(rt: HostRuntime) -> Result<(), Fail> {
     let alloc = rt.alloc();
@@ -39,8 +40,9 @@ fn no_fault_is_told_behind_the_limit(rt: HostRuntime) -> Result<(), Fail> {
         assert!(rt; gives(&rt, alloc, up_to(1, true, least), &[1], &[], Ok(&[0]))?);
         assert!(rt; gives(&rt, alloc, up_to(1, false, least), &[1], &[], Ok(&[0]))?);
         assert!(rt; gives(&rt, alloc, up_to(2, true, least), &[1], &[], Err(1))?);
-        assert!(rt; gives(&rt, alloc, up_to(2, false, least), &[1], &[], Ok(&[0, 2]))?);
         assert!(rt; gives(&rt, alloc, up_to(3, false, least), &[1], &[], Err(1))?);
     }
+    assert!(rt; gives(&rt, alloc, up_to(2, false, Some(0)), &[1], &[], Ok(&[0, 2]))?);
+    assert!(rt; gives(&rt, alloc, up_to(2, false, None), &[1], &[], Err(1))?);
     Ok(())
 }
