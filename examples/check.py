@@ -2,11 +2,14 @@
 """Holds manifests against the schema in docs/, and the schema and the examples against the program.
 
   check.py FILE..      says where each manifest leaves the form
-  check.py             the examples in cases/ against the schema and against statuses.txt, and the schema
+  check.py --why FILE.. says that, and of one that keeps the form where its request does not type, a layout or
+                       segment does not fit, or a sum overflows (why.py)
+  check.py             the examples of crates/siblaguur_examples/data against the schema and their statuses, and the schema
                        against the tests of the manifest's reader (crates/scan_vectors/src/manifest.rt)
   check.py --run       the same, and the program on each example: its status and its lines
   check.py --variants  the program on some hundred manifests that are made wrong in one place:
-                       it has status 2 exactly where the schema refuses
+                       it has status 2 exactly where the schema refuses, and the others' status is why.py's
+                       where no order of polls decides it
 
 The last two build the program once by `rt try`, in about a minute. Needs python3.8 alone.
 """
@@ -17,7 +20,10 @@ import sys
 import tempfile
 from pathlib import Path
 
+from why import why_refused
+
 HERE = Path(__file__).resolve().parent
+DATA = HERE.parent / "crates" / "siblaguur_examples" / "data"
 DOCS = HERE.parent / "docs"
 FORM = json.loads((DOCS / "manifest.schema.json").read_text())
 
@@ -218,6 +224,21 @@ def judge(data):
     return at and f"no manifest: {at[0]} {at[1]}"
 
 
+def explain(data):
+    """Which status these bytes have and why, at which place, or that rows come."""
+    form = judge(data)
+    if form:
+        return f"status 2: {form}"
+    refused = why_refused(read(data))
+    return "status {}: {} {}".format(*refused) if refused else "status 0: rows come"
+
+
+def is_sure(data):
+    """Whether no order of polls decides which of several faults the program tells, or whether it comes to one."""
+    text = data.decode(errors="replace")
+    return '"ordered": false' not in text and '"fail"' not in text
+
+
 # ---- against what the tests of the manifest's reader say of it
 
 READER = HERE.parent / "crates" / "scan_vectors" / "src" / "manifest.rt"
@@ -298,7 +319,7 @@ def variants(most):
 
 
 def manifests():
-    return sorted(p for p in (HERE / "cases").iterdir() if not p.suffix)
+    return sorted(p for p in (DATA / "cases").iterdir() if not p.suffix)
 
 
 def main(words):
@@ -306,11 +327,12 @@ def main(words):
     unknown = unknown_words(FORM)
     if unknown:
         bad.append(f"the schema uses words that are not known here: {unknown}")
-    if words and not words[0].startswith("--"):
-        for word in words:
-            print(f"{word}: {judge(Path(word).read_bytes()) or 'a manifest'}")
+    if words and (words[0] == "--why" or not words[0].startswith("--")):
+        is_why = words[0] == "--why"
+        for word in words[is_why:]:
+            print(f"{word}: {explain(Path(word).read_bytes()) if is_why else judge(Path(word).read_bytes()) or 'a manifest'}")
         return 0
-    lines = (HERE / "statuses.txt").read_text().splitlines()
+    lines = (DATA / "statuses.txt").read_text().splitlines()
     wanted = {line.split()[0]: int(line.split()[1]) for line in lines if line and line[0] != "#"}
     for path in manifests():
         data, status = path.read_bytes(), wanted.get(path.name)
@@ -319,13 +341,16 @@ def main(words):
             bad.append(f"{path.name}: wanted status {status}, and the schema says: {why}")
         if not agrees_with_jsonschema(data):
             bad.append(f"{path.name}: jsonschema judges otherwise")
+        told = explain(data)
+        if status != 1 and not told.startswith(f"status {status}: "):
+            bad.append(f"{path.name}: wanted status {status}, and why.py says: {told}")
     rows = list(reader_rows())
     bad += [f"the reader's tests say {taken} of: {text}" for text, taken in rows if (judge(text.encode()) is None) != taken]
     bad += [f"jsonschema judges otherwise: {text}" for text, _ in rows if not agrees_with_jsonschema(text.encode())]
     if set(wanted) != {p.name for p in manifests()}:
         bad.append("statuses.txt and cases/ name different examples")
     if "--run" in words:
-        statuses, right = run(HERE / "cases")
+        statuses, right = run(DATA / "cases")
         bad += [] if right else ["the program wrote other lines"]
         bad += [f"{n}: wanted status {wanted[n]}, found {statuses.get(n)}" for n in wanted if statuses.get(n) != wanted[n]]
     if "--variants" in words:
@@ -338,6 +363,8 @@ def main(words):
                 why, status = judge(text), statuses.get(f"v{i}")
                 if (why is not None) != (status == 2) or not agrees_with_jsonschema(text):
                     bad.append(f"status {status}, and the schemas say: {why}: {text.decode()}")
+                elif is_sure(text) and not explain(text).startswith(f"status {status}: "):
+                    bad.append(f"status {status}, and why.py says: {explain(text)}: {text.decode()}")
             print(f"{len(texts)} variants, {sum(s == 2 for s in statuses.values())} of them refused by status 2")
     print("\n".join(bad) or f"{len(wanted)} examples and {len(rows)} texts of the reader's tests agree")
     return 1 if bad else 0
