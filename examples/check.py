@@ -30,18 +30,32 @@ FORM = json.loads((DOCS / "manifest.schema.json").read_text())
 
 # ---- JSON as the program reads it
 
-def no_number(text):
-    raise ValueError(f"{text}: a number has no fraction and no exponent")
+class NoNumber:
+    """What stands where the form has no such number, and why."""
 
-
-def whole(text):
-    if text == "-0" or not -2**63 <= int(text) < 2**64:
-        raise ValueError(f"{text} is no number of the form")
-    return int(text)
+    def __init__(self, text, why):
+        self.text, self.why = text, why
 
 
 def read(data):
-    return json.loads(data.decode("utf-8"), parse_int=whole, parse_float=no_number, parse_constant=no_number)
+    """The JSON value; a ValueError tells the place of a number that the form has not."""
+    found = []
+
+    def no_number(text, why="a number has no fraction and no exponent"):
+        found.append(NoNumber(text, why))
+        return found[-1]
+
+    def whole(text):
+        is_one = text != "-0" and -2**63 <= int(text) < 2**64
+        return int(text) if is_one else no_number(text, "it is -0, or past 64 bits")
+
+    value = json.loads(data.decode("utf-8"), parse_int=whole, parse_float=no_number, parse_constant=no_number)
+    for part, place in walk(value) if found else ():
+        if isinstance(part, NoNumber):
+            raise ValueError(f"{place} is {part.text}: {part.why}")
+    if found:  # under a key that stands again behind it
+        raise ValueError(f"{found[0].text}: {found[0].why}")
+    return value
 
 
 # ---- a validator for the words that the schema uses: the first place that does not fit, or None
@@ -73,11 +87,15 @@ def fault(schema, value, root, place="$"):
     return None
 
 
-def check_ref(ref, value, root, place, _):
+def resolved(ref, root):
     schema = root
     for part in ref.lstrip("#/").split("/"):
         schema = schema[part]
-    return fault(schema, value, root, place)
+    return schema
+
+
+def check_ref(ref, value, root, place, _):
+    return fault(resolved(ref, root), value, root, place)
 
 
 def check_type(kinds, value, root, place, _):
@@ -85,11 +103,17 @@ def check_type(kinds, value, root, place, _):
     return None if any(KINDS[k](value) for k in kinds) else (place, f"is no {' or '.join(kinds)}")
 
 
+def keys_known(branch, value, root):
+    schema = resolved(branch["$ref"], root) if "$ref" in branch else branch
+    return len(schema.get("properties", {}).keys() & value) if isinstance(value, dict) else 0
+
+
 def check_any(branches, value, root, place, _):
     faults = [fault(b, value, root, place) for b in branches]
     if None in faults:
         return None
-    return max(faults, key=lambda f: len(f[0]))  # the branch that went furthest
+    known = [keys_known(b, value, root) for b in branches]
+    return max(zip(known, faults), key=lambda f: (f[0], len(f[1][0])))[1]  # the branch with most of its keys, that went furthest
 
 
 def check_items(schema, value, root, place, around):
@@ -146,7 +170,7 @@ WORDS = {
     "$ref": check_ref,
     "type": check_type,
     "anyOf": check_any,
-    "not": lambda s, v, root, place, _: None if fault(s, v, root, place) else (place, f"has what excludes each other: {s}"),
+    "not": lambda s, v, root, place, _: None if fault(s, v, root, place) else (place, f"has {' and '.join(s['required'])}, of which one may stand"),
     "const": lambda c, v, root, place, _: None if same(c, v) else (place, f"is not {json.dumps(c)}"),
     "enum": lambda cs, v, root, place, _: None if any(same(c, v) for c in cs) else (place, f"is none of {cs}"),
     "items": check_items,
@@ -219,7 +243,7 @@ def judge(data):
     try:
         manifest = read(data)
     except (ValueError, RecursionError) as e:
-        return f"no JSON: {e}"
+        return f"no JSON of the form: {e}"
     at = fault(FORM, manifest, FORM) or beyond(manifest)
     return at and f"no manifest: {at[0]} {at[1]}"
 
