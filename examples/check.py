@@ -11,7 +11,8 @@
                        it has status 2 exactly where the schema refuses, and the others' status is why.py's
                        where no order of polls decides it
 
-The last two build the program once by `rt try`, in about a minute. Needs python3.8 alone.
+The last two build the program once by `rt try`, in about a minute. wrong.py tries --why on manifests that it makes wrong. Needs
+python3.8 alone.
 """
 import json
 import re
