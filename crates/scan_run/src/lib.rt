@@ -17,6 +17,7 @@ pub use line::{push_line, push_value};
 pub use memory_input::MemoryInput;
 pub use memory_output::MemoryOutput;
 pub use output::{Output, OutputWrite, WriteFault, write_all};
+pub use print::write_output;
 pub use scan_manifest::{
     CacheSpec, FileSpec, Manifest, ParseFault, manifest_of, manifest_of_bytes, read_expression,
 };

@@ -186,9 +186,14 @@ fn write_chunks<O: Output>(
     }
 }
 
-/// Writes the lines of all chunks of a scan's output, which are of one dtype. It takes the memory of a piece, and of the
-/// heads of the dtype.
-pub(crate) fn write_output<O: Output>(
+/// Writes the lines of all chunks of a scan's output, which are of one dtype: a line a row, in their order, in pieces of
+/// 65,536 bytes and more where a line is longer. After a fault the output has taken a front of the lines. It takes the
+/// memory of a piece, and of the heads of the dtype.
+///
+/// # Errors
+///
+/// `Failed` only where the output's count of faults rose, and `NoMemory`.
+pub fn write_output<O: Output>(
     alloc: Global,
     output: &mut O,
     out: &ColumnOutput,
