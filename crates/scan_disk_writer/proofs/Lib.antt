@@ -1,0 +1,9 @@
+mod DTypesAgain
+mod LayoutsAgain
+mod PlacesAgain
+mod Frames
+mod Files
+mod Depths
+mod Jsons
+mod Taking
+mod Refusing
