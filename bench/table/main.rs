@@ -1,186 +1,15 @@
-//! The program's `table` written by hand: a manifest of files of two i32 columns without nulls, a key and a count and a sum
-//! are read from standard input, and a line of each group is written. It refuses what is damaged. No cache, no filter, no
-//! other keys and measures, one worker.
-use std::collections::{BTreeMap, HashMap};
-use std::io::{Read, Write};
+//! The program's `table` written by hand: a manifest of files of i32 columns without nulls, a key and a count and a sum
+//! are read from standard input, and a line of each group is written. It refuses what is damaged, and reads the two columns
+//! that are asked for alone. No cache, no filter, no other keys and measures, one worker.
+#[path = "../plain.rs"]
+mod shared;
 
-const MOST: u64 = 67_108_864;
-
-/// An exit status.
-type Status<T> = Result<T, i32>;
-
-// ---- JSON
-enum Json<'a> {
-    Number(u64),
-    Text(&'a str),
-    List(Vec<Json<'a>>),
-    Map(BTreeMap<&'a str, Json<'a>>),
-}
-
-struct Reader<'a> {
-    text: &'a str,
-    bytes: &'a [u8],
-    at: usize,
-}
-
-impl<'a> Reader<'a> {
-    fn blanks(&mut self) {
-        while let Some(b' ' | b'\n' | b'\t' | b'\r') = self.bytes.get(self.at) {
-            self.at += 1;
-        }
-    }
-
-    fn next(&self) -> Status<u8> {
-        self.bytes.get(self.at).copied().ok_or(2)
-    }
-
-    fn byte(&mut self, byte: u8) -> Status<()> {
-        self.blanks();
-        if self.next()? != byte {
-            return Err(2);
-        }
-        self.at += 1;
-        Ok(())
-    }
-
-    fn value(&mut self, depth: u32) -> Status<Json<'a>> {
-        if depth == 0 {
-            return Err(2);
-        }
-        self.blanks();
-        match self.next()? {
-            b'"' => self.string().map(Json::Text),
-            b'[' => self.list(depth).map(Json::List),
-            b'{' => self.map(depth).map(Json::Map),
-            _ => self.number().map(Json::Number),
-        }
-    }
-
-    /// Steps over the end of a list or map, or over a comma.
-    fn ends(&mut self, end: u8, is_first: bool) -> Status<bool> {
-        self.blanks();
-        if self.next()? == end {
-            self.at += 1;
-            return Ok(true);
-        }
-        if !is_first {
-            self.byte(b',')?;
-        }
-        Ok(false)
-    }
-
-    fn list(&mut self, depth: u32) -> Status<Vec<Json<'a>>> {
-        self.at += 1;
-        let mut items = Vec::new();
-        while !self.ends(b']', items.is_empty())? {
-            items.push(self.value(depth - 1)?);
-        }
-        Ok(items)
-    }
-
-    fn map(&mut self, depth: u32) -> Status<BTreeMap<&'a str, Json<'a>>> {
-        self.at += 1;
-        let mut items = BTreeMap::new();
-        while !self.ends(b'}', items.is_empty())? {
-            self.blanks();
-            let key = self.string()?;
-            self.byte(b':')?;
-            items.insert(key, self.value(depth - 1)?);
-        }
-        Ok(items)
-    }
-
-    fn number(&mut self) -> Status<u64> {
-        let from = self.at;
-        let mut n = 0u64;
-        while let Some(digit @ b'0'..=b'9') = self.bytes.get(self.at) {
-            n = n.checked_mul(10).and_then(|n| n.checked_add(u64::from(digit - b'0'))).ok_or(2)?;
-            self.at += 1;
-        }
-        let len = self.at - from;
-        if len == 0 || (len > 1 && self.bytes[from] == b'0') { Err(2) } else { Ok(n) }
-    }
-
-    /// A text without escapes.
-    fn string(&mut self) -> Status<&'a str> {
-        self.byte(b'"')?;
-        let len = self.bytes[self.at..].iter().position(|b| *b == b'"').ok_or(2)?;
-        let text = &self.text[self.at..self.at + len];
-        self.at += len + 1;
-        if text.bytes().any(|b| b < 32 || b == b'\\') { Err(2) } else { Ok(text) }
-    }
-}
-
-impl<'a> Json<'a> {
-    fn part(&self, keys: &[&str], key: &str) -> Status<&Json<'a>> {
-        match self {
-            Json::Map(map) if map.keys().all(|key| keys.contains(key)) => map.get(key).ok_or(2),
-            _ => Err(2),
-        }
-    }
-
-    fn list(&self) -> Status<&[Json<'a>]> {
-        match self {
-            Json::List(items) => Ok(items),
-            _ => Err(2),
-        }
-    }
-
-    fn pair(&self) -> Status<(&Json<'a>, &Json<'a>)> {
-        match self.list()? {
-            [first, second] => Ok((first, second)),
-            _ => Err(2),
-        }
-    }
-
-    fn text(&self) -> Status<&'a str> {
-        match self {
-            Json::Text(text) => Ok(text),
-            _ => Err(2),
-        }
-    }
-
-    fn number(&self) -> Status<u64> {
-        match self {
-            Json::Number(n) => Ok(*n),
-            _ => Err(2),
-        }
-    }
-
-    /// The name in `{"get":[name,"$"]}`.
-    fn field(&self) -> Status<&'a str> {
-        let (name, root) = self.part(&["get"], "get")?.pair()?;
-        if root.text()? == "$" { name.text() } else { Err(2) }
-    }
-}
+use shared::{Json, Status, hex, read_input};
+use std::collections::HashMap;
+use std::hash::{BuildHasherDefault, Hasher};
+use std::io::Write;
 
 // ---- files
-/// What each byte is as a digit, or 255.
-static DIGITS: [u8; 256] = {
-    let mut table = [255; 256];
-    let mut n = 0;
-    while n < 16 {
-        table[b"0123456789abcdef"[n] as usize] = n as u8;
-        table[b"0123456789ABCDEF"[n] as usize] = n as u8;
-        n += 1;
-    }
-    table
-};
-
-fn hex(text: &str) -> Status<Vec<u8>> {
-    let (pairs, rest) = text.as_bytes().as_chunks::<2>();
-    let mut seen = 0;
-    let bytes = pairs
-        .iter()
-        .map(|[high, low]| {
-            let (high, low) = (DIGITS[*high as usize], DIGITS[*low as usize]);
-            seen |= high | low;
-            high << 4 | low & 15
-        })
-        .collect();
-    if seen > 15 || !rest.is_empty() { Err(2) } else { Ok(bytes) }
-}
-
 struct File {
     leaves: Vec<Vec<(u64, u64)>>,
     rows: u64,
@@ -227,11 +56,23 @@ fn column(file: &File, place: usize) -> Status<Vec<i32>> {
     Ok(numbers)
 }
 
-// ---- the table
+// ---- what is asked
 /// The places of the key's and of the sum's field, and the names of the key, the count and the sum.
-fn asked<'a>(json: &Json<'a>, fields: &[&str]) -> Status<([usize; 2], [&'a str; 3])> {
+struct Asked {
+    key: usize,
+    value: usize,
+    names: [String; 3],
+}
+
+/// The name in `{"get":[name,"$"]}`.
+fn field<'a>(json: &'a Json) -> Status<&'a str> {
+    let (name, root) = json.part(&["get"], "get")?.pair()?;
+    if root.text()? == "$" { name.text() } else { Err(2) }
+}
+
+fn asked(json: &Json, fields: &[&str]) -> Status<Asked> {
     let place = |json: &Json| {
-        let name = json.field()?;
+        let name = field(json)?;
         fields.iter().position(|field| *field == name).ok_or(3)
     };
     let keys = ["manifest", "keys", "measures"];
@@ -243,10 +84,11 @@ fn asked<'a>(json: &Json<'a>, fields: &[&str]) -> Status<([usize; 2], [&'a str; 
     if kind.text()? != "count" || sums.text()? != "sum" {
         return Err(2);
     }
-    Ok(([place(key)?, place(value)?], [name.text()?, count.text()?, total.text()?]))
+    let names = [name.text()?.to_owned(), count.text()?.to_owned(), total.text()?.to_owned()];
+    Ok(Asked { key: place(key)?, value: place(value)?, names })
 }
 
-fn fields<'a>(json: &Json<'a>) -> Status<Vec<&'a str>> {
+fn fields<'a>(json: &'a Json) -> Status<Vec<&'a str>> {
     let fields = json.part(&["struct"], "struct")?.list()?.iter().map(|field| {
         let (name, kind) = field.pair()?;
         if kind.text()? == "i32" { name.text() } else { Err(2) }
@@ -254,46 +96,75 @@ fn fields<'a>(json: &Json<'a>) -> Status<Vec<&'a str>> {
     fields.collect()
 }
 
-fn run() -> Status<()> {
-    if !std::env::args().skip(1).eq(["table"]) {
-        return Err(1);
-    }
-    let mut bytes = Vec::new();
-    std::io::stdin().lock().take(MOST + 1).read_to_end(&mut bytes).map_err(|_| 6)?;
-    if bytes.len() as u64 > MOST {
-        return Err(6);
-    }
-    let text = std::str::from_utf8(&bytes).map_err(|_| 2)?;
-    let mut reader = Reader { text, bytes: text.as_bytes(), at: 0 };
-    let json = reader.value(128)?;
-    reader.blanks();
-    if reader.at != bytes.len() {
-        return Err(2);
-    }
+fn job(json: &Json) -> Status<(Vec<File>, Asked)> {
     let manifest = json.part(&["manifest", "keys", "measures"], "manifest")?;
     let keys = ["dtype", "files", "request"];
     if manifest.part(&keys, "request")?.part(&["projection"], "projection")?.text()? != "$" {
         return Err(2);
     }
     let fields = fields(manifest.part(&keys, "dtype")?)?;
-    let files = manifest.part(&keys, "files")?.list()?.iter().map(file).collect::<Status<Vec<_>>>()?;
-    let ([key, value], names) = asked(&json, &fields)?;
-    let mut groups: HashMap<i32, (u64, i128)> = HashMap::new();
-    for file in &files {
-        for (key, value) in column(file, key)?.into_iter().zip(column(file, value)?) {
-            let group = groups.entry(key).or_default();
-            group.0 += 1;
-            group.1 += i128::from(value);
-        }
+    let files = manifest.part(&keys, "files")?.list()?.iter().map(file).collect::<Status<_>>()?;
+    Ok((files, asked(json, &fields)?))
+}
+
+// ---- the table
+/// Hashes one number by a product. The default hasher withstands chosen keys and takes three times as much for all groups.
+#[derive(Default)]
+struct OfNumbers(u64);
+
+impl Hasher for OfNumbers {
+    fn write(&mut self, _: &[u8]) {
+        unreachable!("numbers alone are hashed");
     }
+
+    fn write_i32(&mut self, n: i32) {
+        self.0 = u64::from(n.cast_unsigned()).wrapping_mul(0x9e37_79b9_7f4a_7c15);
+    }
+
+    fn finish(&self) -> u64 {
+        self.0.rotate_left(26)
+    }
+}
+
+/// The number of rows of a key, and the sum of their values, which the input's length keeps within 64 bits.
+#[derive(Clone, Copy, Default)]
+struct Group {
+    rows: u64,
+    sum: i64,
+}
+
+type Groups = HashMap<i32, Group, BuildHasherDefault<OfNumbers>>;
+
+fn add(groups: &mut Groups, file: &File, asked: &Asked) -> Status<()> {
+    for (key, value) in column(file, asked.key)?.into_iter().zip(column(file, asked.value)?) {
+        let group = groups.entry(key).or_default();
+        group.rows += 1;
+        group.sum += i64::from(value);
+    }
+    Ok(())
+}
+
+fn print(groups: Groups, names: &[String; 3]) -> std::io::Result<()> {
     let mut groups: Vec<_> = groups.into_iter().collect();
     groups.sort_unstable_by_key(|group| group.0);
     let mut out = std::io::BufWriter::new(std::io::stdout().lock());
     let [key, count, sum] = names;
-    for (k, (n, s)) in groups {
-        writeln!(out, "{{\"{key}\":{k},\"{count}\":{n},\"{sum}\":{s}}}").map_err(|_| 6)?;
+    for (k, group) in groups {
+        writeln!(out, "{{\"{key}\":{k},\"{count}\":{},\"{sum}\":{}}}", group.rows, group.sum)?;
     }
-    out.flush().map_err(|_| 6)
+    out.flush()
+}
+
+fn run() -> Status<()> {
+    if !std::env::args().skip(1).eq(["table"]) {
+        return Err(1);
+    }
+    let (files, asked) = read_input(job)?;
+    let mut groups = Groups::default();
+    for file in &files {
+        add(&mut groups, file, &asked)?;
+    }
+    print(groups, &asked.names).map_err(|_| 6)
 }
 
 fn main() {
