@@ -1,6 +1,6 @@
 //! A leaf's segment, read in place. Texts are not of one width, and of them it is kept where each ends: with the bytes, so
 //! that the segment is tested once for all who hold these.
-ghost use Rattle.std.specs.Prelude.{◌≡◌, ◌<◌, ◌≤◌, ◌+◌, ◌*◌, ◌==◌, length, replicate, take, drop, map, get_or, slice_get, is_some, option_and_then, option_map, IfOk, IfSome, IsTrue, List, Some, true, false};
+ghost use Rattle.std.specs.Prelude.{◌≡◌, ◌<◌, ◌≤◌, ◌+◌, ◌*◌, ◌==◌, length, replicate, take, drop, map, slice_get, is_some, option_map, IfOk, IfSome, IsTrue, List, Some, true, false};
 ghost use Rattle.std.specs.List.{items_where_true, slice_range};
 ghost use Rattle.scan_values.specs.Arrays.{of_parts};
 ghost use Rattle.scan_values.specs.Kinds.{is_scalar_type, kind_of, ptype_of};
@@ -10,19 +10,20 @@ ghost use Rattle.scan_values.specs.Marked.{is_true};
 ghost use Rattle.scan_values.specs.Masks.{true_count};
 ghost use Rattle.scan_values.specs.Fits.{fits, fits_all, is_bool_type, is_utf8_type};
 ghost use Rattle.scan_values.specs.Values.{val_of};
-ghost use Rattle.scan_spelling.specs.Spelling.{are_bytes, content, bool_of, under_flag, cells, bits_of, bytes_for, group_size, flags_in, decode_slots, decode_under, decode};
+ghost use Rattle.scan_spelling.specs.Spelling.{are_bytes, cells, bits_of, bytes_for, group_size, decode_slots, decode_under, decode};
 ghost use Rattle.scan_spelling.specs.Spells.{Spells};
 ghost use Rattle.scan_spelling.specs.Decoded.{Gives};
-ghost use Rattle.scan_spelling.specs.LeafColumns.{slot_width, has_width, or_none, spelled, spread, are_flags, is_row, are_rows, is_here, is_set, int_or_null, bool_or_null, text_or_null};
+ghost use Rattle.scan_spelling.specs.LeafColumns.{has_width, or_none, spelled, spread, is_here, is_set, int_or_null, bool_or_null, text_or_null};
 ghost use Rattle.scan_spelling.specs.TextColumns.{ends_under};
 ghost use Rattle.scan_spelling.specs.SlotValues.{slot_val};
 
-use crate::bits::{bit, is_group};
+use crate::bits::bit;
 use crate::known_ends::known_ends;
-use crate::read::{group_size, width};
+use crate::read::group_size;
 use crate::run::{BoolRun, IntRun, bool_run, flags_between, int_run};
 use crate::slot::SlotValue;
 use crate::spelling::{DecodeFault, Spelling};
+use crate::spelt::{is_spelling, slot_width};
 use crate::text_run::{TextRun, text_run};
 use crate::texts::{flag_bytes, flag_of, text_under};
 use scan_segments::{ByteBuffer, TextEnds};
@@ -45,11 +46,9 @@ impl Model for LeafColumn {
     ghost use Rattle.std.specs.Prelude.{◌≡◌, Some, false};
     ghost use Rattle.scan_values.specs.declared.dtype.DTypeKind.{DTypeKind};
     ghost use Rattle.scan_values.specs.Arrays.{ArrayData, array_code};
-    ghost use Rattle.scan_values.specs.DataType.{nullability_of};
     ghost use Rattle.scan_values.specs.Kinds.{kind_of};
     ghost use Rattle.scan_spelling.specs.Spelling.{decode};
     ghost use Rattle.scan_spelling.specs.LeafColumns.{has_width, spelled};
-    ghost use Rattle.scan_spelling.specs.TextColumns.{ends_under};
 
     ghost Value = { ArrayData };
 
@@ -61,157 +60,6 @@ impl Model for LeafColumn {
         (decode a.spelling a.dtype a.rows a.bytes ≡ Some (spelled a.spelling a.dtype a.rows a.bytes))
         × (has_width (kind_of a.dtype) ≡ false → (kind_of a.dtype ≡ DTypeKind.Utf8)
         × (ends_under a.spelling (nullability_of a.dtype) a.rows a.bytes ≡ Some a.ends)) };
-}
-
-// The bytes of a slot.
-fn slot_width(kind: DTypeKind) -> usize
-    ensures same { result ≡ slot_width kind }
-    ensures low { result ≤ 8 }
-{
-    match kind {
-        DTypeKind::Bool => 1,
-        DTypeKind::Primitive(ptype) => width(ptype),
-        DTypeKind::Utf8 | DTypeKind::List | DTypeKind::Struct => 0,
-    }
-}
-
-// Whether each byte is 0 or 1, without a way out.
-fn are_flags(flags: &[u8]) -> bool
-    ensures { result ≡ are_flags flags.now }
-{
-    let mut good = true;
-    for flag in flags {
-        good &= *flag < 2;
-    }
-    good
-}
-
-// Whether a Bool's byte may stand under its flag.
-fn is_row(flag: u8, byte: u8) -> bool
-    ensures { result ≡ is_row flag byte }
-{
-    (flag == 0) | ((flag == 1) & (byte < 2))
-}
-
-// Whether each Bool's byte may stand under its flag, without a way out.
-fn are_rows(flags: &[u8], bytes: &[u8]) -> bool
-    requires { length flags.now ≡ length bytes.now }
-    ensures { result ≡ are_rows flags.now bytes.now }
-{
-    let mut good = true;
-    for i in 0..flags.len() {
-        good &= is_row(flags[i], bytes[i]);
-    }
-    good
-}
-
-// Whether so many slots of a width are so many bytes.
-fn is_long(rows: u64, width: usize, bytes: &[u8]) -> bool
-    requires { width ≤ 8 }
-    ensures { result ≡ (rows * width == length bytes.now) }
-{
-    (rows as u128) * (width as u128) == bytes.len() as u128
-}
-
-// Whether these are the slots of so many rows.
-fn are_plain(kind: DTypeKind, rows: u64, bytes: &[u8]) -> bool
-    requires { has_width kind ≡ true }
-    ensures { result ≡ is_some (cells kind (replicate rows 1) bytes.now) }
-{
-    if !is_long(rows, slot_width(kind), bytes) {
-        return false;
-    }
-    match kind {
-        DTypeKind::Bool => are_flags(bytes),
-        _ => true,
-    }
-}
-
-// Whether these are the slots under these flags.
-fn are_flagged(kind: DTypeKind, flags: &[u8], bytes: &[u8]) -> bool
-    requires { has_width kind ≡ true }
-    ensures { result ≡ is_some (cells kind flags.now bytes.now) }
-{
-    if !is_long(flags.len() as u64, slot_width(kind), bytes) {
-        return false;
-    }
-    match kind {
-        DTypeKind::Bool => are_rows(flags, bytes),
-        _ => are_flags(flags),
-    }
-}
-
-// Whether these are the slots of so many rows that are all there.
-fn are_plain_slots(spelling: Spelling, kind: DTypeKind, rows: u64, bytes: &[u8]) -> bool
-    requires { has_width kind ≡ true }
-    ensures { result ≡ is_some (decode_slots spelling kind rows (replicate rows 1) bytes.now) }
-{
-    match (spelling, kind) {
-        (Spelling::Two, DTypeKind::Bool) => is_group(bytes, rows),
-        _ => are_plain(kind, rows, bytes),
-    }
-}
-
-// Whether these are the slots of so many rows under bits.
-fn are_under_bits(kind: DTypeKind, rows: u64, flags: &[u8], bytes: &[u8]) -> bool
-    requires width { has_width kind ≡ true }
-    requires flags { length flags.now ≡ bytes_for rows }
-    ensures { result ≡ is_some (decode_slots Spelling.Two kind rows (take rows (bits_of flags.now)) bytes.now) }
-{
-    match kind {
-        DTypeKind::Bool => is_group(bytes, rows),
-        _ => is_long(rows, slot_width(kind), bytes),
-    }
-}
-
-// Whether these are the flags and the slots of so many rows.
-fn are_flagged_slots(
-    spelling: Spelling,
-    kind: DTypeKind,
-    rows: u64,
-    flags: &[u8],
-    bytes: &[u8],
-) -> bool
-    requires width { has_width kind ≡ true }
-    requires flags { length flags.now ≡ group_size spelling rows }
-    ensures { result ≡ is_some
-        (option_and_then (λ fs. decode_slots spelling kind rows fs bytes.now) (flags_in spelling rows flags.now)) }
-{
-    match spelling {
-        Spelling::One => are_flagged(kind, flags, bytes),
-        Spelling::Two => {
-            if !is_group(flags, rows) {
-                return false;
-            }
-            are_under_bits(kind, rows, flags, bytes)
-        }
-    }
-}
-
-// Whether the bytes spell so many rows.
-fn is_spelling(
-    spelling: Spelling,
-    kind: DTypeKind,
-    nullability: Nullability,
-    rows: u64,
-    bytes: &[u8],
-) -> bool
-    requires { has_width kind ≡ true }
-    ensures { result ≡ is_some (decode_under spelling nullability kind rows bytes.now) }
-{
-    match nullability {
-        Nullability::NonNullable => are_plain_slots(spelling, kind, rows, bytes),
-        Nullability::Nullable => {
-            let Ok(size) = usize::try_from(group_size(spelling, rows)) else {
-                return false;
-            };
-            if bytes.len() < size {
-                return false;
-            }
-            let (flags, slots) = bytes.split_at(size);
-            are_flagged_slots(spelling, kind, rows, flags, slots)
-        }
-    }
 }
 
 // The slot at a place.

@@ -9,6 +9,7 @@ mod recode;
 mod run;
 mod slot;
 pub mod spelling;
+mod spelt;
 mod text_run;
 mod texts;
 mod write;

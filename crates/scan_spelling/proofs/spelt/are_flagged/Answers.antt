@@ -1,7 +1,7 @@
 use Rattle.std.proofs.Common.{◌≡◌, ◌*◌, ◌==◌, length, true, false, ◌∙◌}
 use Rattle.scan_spelling.specs.LeafColumns.{slot_width}
 use Rattle.scan_spelling.proofs.Columns.{not_long, flagged_bools, flagged_ints}
-use Rattle.scan_spelling.proofs.column.are_flagged.Goals as goal
+use Rattle.scan_spelling.proofs.spelt.are_flagged.Goals as goal
 
 pub returns-then-not-is_long : goal.returns-then-not-is_long
 returns-then-not-is_long c =

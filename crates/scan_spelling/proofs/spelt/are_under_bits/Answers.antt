@@ -1,6 +1,6 @@
 use Rattle.std.proofs.Common.{◌∙◌, ◌*◌, ◌==◌, ap, length}
 use Rattle.scan_spelling.proofs.BitColumns.{flag_bits_of, under_bits}
-use Rattle.scan_spelling.proofs.column.are_under_bits.Goals as goal
+use Rattle.scan_spelling.proofs.spelt.are_under_bits.Goals as goal
 
 pub returns-in-Bool : goal.returns-in-Bool
 returns-in-Bool c = c.is_group.ensures ∙ flag_bits_of c.args.kind c.args.rows c.args.flags.now c.args.bytes.now c.in-Bool.is c.requires.flags
