@@ -46,9 +46,11 @@ impl Model for LeafColumn {
     ghost use Rattle.std.specs.Prelude.{◌≡◌, Some, false};
     ghost use Rattle.scan_values.specs.declared.dtype.DTypeKind.{DTypeKind};
     ghost use Rattle.scan_values.specs.Arrays.{ArrayData, array_code};
+    ghost use Rattle.scan_values.specs.DataType.{nullability_of};
     ghost use Rattle.scan_values.specs.Kinds.{kind_of};
     ghost use Rattle.scan_spelling.specs.Spelling.{decode};
     ghost use Rattle.scan_spelling.specs.LeafColumns.{has_width, spelled};
+    ghost use Rattle.scan_spelling.specs.TextColumns.{ends_under};
 
     ghost Value = { ArrayData };
 
