@@ -23,6 +23,7 @@ impl Column {
 impl Lists {
     /// Where each list ends among the elements of all, whether it is there, and those elements; a list begins where the
     /// one before it ends, the first at 0.
+    #[tactic(auto, using(crate::proofs::NestedLemmas::sizes_length))]
     pub fn parts<'a>(&'a self) -> (&'a [usize], &'a [bool], &'a Cells)
         ensures rises { Rises 0 result.0.now }
         ensures whole { total (sizes 0 result.0.now) ≡ length (vals_in result.2.now) }
