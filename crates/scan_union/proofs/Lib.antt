@@ -1,0 +1,12 @@
+pub mod Answering
+pub mod Causing
+pub mod Concluding
+pub mod Ending
+pub mod Judging
+pub mod Moved
+pub mod Parting
+pub mod Scanned
+pub mod Seating
+pub mod Spots
+pub mod Stopping
+pub mod Walking
