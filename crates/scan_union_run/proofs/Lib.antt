@@ -1,0 +1,4 @@
+mod Reading
+mod Stopping
+mod Running
+mod Answering
