@@ -1,0 +1,40 @@
+//! Reads a manifest from standard input, scans its files under its dtype, and prints a line for each row.
+#![tactic(auto)]
+
+use scan_run::{NoGate, StdInput, StdOutput};
+use scan_union_run::run_union;
+use std::env;
+use std::io::{Error, ErrorKind};
+use std::process::ExitCode;
+
+fn main(rt: HostRuntime) -> ExitCode {
+    let args = match env::args(&rt) {
+        Ok(args) => args,
+        Err(fault) => return ExitCode::from(status_of(&fault)),
+    };
+    let mut words = Vec::new(rt.alloc());
+    for word in args.skip(1) {
+        if words.push(word).is_err() {
+            return ExitCode::from(7);
+        }
+    }
+    let mut input = StdInput::new(rt.stdin());
+    let mut output = StdOutput::new(rt.stdout());
+    let gate = NoGate::new();
+    ExitCode::from(run_union(
+        &rt,
+        rt.alloc(),
+        words.as_slice(),
+        &mut input,
+        &mut output,
+        &gate,
+    ))
+}
+
+/// The status where the words can't be had: want of memory, or a word that is no text.
+fn status_of(fault: &Error) -> u8 {
+    match fault.kind() {
+        ErrorKind::OutOfMemory => 7,
+        _ => 1,
+    }
+}
