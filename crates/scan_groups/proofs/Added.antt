@@ -2,7 +2,7 @@
 use Rattle.std.proofs.Common.{◌≡◌, ◌⊎◌, inl, inr, ℕ, zero, suc, ◌+◌, ◌-◌, ◌<◌, ◌≤◌, Bool, true, false, cond, List, [], ◌∷◌, ◌++◌, length, get_or, set, take, map, refl, sym, ap, ◌∙◌, subst, arith, append_assoc, append-nil}
 use Rattle.std.specs.Prelude.{◌==◌, All, IfOk, Result, Ok, Err, ℤ, replicate, not, filter}
 use Rattle.std.proofs.lemmas.Bool.{eqb-true, eqb-false}
-use Rattle.std.proofs.lemmas.List.{get_or-set_same, get_or-set_other, length-take-le, take_more, take_all, get_or_append_left, get_or-append_right, get_or-replicate, map-append, length-append, length-replicate, length_push}
+use Rattle.std.proofs.lemmas.List.{get_or-set_same, get_or-set_other, length-take-le, take_more, take_all, length-append, length-replicate, length_push}
 use Rattle.std.proofs.lemmas.List.Elements.{filter-append, filter_passes, All-weaker, All-push}
 use Rattle.scan_values.specs.Val.{Val, null_val, int_val}
 use Rattle.scan_groups.specs.Order.{number_of}
@@ -149,6 +149,22 @@ enough xs ys len x places e h =
 -- ---- the first place past all
 pub past_push : (ps : List ℕ) (p last next : ℕ) → last ≤ next → p < next → All (λ q. q < last) ps → All (λ q. q < next) (ps ++ p ∷ [])
 past_push ps p last next le lt h = All-push (λ q. q < next) ps p (All-weaker (λ q. q < last) (λ q. q < next) (λ q l. omega (arith, l, le)) ps h) lt
+
+pub last_push : (ps : List ℕ) (p last next : ℕ) → last ≤ next → p ≤ next → All (λ q. q ≤ last) ps → All (λ q. q ≤ next) (ps ++ p ∷ [])
+last_push ps p last next le lt h = All-push (λ q. q ≤ next) ps p (All-weaker (λ q. q ≤ last) (λ q. q ≤ next) (λ q l. omega (arith, l, le)) ps h) lt
+
+pub larger_below : (a b larger n : ℕ) → 0 < n → ((k : ℕ) → a ≤ k → b ≤ k → larger ≤ k) → a < n → b < n → larger < n
+larger_below a b larger n more least l m = let k = least (n - 1) (omega (arith, l)) (omega (arith, m)) in omega (arith, k, more)
+
+pub none_below : (ps : List ℕ) (n : ℕ) → length ps ≡ 0 → All (λ p. p < n) ps
+none_below ps n e = λ j d lt. absurd (omega (arith, lt, e))
+
+pub all_below : (ps : List ℕ) (last end : ℕ) → end ≡ last + 1 → All (λ p. p ≤ last) ps → All (λ p. p < end) ps
+all_below ps last end e h = All-weaker (λ p. p ≤ last) (λ p. p < end) (λ p l. omega (arith, l, e)) ps h
+
+-- where there is a place, what is past all is not the first one
+pub some_below : (ps : List ℕ) (n : ℕ) → 0 < length ps → All (λ p. p < n) ps → 0 < n
+some_below ps n lt h = let l = h 0 0 lt in omega (arith, l)
 
 -- ---- a vector that has grown
 pub resized : {X : Type 0} (xs ys : List X) (n len all : ℕ) (x : X) → n ≡ length xs → n ≤ all → len ≤ all → ((k : ℕ) → n ≤ k → len ≤ k → all ≤ k) → ys ≡ take all xs ++ replicate (all - n) x → ys ≡ xs ++ replicate (len - length xs) x

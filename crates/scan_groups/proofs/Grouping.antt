@@ -14,7 +14,7 @@ use Rattle.scan_groups.specs.Order.{key_cmp, same_key, are_scalars}
 use Rattle.scan_groups.specs.Ordered.{key_cmp-total, same_key-equivalence}
 use Rattle.scan_groups.specs.Rows.{Row, group_of, values_at, sum_of, OrNull, IsKeyOf, IsMeasure, AreMeasures, AreGroups, is_in_range, is_sum_past, IsPast, IsFirstPast}
 use Rattle.scan_groups.specs.Places.{IsPlace}
-use Rattle.scan_groups.specs.Totals.{IsSum, IsTotalOf, netted, in_range, sum_val, total_val, is_past, is_some_value, measured_by, no_sum, val_at, vals_read}
+use Rattle.scan_groups.specs.Totals.{IsSum, IsTotalOf, netted, in_range, sum_val, total_val, is_past, is_some_value, measured_by, no_sum, val_at}
 use Rattle.scan_groups.specs.Running.{AreOf, is_past_at, is_past_in, made_of}
 use Rattle.scan_groups.specs.declared.group.Group.{Group}
 use Rattle.scan_groups.specs.declared.groups.Groups.{Groups}

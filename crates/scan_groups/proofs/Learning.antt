@@ -1,7 +1,6 @@
 -- What is known of keys of one value, with one more.
 use Rattle.std.proofs.Common.{◌≡◌, ◌⊎◌, inl, inr, ℕ, ℤ, Bool, true, false, cond, List, [], refl, sym, ap, ◌∙◌, rules}
 use Rattle.std.specs.Prelude.{Option, None, Some, string_bytes}
-use Rattle.std.specs.Bool.{Decides}
 use Rattle.std.specs.BTreeMap.{get, get_by_text, is_at}
 use Rattle.std.specs.Cmp.Lexicographic.{slice_cmp}
 use Rattle.std.specs.Map.{lookup}

@@ -1,4 +1,5 @@
 pub mod Permuting
+pub mod Slots
 pub mod Sums
 pub mod Extremes
 pub mod Exact

@@ -1,20 +1,20 @@
 -- The places of keys with further rows.
-use Rattle.std.proofs.Common.{◌≡◌, ◌⊎◌, inl, inr, ℕ, zero, suc, ◌+◌, ◌<◌, ◌≤◌, Bool, true, false, cond, List, [], ◌∷◌, ◌++◌, length, get_or, set, take, drop, map, Contains, refl, sym, ap, ◌∙◌, subst, arith, append_assoc, append-nil}
+use Rattle.std.proofs.Common.{◌≡◌, ◌⊎◌, inl, inr, ℕ, ℤ, zero, suc, ◌+◌, ◌<◌, ◌≤◌, Bool, true, false, cond, List, [], ◌∷◌, ◌++◌, length, get_or, set, take, drop, map, Contains, refl, sym, ap, ◌∙◌, subst, arith, append_assoc, append-nil}
 use Rattle.std.specs.Prelude.{◌&&◌, Option, None, Some, All, Result, Ok, Err, IfOk, replicate}
 use Rattle.std.specs.List.{list_all}
 use Rattle.std.specs.BTreeMap.{get, is_at}
 use Rattle.std.specs.Map.{lookup}
-use Rattle.std.specs.Ordering.{int_cmp}
-use Rattle.std.specs.declared.cmp.Ordering.TheVariants.{Equal}
 use Rattle.std.proofs.lemmas.List.{take_more, take_all, length-take-le, get_or_append_left, get_or_at, get_or-set_same, get_or-set_other, get_or-map, length-map, get_or-replicate, length-replicate}
-use Rattle.std.proofs.lemmas.List.Elements.{All-push, All-nil, filter-append, Contains-push, Contains-append_left}
-use Rattle.scan_values.specs.Val.{Val}
+use Rattle.std.proofs.lemmas.List.Elements.{All-push, All-nil, All-weaker, filter-append, Contains-push, Contains-append_left}
+use Rattle.scan_values.specs.Val.{Val, int_val}
 use Rattle.scan_groups.specs.Order.{key_cmp, same_key, is_scalar, are_scalars}
 use Rattle.scan_groups.specs.Ordered.{same_key-equivalence}
 use Rattle.scan_groups.specs.Rows.{Row, group_of, IsKeyOf}
+use Rattle.scan_groups.specs.Near.{AreAt, IsAt}
+use Rattle.scan_groups.specs.declared.near.Near.{Near}
+use Rattle.scan_groups.specs.declared.near.Slot.{Slot}
 use Rattle.scan_groups.specs.Places.{ArePlaces, Begins, Extends, IsPlace, Learns, Placed, PlacedAll, known, place_of}
 use Rattle.scan_values.specs.declared.memory.NoMemory.{NoMemory}
-use Rattle.scan_groups.specs.declared.known.Known.{Known}
 use Rattle.scan_groups.specs.declared.places.Places.{Places}
 use Rattle.scan_groups.proofs.Exact.{same_exact}
 
@@ -90,6 +90,7 @@ place_found keys rows row p i h scalar e = record {
     below = h.below;
     apart = h.apart;
     known = h.known;
+    near = h.near;
   };
   extends = extends_same p;
   is = e;
@@ -101,14 +102,16 @@ place_found keys rows row p i h scalar e = record {
 
 -- a row of a key that gets the next place
 pub place_begun : (keys : ℕ) (rows : List Row) (row : Row) (old new : Places) → ArePlaces keys rows old → are_scalars row.key ≡ true → place_of old row.key ≡ None
-    → new.count ≡ old.count + 1 → new.known ≡ old.known → ((q : List Val) → place_of new q ≡ cond (is_at (key_cmp row.key) q) (Some old.count) (place_of old q)) → Placed keys rows row old new old.count
-place_begun keys rows row old new h scalar absent count same updates = record {
+    → new.count ≡ old.count + 1 → new.known ≡ old.known → new.near ≡ old.near → ((q : List Val) → place_of new q ≡ cond (is_at (key_cmp row.key) q) (Some old.count) (place_of old q))
+    → Placed keys rows row old new old.count
+place_begun keys rows row old new h scalar absent count same close updates = record {
   places = record {
     scalars = All-push (λ (r : Row). are_scalars r.key ≡ true) rows row h.scalars scalar;
     at = λ k. subst (λ o. IsPlace keys (rows ++ row ∷ []) k o) (sym (updates k)) (at k (same_key row.key k) refl);
     below = λ k i e. below k i (of k i e);
     apart = λ k l i e f. apart k l i (of k i e) (of l i f);
     known = λ v i e. stays (v ∷ []) i (h.known v i (subst (λ m. known m v ≡ Some i) same e));
+    near = subst (AreAt new.keys) (sym close) (All-weaker (IsAt old.keys) (IsAt new.keys) (λ (s : Slot). stays (int_val s.number ∷ []) s.place) old.near.slots.items h.near);
   };
   extends = record { more = omega (arith, count); stays = stays; fresh = λ k i e. fresh k i (of k i e) };
   is = updates row.key ∙ ap (λ b. cond b (Some old.count) (place_of old row.key)) (same_key-equivalence.refl row.key);
@@ -159,8 +162,8 @@ one_scalar w s = rw s refl
 
 -- the place of a value is learnt
 pub place_learnt : (keys : ℕ) (rows : List Row) (row : Row) (v : Val) (old mid new : Places) (i : ℕ) → row.key ≡ v ∷ [] → Placed keys rows row old mid i
-    → new.keys ≡ mid.keys → new.count ≡ mid.count → Learns mid.known new.known v i → Placed keys rows row old new i
-place_learnt keys rows row v old mid new i e h same count learns =
+    → new.keys ≡ mid.keys → new.count ≡ mid.count → new.near ≡ mid.near → Learns mid.known new.known v i → Placed keys rows row old new i
+place_learnt keys rows row v old mid new i e h same count close learns =
     let to : (k : List Val) → place_of new k ≡ place_of mid k = λ k. ap (λ m. get key_cmp m k) same in
     record {
       places = record {
@@ -169,6 +172,7 @@ place_learnt keys rows row v old mid new i e h same count learns =
         below = λ k j f. let l = h.places.below k j (sym (to k) ∙ f) in omega (arith, l, count);
         apart = λ k l j f g. h.places.apart k l j (sym (to k) ∙ f) (sym (to l) ∙ g);
         known = λ w j f. to (w ∷ []) ∙ knows w j (learns w j f);
+        near = subst (λ m. AreAt m new.near) (sym same) (subst (AreAt mid.keys) (sym close) h.places.near);
       };
       extends = record {
         more = (let m = h.extends.more in omega (arith, m, count));
@@ -182,12 +186,38 @@ place_learnt keys rows row v old mid new i e h same count learns =
     knows w j (inl k) = h.places.known w j k
     knows w j (inr s) = ap (λ u. place_of mid (u ∷ [])) s.0 ∙ ap (place_of mid) (sym e) ∙ h.is ∙ ap Some (sym s.1)
 
+-- a row of a number's key, which stands in its slot
+pub place_near : (keys : ℕ) (rows : List Row) (row : Row) (p : Places) (z : ℤ) (i : ℕ) → row.key ≡ int_val z ∷ [] → ArePlaces keys rows p → IsAt p.keys (record { number = z; place = i }) → Placed keys rows row p p i
+place_near keys rows row p z i e h at = place_found keys rows row p i h (ap are_scalars e) (ap (place_of p) e ∙ at)
+
+-- the slots are others, which are true
+pub place_kept : (keys : ℕ) (rows : List Row) (row : Row) (old mid new : Places) (i : ℕ) → Placed keys rows row old mid i
+    → new.keys ≡ mid.keys → new.count ≡ mid.count → new.known ≡ mid.known → AreAt mid.keys new.near → Placed keys rows row old new i
+place_kept keys rows row old mid new i h same count knows close =
+    let to : (k : List Val) → place_of new k ≡ place_of mid k = λ k. ap (λ m. get key_cmp m k) same in
+    record {
+      places = record {
+        scalars = h.places.scalars;
+        at = λ k. subst (λ o. IsPlace keys (rows ++ row ∷ []) k o) (sym (to k)) (h.places.at k);
+        below = λ k j f. let l = h.places.below k j (sym (to k) ∙ f) in omega (arith, l, count);
+        apart = λ k l j f g. h.places.apart k l j (sym (to k) ∙ f) (sym (to l) ∙ g);
+        known = λ w j f. to (w ∷ []) ∙ h.places.known w j (subst (λ m. known m w ≡ Some j) knows f);
+        near = subst (λ m. AreAt m new.near) (sym same) close;
+      };
+      extends = record {
+        more = (let m = h.extends.more in omega (arith, m, count));
+        stays = λ k j f. to k ∙ h.extends.stays k j f;
+        fresh = λ k j f. h.extends.fresh k j (sym (to k) ∙ f);
+      };
+      is = to row.key ∙ h.is;
+    }
+
 -- a row of a key that has begun
 pub row_begun : (keys : ℕ) (rows : List Row) (row : Row) (key : List Val) (old new : Places) (i : ℕ) → row.key ≡ key → ArePlaces keys rows old → are_scalars key ≡ true → place_of old key ≡ None
     → Begins old key i new → Placed keys rows row old new i
 row_begun keys rows row key old new i e h scalar absent b =
     subst (λ n. Placed keys rows row old new n) (sym b.is)
-    (place_begun keys rows row old new h (ap are_scalars e ∙ scalar) (ap (place_of old) e ∙ absent) b.count b.known
+    (place_begun keys rows row old new h (ap are_scalars e ∙ scalar) (ap (place_of old) e ∙ absent) b.count b.known b.near
     (subst (λ (k : List Val). (q : List Val) → place_of new q ≡ cond (is_at (key_cmp k) q) (Some old.count) (place_of old q)) (sym e) b.at))
 
 pub begun_ok : (r : Result ℕ NoMemory) (keys : ℕ) (rows : List Row) (row : Row) (key : List Val) (old new : Places) → row.key ≡ key → ArePlaces keys rows old → are_scalars key ≡ true → place_of old key ≡ None
@@ -300,7 +330,7 @@ pub nothing_at : (p : Places) (k : List Val) → p.keys.entries ≡ [] → place
 nothing_at p k e = ap (lookup (is_at (key_cmp k))) e
 
 abbrev pub IsEmpty : Places → Type 0
-IsEmpty p = (p.keys.entries ≡ []) × (p.count ≡ 0) × ((v : Val) → known p.known v ≡ None)
+IsEmpty p = (p.keys.entries ≡ []) × (p.count ≡ 0) × ((v : Val) → known p.known v ≡ None) × (p.near.slots.items ≡ [])
 
 pub no_places : (keys : ℕ) (p : Places) → IsEmpty p → 0 < keys → ArePlaces keys [] p
 no_places keys p e lt = record {
@@ -309,17 +339,19 @@ no_places keys p e lt = record {
   below = λ k i f. absurd (not_none (place_of p k) i f (nothing_at p k e.0));
   apart = λ k l i f g. absurd (not_none (place_of p k) i f (nothing_at p k e.0));
   known = λ v i f. absurd (not_none (known p.known v) i f (e.2 v));
+  near = subst (All (IsAt p.keys)) (sym e.3) (All-nil (IsAt p.keys));
 }
 
 -- the one place of the empty key
-pub one_place : (keys : ℕ) (old new : Places) → IsEmpty old → keys ≡ 0 → new.count ≡ old.count + 1 → new.known ≡ old.known
+pub one_place : (keys : ℕ) (old new : Places) → IsEmpty old → keys ≡ 0 → new.count ≡ old.count + 1 → new.known ≡ old.known → new.near ≡ old.near
     → ((q : List Val) → place_of new q ≡ cond (is_at (key_cmp []) q) (Some old.count) (place_of old q)) → ArePlaces keys [] new
-one_place keys old new e zero' count same updates = record {
+one_place keys old new e zero' count same close updates = record {
   scalars = All-nil (λ (r : Row). are_scalars r.key ≡ true);
   at = λ k. subst (λ o. IsPlace keys [] k o) (sym (now k)) (at k);
   below = λ k i f. below k i (sym (now k) ∙ f);
   apart = λ k l i f g. apart k l i (sym (now k) ∙ f) (sym (now l) ∙ g);
   known = λ v i f. absurd (not_none (known old.known v) i (subst (λ m. known m v ≡ Some i) same f) (e.2 v));
+  near = subst (λ (n : Near). AreAt new.keys n) (sym close) (subst (All (IsAt new.keys)) (sym e.3) (All-nil (IsAt new.keys)));
 }
   where
     now : (k : List Val) → place_of new k ≡ cond (is_at (key_cmp []) k) (Some old.count) None

@@ -1,9 +1,8 @@
 -- The values of a run, by their places.
-use Rattle.std.proofs.Common.{◌≡◌, ℕ, ◌<◌, List, length, get_or, map, sym, ap, ◌∙◌, subst, ℤ}
+use Rattle.std.proofs.Common.{◌≡◌, ℕ, ◌<◌, List, length, get_or, sym, ap, ◌∙◌, ℤ}
 use Rattle.std.specs.Borrow.{Bor}
-use Rattle.std.specs.Prelude.{replicate}
 use Rattle.std.proofs.lemmas.List.{length-map, length-replicate, get_or-map, get_or-replicate}
-use Rattle.scan_values.specs.Val.{Val, null_val, int_val}
+use Rattle.scan_values.specs.Val.{null_val, int_val}
 use Rattle.scan_groups.specs.Cells.{cell_val, run_vals}
 use Rattle.scan_groups.specs.declared.cell.Cell.{Cell}
 use Rattle.scan_groups.specs.declared.run.Run.{Run}

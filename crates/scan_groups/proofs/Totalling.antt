@@ -1,16 +1,16 @@
 -- Groups of rows on the way: one measure after the other reads the further rows.
-use Rattle.std.proofs.Common.{◌≡◌, ◌⊎◌, inl, inr, ℕ, zero, suc, ◌+◌, ◌<◌, ◌≤◌, Bool, true, false, cond, List, [], ◌∷◌, ◌++◌, length, get_or, set, map, refl, sym, ap, ◌∙◌, subst, arith, append-nil}
-use Rattle.std.specs.Prelude.{◌==◌, Option, None, Some, All, Result, Ok, Err, IfOk, filter, replicate}
+use Rattle.std.proofs.Common.{◌≡◌, ◌⊎◌, inl, inr, ℕ, zero, suc, ◌+◌, ◌<◌, ◌≤◌, Bool, true, false, cond, List, [], ◌∷◌, ◌++◌, length, get_or, set, map, refl, sym, ap, ◌∙◌, subst, arith}
+use Rattle.std.specs.Prelude.{◌==◌, Option, None, Some, All, Result, Ok, Err, IfOk, replicate}
 use Rattle.std.specs.List.{slice_get}
-use Rattle.std.proofs.lemmas.Bool.{eqb-true, eqb-false, eq-eqb}
+use Rattle.std.proofs.lemmas.Bool.{eqb-true, eqb-false}
 use Rattle.std.proofs.lemmas.List.{map-append, map-set, set-set, set-get_or, length-set, length-map, get_or-set_same, get_or-set_other, get_or-map, get_or_default, get_or-replicate, length-replicate}
 use Rattle.std.proofs.lemmas.List.Elements.{filter-append, All-weaker}
 use Rattle.scan_values.specs.Val.{Val, null_val}
 use Rattle.scan_groups.specs.Order.{same_key, are_scalars}
 use Rattle.scan_groups.specs.Rows.{Row, group_of}
-use Rattle.scan_groups.specs.Places.{ArePlaces, IsPlace, Extends, PlacedAll, place_of}
+use Rattle.scan_groups.specs.Places.{ArePlaces, IsPlace, PlacedAll, place_of}
 use Rattle.scan_groups.specs.Totals.{IsMore, IsSum, IsTotal, IsTotalOf, no_sum, length_of, measured_by, picked, place_read, val_at, vals_read}
-use Rattle.scan_groups.specs.Running.{AreOf, AreTotals, HavePlaces, IsUnder, place_in, reads_in, val_in}
+use Rattle.scan_groups.specs.Running.{AreOf, AreTotals, HavePlaces, IsUnder, reads_in, val_in}
 use Rattle.scan_groups.specs.declared.groups.Groups.{Groups}
 use Rattle.scan_groups.specs.declared.measure.Measured.{Measured}
 use Rattle.scan_groups.specs.declared.places.Places.{Places}

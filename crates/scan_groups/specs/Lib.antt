@@ -3,6 +3,7 @@ pub mod Ordered
 pub mod Rows
 pub mod Cells
 pub mod Totals
+pub mod Near
 pub mod Places
 pub mod Running
 pub mod Laws

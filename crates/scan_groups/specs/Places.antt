@@ -3,6 +3,7 @@ use Rattle.std.specs.Prelude.{◌≡◌, ◌⊎◌, ℕ, ◌+◌, ◌<◌, ◌�
 use Rattle.std.specs.BTreeMap.{get, get_by_text, is_at}
 use Rattle.std.specs.Ordering.{int_cmp}
 use Rattle.scan_values.specs.Val.{Val, null_val, bool_val, int_val, text_val}
+use Rattle.scan_groups.specs.Near.{AreAt}
 use Rattle.scan_groups.specs.Order.{key_cmp, same_key, are_scalars}
 use Rattle.scan_groups.specs.Rows.{Row, group_of, IsKeyOf}
 use Rattle.scan_groups.specs.declared.known.Known.{Known}
@@ -37,6 +38,8 @@ pub record ArePlaces (keys : ℕ) (rows : List Row) (p : Places) : Type 0 where
   pub apart : (k l : List Val) (i : ℕ) → place_of p k ≡ Some i → place_of p l ≡ Some i → same_key k l ≡ true
   -- what is known by a value alone is the place of its key
   pub known : (v : Val) (i : ℕ) → known p.known v ≡ Some i → place_of p (v ∷ []) ≡ Some i
+  -- what stands in a slot is true
+  pub near : AreAt p.keys p.near
 
 -- further keys have further places
 pub record Extends (old new : Places) : Type 0 where
@@ -49,6 +52,7 @@ pub record Begins (old : Places) (key : List Val) (place : ℕ) (new : Places) :
   pub is : place ≡ old.count
   pub count : new.count ≡ old.count + 1
   pub known : new.known ≡ old.known
+  pub near : new.near ≡ old.near
   pub at : (k : List Val) → place_of new k ≡ cond (is_at (key_cmp key) k) (Some old.count) (place_of old k)
 
 -- one more row has this place

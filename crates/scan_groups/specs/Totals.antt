@@ -1,5 +1,5 @@
 -- Running totals of measures.
-use Rattle.std.specs.Prelude.{◌≡◌, ◌≤◌, ℕ, ◌+◌, ◌==◌, pos, ℤ, ◌+ℤ◌, ◌-ℤ◌, List, [], ◌∷◌, ◌++◌, Bool, true, false, not, cond, Option, None, Some, All, filter, get_or, length, map, if◌then◌else◌}
+use Rattle.std.specs.Prelude.{◌≡◌, ◌≤◌, ℕ, ◌==◌, pos, ℤ, ◌+ℤ◌, ◌-ℤ◌, List, [], ◌∷◌, ◌++◌, Bool, true, false, not, cond, Option, None, Some, All, filter, get_or, length, map, if◌then◌else◌}
 use Rattle.scan_values.specs.Val.{Val, null_val, int_val}
 use Rattle.scan_values.specs.Values.{val_of}
 use Rattle.scan_groups.specs.Rows.{Row, IsLeast, IsGreatest, OrNull, is_null, sum_of, is_in_range}
@@ -22,14 +22,14 @@ abbrev pub is_some_value : List Val → Bool
 is_some_value [] = false
 is_some_value (v ∷ vs) = true
 
--- the sums of positive and of negative values, apart
+-- a sum in parts: what is near, and the positive and the negative values besides, apart
 pub record IsSum (s : Sum) (vs : List Val) : Type 0 where
   pub any : s.any ≡ is_some_value vs
-  pub parts : pos s.above ≡ sum_of vs +ℤ pos s.below
+  pub parts : s.near +ℤ pos s.above ≡ sum_of vs +ℤ pos s.below
 
 -- that of no values
 abbrev pub no_sum : Sum
-no_sum = record { any = false; above = 0; below = 0 }
+no_sum = record { any = false; near = pos 0; above = 0; below = 0 }
 
 -- ---- what measures have come to over values, null or not
 abbrev pub IsCount : List Val → ℕ → Type 0
@@ -112,7 +112,7 @@ pub record IsMore (old : Tally) (given : List ℕ) (vs : List Val) (groups : ℕ
 -- ---- the value of a total
 -- the sum that its parts have
 abbrev pub netted : Sum → ℤ
-netted s = pos s.above -ℤ pos s.below
+netted s = s.near +ℤ pos s.above -ℤ pos s.below
 
 -- a sum, if it is an i64 or a u64
 abbrev pub in_range : ℤ → Option ℤ

@@ -74,7 +74,7 @@ fn sum_numbers(sums: Vec<Sum>, places: &[usize], numbers: &[i64]) -> Result<Vec<
     let mut sums = sums;
     for i in 0..places.len() {
         let place = places[i];
-        sums[place] = sums[place].with(i128::from(numbers[i]))?;
+        sums[place].add(numbers[i])?;
     }
     Ok(sums)
 }
@@ -246,17 +246,28 @@ pub(crate) fn with_nulls(values: Vec<Value>, len: usize) -> Result<Vec<Value>, N
     Ok(values)
 }
 
+/// The last of places; the first place where there are none.
+fn last_of(places: &[usize]) -> usize
+    ensures past { All (λ p. p ≤ result) places.now }
+    ensures least { (n : ℕ) → 0 < n → All (λ p. p < n) places.now → result < n }
+{
+    let mut last = 0;
+    for place in places {
+        last = larger(last, *place);
+    }
+    last
+}
+
 /// The first place past all of these.
 pub(crate) fn past_last(places: &[usize]) -> Result<usize, NoMemory>
     ensures past { IfOk result (λ n. All (λ p. p < n) places.now) }
     ensures least { (n : ℕ) → All (λ p. p < n) places.now → IfOk result (λ m. m ≤ n) }
 {
-    let mut end = 0;
-    for place in places {
-        if *place == usize::MAX {
-            return Err(NoMemory);
-        }
-        end = larger(end, *place + 1);
+    if places.is_empty() {
+        return Ok(0);
     }
-    Ok(end)
+    match last_of(places).checked_add(1) {
+        Some(end) => Ok(end),
+        None => Err(NoMemory),
+    }
 }

@@ -6,17 +6,17 @@ ghost use Rattle.scan_groups.specs.Cells.{cell_val, run_vals};
 ghost use Rattle.scan_groups.specs.Order.{are_scalars, is_scalar};
 ghost use Rattle.scan_groups.specs.Places.{ArePlaces};
 ghost use Rattle.scan_groups.specs.Rows.{Row, AreGroups, IsPast};
-ghost use Rattle.scan_groups.specs.Running.{AreOf, HasGroupsCause, HasRead, HavePlaces, count_of, is_past_in, made_of, measures_in, reads_in, val_in};
+ghost use Rattle.scan_groups.specs.Running.{AreOf, HasGroupsCause, HasRead, HavePlaces, IsUnder, count_of, is_past_in, made_of, measures_in, reads_in, val_in};
 ghost use Rattle.scan_groups.specs.Totals.{length_of, measured_by, total_val, val_at};
 ghost use Rattle.scan_groups.specs.declared.measure.Measured.{Measured};
 
-use crate::adding::past_last;
 use crate::cell::Cell;
 use crate::fault::GroupsFault;
 use crate::group::Group;
 use crate::key::Key;
 use crate::measure::Measured;
 use crate::places::Places;
+use crate::row_places::RowPlaces;
 use crate::run::Run;
 use crate::tally::Tally;
 use scan_values::{NoMemory, Value, Values};
@@ -134,19 +134,19 @@ impl Groups {
     }
 
     /// The places of the groups of further rows, whose keys are of one value each.
-    pub fn place_run(&mut self, alloc: Global, run: Run) -> Result<Vec<usize>, NoMemory>
+    pub fn place_run(&mut self, alloc: Global, run: Run) -> Result<RowPlaces, NoMemory>
         ensures { (keys : ℕ) → list_all is_scalar (run_vals run.entry) ≡ true →
-            IfOk result (λ ps. HavePlaces keys (map (λ v. v ∷ []) (run_vals run.entry)) ps.items self.old self.new) }
+            IfOk result (λ ps. HavePlaces keys (map (λ v. v ∷ []) (run_vals run.entry)) ps self.old self.new) }
     {
-        self.places.place_run(alloc, run)
+        RowPlaces::new(self.places.place_run(alloc, run)?)
     }
 
     /// The places of the groups of so many further rows, whose keys have no values.
-    pub fn place_keyless(&mut self, alloc: Global, len: usize) -> Result<Vec<usize>, NoMemory>
-        ensures { IfOk result (λ ps. HavePlaces 0 (replicate len []) ps.items self.old self.new) }
+    pub fn place_keyless(&mut self, alloc: Global, len: usize) -> Result<RowPlaces, NoMemory>
+        ensures { IfOk result (λ ps. HavePlaces 0 (replicate len []) ps self.old self.new) }
     {
         let place = self.places.place(Key::new(Values::new(Vec::new(alloc))))?;
-        Ok(vec![in alloc; place; len]?)
+        RowPlaces::new(vec![in alloc; place; len]?)
     }
 
     /// Of rows whose groups were found, what a measure reads.
@@ -154,17 +154,35 @@ impl Groups {
         &mut self,
         alloc: Global,
         measure: usize,
-        places: &[usize],
+        places: &RowPlaces,
         run: Run,
     ) -> Result<(), NoMemory>
         requires measure { measure < count_of self.old }
         requires even { length (run_vals run) ≡ length places.now }
         ensures { IfOk result (λ _. HasRead measure places.now (run_vals run.entry) self.old self.new) }
     {
-        let groups = past_last(places)?;
         let tally = std::mem::replace(&mut self.tallies[measure], Tally::Count(Vec::new(alloc)));
-        let more = tally.with_rows(alloc, groups, places, run)?;
+        let more = tally.with_rows(alloc, places.end(), places.as_slice(), run)?;
         self.tallies[measure] = more;
+        Ok(())
+    }
+
+    /// What measures read of the one row at a place.
+    fn read_row(
+        &mut self,
+        alloc: Global,
+        places: &RowPlaces,
+        read: &[Value],
+    ) -> Result<(), NoMemory>
+        requires { length places.now ≡ 1 }
+        ensures { (keys : ℕ) (ms : List Measured) (rows : List Row) (row : Row) →
+            IsUnder keys ms rows (row ∷ []) places.now 0 self.old → row.read ≡ map val_of read.now →
+            IfOk result (λ _. AreOf keys ms (rows ++ row ∷ []) self.new) }
+    {
+        for measure in 0..self.tallies.len() {
+            let cell = read_at(read, self.tallies[measure].reads());
+            self.add_run(alloc, measure, places, Run::Cells(&[cell]))?;
+        }
         Ok(())
     }
 
@@ -175,12 +193,10 @@ impl Groups {
             IfOk result (λ _. AreOf keys ms (rows ++ record { key = key; read = map val_of read.now } ∷ []) self.new) }
     {
         let place = self.places.place(Key::new(key))?;
-        for measure in 0..self.tallies.len() {
-            let cell = read_at(read, self.tallies[measure].reads());
-            self.add_run(alloc, measure, &[place], Run::Cells(&[cell]))?;
-        }
-        Ok(())
+        let places = RowPlaces::of(alloc, place)?;
+        self.read_row(alloc, &places, read)
     }
+
     /// The first measure of which some group's sum is neither an i64 nor a u64.
     fn first_past(&self) -> Option<usize>
         ensures { MatchOption result

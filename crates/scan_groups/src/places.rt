@@ -1,7 +1,7 @@
 //! Which group each key has.
-ghost use Rattle.std.specs.Prelude.{◌≡◌, ◌∷◌, [], IfOk, List, None, Some, length, map, true, ℕ};
+ghost use Rattle.std.specs.Prelude.{◌≡◌, ◌∷◌, [], IfOk, IfSome, List, None, Some, length, map, true, ℕ};
 ghost use Rattle.std.specs.List.{list_all};
-ghost use Rattle.scan_values.specs.Val.{Val};
+ghost use Rattle.scan_values.specs.Val.{Val, int_val};
 ghost use Rattle.scan_groups.specs.Cells.{cell_val, run_vals};
 ghost use Rattle.scan_groups.specs.Order.{are_scalars, is_scalar};
 ghost use Rattle.scan_groups.specs.Places.{ArePlaces, Begins, Placed, PlacedAll, known, place_of};
@@ -10,6 +10,7 @@ ghost use Rattle.scan_groups.specs.Rows.{Row};
 use crate::cell::Cell;
 use crate::key::Key;
 use crate::known::Known;
+use crate::near::{Near, Slot};
 use crate::run::Run;
 use scan_values::NoMemory;
 use std::alloc::Global;
@@ -21,6 +22,20 @@ pub(crate) struct Places {
     pub keys: BTreeMap<Key, usize>,
     count: usize,
     known: Known,
+    near: Near,
+}
+
+/// The number of a value, where it is an i64.
+fn number_in(cell: Cell) -> Option<i64>
+    ensures { IfSome result (λ z. cell_val cell.entry ≡ int_val z) }
+{
+    match cell {
+        Cell::Number(number) => i64::try_from(number).ok(),
+        Cell::Null => None,
+        Cell::Truth(_) => None,
+        Cell::Text(_) => None,
+        Cell::Held(_) => None,
+    }
 }
 
 impl Places {
@@ -29,11 +44,13 @@ impl Places {
         ensures keys { result.keys.entries ≡ [] }
         ensures count { result.count ≡ 0 }
         ensures known { (v : Val) → known result.known v ≡ None }
+        ensures near { result.near.slots.items ≡ [] }
     {
         Places {
             keys: BTreeMap::new(alloc),
             count: 0,
             known: Known::new(alloc),
+            near: Near::new(alloc),
         }
     }
 
@@ -76,8 +93,8 @@ impl Places {
         self.keys
     }
 
-    /// The place of a key of one value.
-    pub(crate) fn place_cell(&mut self, alloc: Global, cell: Cell) -> Result<usize, NoMemory>
+    /// The place of a key of one value, looked up in the maps.
+    fn place_value(&mut self, alloc: Global, cell: Cell) -> Result<usize, NoMemory>
         ensures { (keys : ℕ) (rows : List Row) (row : Row) → row.key ≡ cell_val cell.entry ∷ [] → ArePlaces keys rows self.old →
             is_scalar (cell_val cell.entry) ≡ true → IfOk result (Placed keys rows row self.old self.new) }
     {
@@ -89,8 +106,51 @@ impl Places {
         Ok(place)
     }
 
-    /// The places of keys of one value each.
-    pub(crate) fn place_run(&mut self, alloc: Global, run: Run) -> Result<Vec<usize>, NoMemory>
+    /// The place of a number's key, which stands in its slot afterwards.
+    fn place_far(&mut self, alloc: Global, number: i64) -> Result<usize, NoMemory>
+        ensures { (keys : ℕ) (rows : List Row) (row : Row) → row.key ≡ int_val number ∷ [] → ArePlaces keys rows self.old →
+            IfOk result (Placed keys rows row self.old self.new) }
+    {
+        let place = self.place_value(alloc, Cell::Number(i128::from(number)))?;
+        self.near.keep(alloc, self.count, Slot { number, place })?;
+        Ok(place)
+    }
+
+    /// The place of a number's key.
+    fn place_number(&mut self, alloc: Global, number: i64) -> Result<usize, NoMemory>
+        ensures { (keys : ℕ) (rows : List Row) (row : Row) → row.key ≡ int_val number ∷ [] → ArePlaces keys rows self.old →
+            IfOk result (Placed keys rows row self.old self.new) }
+    {
+        match self.near.find(number) {
+            Some(place) => Ok(place),
+            None => self.place_far(alloc, number),
+        }
+    }
+
+    /// The place of a key of one value.
+    fn place_cell(&mut self, alloc: Global, cell: Cell) -> Result<usize, NoMemory>
+        ensures { (keys : ℕ) (rows : List Row) (row : Row) → row.key ≡ cell_val cell.entry ∷ [] → ArePlaces keys rows self.old →
+            is_scalar (cell_val cell.entry) ≡ true → IfOk result (Placed keys rows row self.old self.new) }
+    {
+        match number_in(cell) {
+            Some(number) => self.place_number(alloc, number),
+            None => self.place_value(alloc, cell),
+        }
+    }
+
+    fn place_numbers(&mut self, alloc: Global, numbers: &[i64]) -> Result<Vec<usize>, NoMemory>
+        ensures even { IfOk result (λ ps. length ps.items ≡ length (map int_val numbers.now)) }
+        ensures places { (keys : ℕ) (rows more : List Row) → map (λ row. row.key) more ≡ map (λ v. v ∷ []) (map int_val numbers.now) →
+            ArePlaces keys rows self.old → IfOk result (λ ps. PlacedAll keys rows more self.old self.new ps.items) }
+    {
+        let mut places = vec![in alloc; 0usize; numbers.len()]?;
+        for i in 0..places.len() {
+            places[i] = self.place_number(alloc, numbers[i])?;
+        }
+        Ok(places)
+    }
+
+    fn place_cells(&mut self, alloc: Global, run: Run) -> Result<Vec<usize>, NoMemory>
         ensures even { IfOk result (λ ps. length ps.items ≡ length (run_vals run.entry)) }
         ensures places { (keys : ℕ) (rows more : List Row) → map (λ row. row.key) more ≡ map (λ v. v ∷ []) (run_vals run.entry) →
             ArePlaces keys rows self.old → list_all is_scalar (run_vals run.entry) ≡ true →
@@ -101,5 +161,19 @@ impl Places {
             places[i] = self.place_cell(alloc, run.cell(i))?;
         }
         Ok(places)
+    }
+
+    /// The places of keys of one value each.
+    pub(crate) fn place_run(&mut self, alloc: Global, run: Run) -> Result<Vec<usize>, NoMemory>
+        ensures even { IfOk result (λ ps. length ps.items ≡ length (run_vals run.entry)) }
+        ensures places { (keys : ℕ) (rows more : List Row) → map (λ row. row.key) more ≡ map (λ v. v ∷ []) (run_vals run.entry) →
+            ArePlaces keys rows self.old → list_all is_scalar (run_vals run.entry) ≡ true →
+            IfOk result (λ ps. PlacedAll keys rows more self.old self.new ps.items) }
+    {
+        match run {
+            Run::Numbers(numbers) => self.place_numbers(alloc, numbers),
+            Run::Cells(_) => self.place_cells(alloc, run),
+            Run::Nulls(_) => self.place_cells(alloc, run),
+        }
     }
 }

@@ -1,6 +1,6 @@
-use Rattle.std.proofs.Common.{◌≡◌, ◌+◌, ◌<◌, ◌≤◌, List, [], ◌∷◌, ◌++◌, length, get_or, map, cond, pos, refl, sym, ap, ◌∙◌, subst, arith, rules}
-use Rattle.std.proofs.lemmas.List.{length-set, length-map, get_or_default, get_or-map, set-set, map-set}
-use Rattle.scan_values.specs.Val.{Val, null_val}
+use Rattle.std.proofs.Common.{◌≡◌, ◌+◌, ◌<◌, length, get_or, refl, ap, ◌∙◌, arith}
+use Rattle.std.proofs.lemmas.List.{length-set, get_or_default}
+use Rattle.scan_values.specs.Val.{null_val}
 use Rattle.scan_groups.specs.Totals.{IsCount}
 use Rattle.scan_groups.proofs.Added.{adds_none, adds_more, adds_all, count_push}
 use Rattle.scan_groups.proofs.adding.count_rows.Goals as goal

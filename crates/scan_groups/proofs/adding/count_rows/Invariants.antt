@@ -1,4 +1,4 @@
-use Rattle.std.proofs.Common.{◌≡◌, ℕ, List, length, take}
+use Rattle.std.proofs.Common.{◌≡◌, List, length, take}
 use Rattle.scan_values.specs.Val.{Val}
 use Rattle.scan_groups.specs.Totals.{Adds, IsCount}
 use Rattle.scan_groups.proofs.adding.count_rows.Given as goal

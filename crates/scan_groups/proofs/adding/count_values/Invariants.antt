@@ -1,5 +1,4 @@
-use Rattle.std.proofs.Common.{◌≡◌, ℕ, List, length, take}
-use Rattle.scan_values.specs.Val.{Val}
+use Rattle.std.proofs.Common.{◌≡◌, length, take}
 use Rattle.scan_groups.specs.Cells.{run_vals}
 use Rattle.scan_groups.specs.Totals.{Adds, IsCountOf}
 use Rattle.scan_groups.proofs.adding.count_values.Given as goal

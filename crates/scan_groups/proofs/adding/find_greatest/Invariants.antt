@@ -1,5 +1,5 @@
-use Rattle.std.proofs.Common.{◌≡◌, ℕ, List, length, take, map}
-use Rattle.scan_values.specs.Val.{Val, null_val}
+use Rattle.std.proofs.Common.{◌≡◌, length, take, map}
+use Rattle.scan_values.specs.Val.{null_val}
 use Rattle.scan_values.specs.Values.{val_of}
 use Rattle.scan_groups.specs.Cells.{run_vals}
 use Rattle.scan_groups.specs.Totals.{Adds, IsGreatestOf}

@@ -1,8 +1,8 @@
-use Rattle.std.proofs.Common.{◌≡◌, ◌+◌, ◌<◌, ◌≤◌, List, [], ◌∷◌, ◌++◌, length, get_or, set, take, map, cond, pos, refl, sym, ap, ◌∙◌, subst, arith, rules}
-use Rattle.std.proofs.lemmas.List.{length-set, length-map, get_or_default, get_or-map, set-set, map-set}
+use Rattle.std.proofs.Common.{◌≡◌, ◌+◌, ◌<◌, ◌≤◌, List, [], ◌∷◌, ◌++◌, length, get_or, set, take, map, refl, sym, ap, ◌∙◌, subst, arith}
+use Rattle.std.proofs.lemmas.List.{length-set, length-map, get_or-map, set-set, map-set}
 use Rattle.scan_values.specs.Val.{Val, null_val}
 use Rattle.scan_values.specs.Values.{val_of}
-use Rattle.scan_groups.specs.Cells.{cell_val, run_vals}
+use Rattle.scan_groups.specs.Cells.{run_vals}
 use Rattle.scan_groups.specs.Totals.{picked, IsLeastOf}
 use Rattle.scan_groups.proofs.Added.{adds_none, adds_more, adds_all}
 use Rattle.scan_groups.proofs.adding.find_least.Goals as goal

@@ -1,21 +1,20 @@
-use Rattle.std.proofs.Common.{◌<◌, ◌+◌, get_or, take, sym, subst, arith}
-use Rattle.std.specs.Prelude.{All}
-use Rattle.std.proofs.lemmas.List.{take_more, take_all}
-use Rattle.scan_groups.proofs.Added.{past_push}
+use Rattle.std.proofs.Common.{◌≡◌, ◌<◌, ◌+◌, length, arith, rules}
+use Rattle.scan_groups.proofs.Added.{all_below, none_below, some_below}
 use Rattle.scan_groups.proofs.adding.past_last.Goals as goal
 
-pub loop-place-preserved : goal.loop-place-preserved
-loop-place-preserved c =
-    let ps = c.args.places.now in
-    let i = c.loop-place.place-index in
-    let p = get_or ps i 0 in
-    let lt = c.loop-place-test.true in
-    let next = c.larger-end.result in
-    let over : p < next = let s = c.larger-end.ensures.second in omega (arith, s) in
-    record {
-      past = subst (All (λ q. q < next)) (sym (take_more ps i 0 lt)) (past_push (take i ps) p c.loop-place.end next c.larger-end.ensures.first over c.loop-place.invariant.past);
-      least = λ n h. c.larger-end.ensures.least n (c.loop-place.invariant.least n h) (let l = h i 0 lt in omega (arith, l));
-    }
+pub returns-then-is_empty-clause-past : goal.returns-then-is_empty-clause-past
+returns-then-is_empty-clause-past c =
+    let none : length c.args.places.now ≡ 0 = search rules in
+    none_below c.args.places.now 0 none
 
-pub returns-clause-past : goal.returns-clause-past
-returns-clause-past c = subst (All (λ q. q < c.loop-place.end)) (take_all c.loop-place.place-index c.args.places.now c.loop-place-test.false) c.loop-place.invariant.past
+pub returns-in-Some-clause-past : goal.returns-in-Some-clause-past
+returns-in-Some-clause-past c =
+    let is : c.in-Some.end ≡ c.last_of.result + 1 = search rules in
+    all_below c.args.places.now c.last_of.result c.in-Some.end is c.last_of.ensures.past
+
+pub returns-in-Some-clause-least : goal.returns-in-Some-clause-least
+returns-in-Some-clause-least c = λ n h.
+    let is : c.in-Some.end ≡ c.last_of.result + 1 = search rules in
+    let more : 0 < length c.args.places.now = search rules in
+    let l = c.last_of.ensures.least n (some_below c.args.places.now n more h) h in
+    omega (arith, is, l)

@@ -1,7 +1,6 @@
-use Rattle.std.proofs.Common.{◌≡◌, ◌+◌, ◌<◌, ◌≤◌, List, [], ◌∷◌, ◌++◌, length, get_or, map, cond, pos, refl, sym, ap, ◌∙◌, subst, arith, rules}
-use Rattle.std.proofs.lemmas.List.{length-set, length-map, get_or_default, get_or-map, set-set, map-set}
-use Rattle.scan_groups.specs.Cells.{cell_val, run_vals}
-use Rattle.scan_groups.specs.Rows.{is_null}
+use Rattle.std.proofs.Common.{◌≡◌, ◌<◌, ◌≤◌, List, [], ◌∷◌, ◌++◌, length, get_or, refl, sym, ◌∙◌, subst, arith}
+use Rattle.std.proofs.lemmas.List.{length-set, get_or_default}
+use Rattle.scan_groups.specs.Cells.{run_vals}
 use Rattle.scan_values.specs.Val.{Val, null_val}
 use Rattle.scan_groups.specs.Totals.{IsSumOf, no_sum}
 use Rattle.scan_groups.proofs.Added.{adds_none, adds_more, adds_all}

@@ -1,18 +1,14 @@
-use Rattle.std.proofs.Common.{◌≡◌, ◌+◌, ◌<◌, ◌≤◌, List, [], ◌∷◌, ◌++◌, length, get_or, map, cond, pos, refl, sym, ap, ◌∙◌, subst, arith, rules}
-use Rattle.std.proofs.lemmas.List.{length-set, length-map, get_or_default, get_or-map, set-set, map-set}
+use Rattle.std.proofs.Common.{◌≡◌, ◌<◌, ◌≤◌, List, [], ◌∷◌, ◌++◌, length, get_or, map, pos, refl, sym, ◌∙◌, subst, arith, rules}
 use mir.Val.{to_z, of_z}
-use mir.Syntax.{w64, w128}
-use Rattle.scan_values.specs.Val.{int_val}
-use Rattle.scan_values.specs.Val.{Val, null_val}
+use mir.Syntax.{w64}
+use Rattle.std.proofs.lemmas.List.{length-set, length-map, get_or_default, get_or-map}
+use Rattle.scan_values.specs.Val.{Val, int_val, null_val}
 use Rattle.scan_groups.specs.Totals.{IsSum, IsSumOf, no_sum}
 use Rattle.scan_groups.proofs.Added.{adds_none, adds_more, adds_all, number_push}
 use Rattle.scan_groups.proofs.adding.sum_numbers.Goals as goal
 
 pub loop-i-init : goal.loop-i-init
 loop-i-init c = record { long = refl; more = adds_none IsSumOf no_sum c.args.places.now (map int_val c.args.numbers.now) c.args.sums.items }
-
-pub index-requires : goal.index-requires
-index-requires c = let lt = c.requires.places c.loop-i.i 0 c.loop-i-test.true in omega (arith, lt, c.loop-i.invariant.long, c.loop-i.sums.ok.0)
 
 pub index_mut-requires : goal.index_mut-requires
 index_mut-requires c = let lt = c.requires.places c.loop-i.i 0 c.loop-i-test.true in omega (arith, lt, c.loop-i.invariant.long, c.loop-i.sums.ok.0)
@@ -23,22 +19,20 @@ loop-i-preserved c =
     let ps = c.args.places.now in
     let i = c.loop-i.i in
     let p = get_or ps i 0 in
-    let x = c.in_ok-sums.field-0 in
+    let x = c.add.new.self in
     let vs : List Val = map int_val c.args.numbers.now in
     let v = get_or vs i null_val in
     let lt = c.requires.places i 0 c.loop-i-test.true in
     let below : p < length us = omega (arith, lt, c.loop-i.invariant.long) in
-    let at : c.index.result.now ≡ get_or us p no_sum = c.index.ensures ∙ get_or_default us p c.index.result.now no_sum below in
+    let at : c.index_mut.result.now ≡ get_or us p no_sum = c.index_mut.ensures.value ∙ get_or_default us p c.index_mut.result.now no_sum below in
     let zs = c.args.numbers.now in
     let z = get_or zs i (pos 0) in
     let n = length-map zs int_val in
     let within : i < length vs = omega (arith, n, c.requires.even, c.loop-i-test.true) in
     let inside : i < length zs = omega (arith, c.requires.even, c.loop-i-test.true) in
-    let back : to_z w128 (of_z w128 c.from.result) ≡ c.from.result = search rules in
     let read : to_z w64 (of_z w64 z) ≡ z = search rules in
     let s = get_or us p no_sum in
-    let more : (ws : List Val) → IsSum s ws → IsSum x (ws ++ int_val z ∷ []) =
-    λ ws h. subst (λ y. IsSum x (ws ++ int_val y ∷ [])) (back ∙ c.from.ensures ∙ read) (c.in_ok-sums.ensures ws (subst (λ t. IsSum t ws) (sym at) h)) in
+    let more : (ws : List Val) → IsSum s ws → IsSum x (ws ++ int_val z ∷ []) = λ ws h. subst (λ y. IsSum x (ws ++ int_val y ∷ [])) read (c.in_ok-add.ensures ws (subst (λ t. IsSum t ws) (sym at) h)) in
     let is : int_val z ≡ v = sym (get_or-map int_val zs i (pos 0) null_val inside) in
     let step : (ws : List Val) → IsSumOf ws s → IsSumOf (ws ++ v ∷ []) x = λ ws h. subst (λ w. IsSumOf (ws ++ w ∷ []) x) is (number_push s x z more ws h) in
     record {

@@ -1,5 +1,5 @@
-use Rattle.std.proofs.Common.{◌≡◌, ℕ, List, length, take, map}
-use Rattle.scan_values.specs.Val.{Val, int_val}
+use Rattle.std.proofs.Common.{◌≡◌, length, take, map}
+use Rattle.scan_values.specs.Val.{int_val}
 use Rattle.scan_groups.specs.Totals.{Adds, IsSumOf, no_sum}
 use Rattle.scan_groups.proofs.adding.sum_numbers.Given as goal
 

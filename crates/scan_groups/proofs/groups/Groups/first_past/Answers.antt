@@ -1,4 +1,4 @@
-use Rattle.std.proofs.Common.{◌≡◌, ◌<◌, length, sym, ap, ◌∙◌, arith}
+use Rattle.std.proofs.Common.{◌<◌, length, sym, ap, ◌∙◌, arith}
 use Rattle.scan_groups.specs.Running.{is_past_in}
 use Rattle.scan_groups.proofs.Totalling.{tally_at}
 use Rattle.scan_groups.proofs.Whole.{below_more}

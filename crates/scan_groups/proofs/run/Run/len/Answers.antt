@@ -1,4 +1,3 @@
-use Rattle.std.proofs.Common.{◌∙◌}
 use Rattle.scan_groups.proofs.Runs.{numbers_long, cells_long, nulls_long}
 use Rattle.scan_groups.proofs.run.Run.len.Goals as goal
 

@@ -1,4 +1,4 @@
-use Rattle.std.proofs.Common.{◌≡◌, get_or, not, sym, ap, ◌∙◌}
+use Rattle.std.proofs.Common.{get_or, not, sym, ap, ◌∙◌}
 use Rattle.scan_groups.specs.Rows.{is_in_range}
 use Rattle.scan_groups.specs.Totals.{is_past, netted, no_sum}
 use Rattle.scan_groups.proofs.Grouping.{past_test}

@@ -4,7 +4,7 @@ use Rattle.scan_groups.specs.Cells.{run_vals}
 use Rattle.scan_groups.specs.Order.{is_scalar}
 use Rattle.scan_groups.specs.Places.{ArePlaces, PlacedAll}
 use Rattle.scan_groups.specs.Rows.{Row}
-use Rattle.scan_groups.proofs.places.Places.place_run.Given as goal
+use Rattle.scan_groups.proofs.places.Places.place_cells.Given as goal
 
 abbrev pub invariant-loop-i : goal.invariant-loop-i
 invariant-loop-i l = record {

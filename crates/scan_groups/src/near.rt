@@ -1,0 +1,91 @@
+//! Numbers whose places were asked for lately.
+ghost use Rattle.std.specs.Prelude.{◌≡◌, [], IfOk, IfSome, List, ℕ};
+ghost use Rattle.std.specs.BTreeMap.{BTreeMap};
+ghost use Rattle.scan_values.specs.Val.{Val};
+ghost use Rattle.scan_groups.specs.Near.{AreAt, IsAt};
+
+use scan_values::NoMemory;
+use std::alloc::Global;
+
+/// A number, and the place of the key that it is.
+#[derive(Clone, Copy)]
+pub(crate) struct Slot {
+    pub number: i64,
+    pub place: usize,
+}
+
+/// So many slots at first, and the bits of a product that are left out then.
+const FIRST: (usize, u32) = (256, 56);
+
+/// Numbers and the places of their keys, each number in the one slot that its bits name. What stands in a slot is true,
+/// and a number that lost its slot to another is looked up elsewhere: numbers that all want one slot cost no more than that.
+#[derive(Drop)]
+pub(crate) struct Near {
+    slots: Vec<Slot>,
+    shift: u32,
+}
+
+impl Near {
+    /// No numbers.
+    pub(crate) fn new(alloc: Global) -> Near
+        ensures { result.slots.items ≡ [] }
+    {
+        let slots = Vec::new(alloc);
+        Near { slots, shift: 0 }
+    }
+
+    /// The slot of a number: the first bits of a product, by which numbers that lie side by side are apart.
+    fn slot_of(&self, number: i64) -> usize {
+        let product = number.cast_unsigned().wrapping_mul(0x9e37_79b9_7f4a_7c15);
+        product.wrapping_shr(self.shift) as usize
+    }
+
+    /// The place of a number's key, where it stands in its slot.
+    pub(crate) fn find(&self, number: i64) -> Option<usize>
+        ensures { (m : BTreeMap (List Val) ℕ) → AreAt m self.now →
+            IfSome result (λ i. IsAt m (record { number = number; place = i })) }
+    {
+        let Some(slot) = self.slots.get(self.slot_of(number)) else {
+            return None;
+        };
+        if slot.number == number {
+            Some(slot.place)
+        } else {
+            None
+        }
+    }
+
+    fn put(&mut self, slot: Slot)
+        ensures { (m : BTreeMap (List Val) ℕ) → AreAt m self.old → IsAt m slot → AreAt m self.new }
+    {
+        let at = self.slot_of(slot.number);
+        if at < self.slots.len() {
+            self.slots[at] = slot;
+        }
+    }
+
+    /// Twice as many slots. What the others had is found again where it is looked up.
+    fn grow(&mut self, alloc: Global, slot: Slot) -> Result<(), NoMemory>
+        ensures { (m : BTreeMap (List Val) ℕ) → IsAt m slot → IfOk result (λ _. AreAt m self.new) }
+    {
+        let (len, shift) = match self.slots.len().checked_mul(2) {
+            Some(0) => FIRST,
+            Some(len) => (len, self.shift.saturating_sub(1)),
+            None => return Err(NoMemory),
+        };
+        self.slots = vec![in alloc; slot; len]?;
+        self.shift = shift;
+        Ok(())
+    }
+
+    /// The place of a number's key, found elsewhere. There are four slots at least for each of so many groups.
+    pub(crate) fn keep(&mut self, alloc: Global, groups: usize, slot: Slot) -> Result<(), NoMemory>
+        ensures { (m : BTreeMap (List Val) ℕ) → AreAt m self.old → IsAt m slot → IfOk result (λ _. AreAt m self.new) }
+    {
+        if self.slots.len() / 4 < groups {
+            return self.grow(alloc, slot);
+        }
+        self.put(slot);
+        Ok(())
+    }
+}
