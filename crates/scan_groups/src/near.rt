@@ -35,12 +35,14 @@ impl Near {
     }
 
     /// The slot of a number: the first bits of a product, by which numbers that lie side by side are apart.
+    #[inline(always)]
     fn slot_of(&self, number: i64) -> usize {
         let product = number.cast_unsigned().wrapping_mul(0x9e37_79b9_7f4a_7c15);
         product.wrapping_shr(self.shift) as usize
     }
 
     /// The place of a number's key, where it stands in its slot.
+    #[inline(always)]
     pub(crate) fn find(&self, number: i64) -> Option<usize>
         ensures { (m : BTreeMap (List Val) ℕ) → AreAt m self.now →
             IfSome result (λ i. IsAt m (record { number = number; place = i })) }

@@ -107,6 +107,7 @@ impl Places {
     }
 
     /// The place of a number's key, which stands in its slot afterwards.
+    #[inline(never)]
     fn place_far(&mut self, alloc: Global, number: i64) -> Result<usize, NoMemory>
         ensures { (keys : ℕ) (rows : List Row) (row : Row) → row.key ≡ int_val number ∷ [] → ArePlaces keys rows self.old →
             IfOk result (Placed keys rows row self.old self.new) }
@@ -117,6 +118,7 @@ impl Places {
     }
 
     /// The place of a number's key.
+    #[inline(always)]
     fn place_number(&mut self, alloc: Global, number: i64) -> Result<usize, NoMemory>
         ensures { (keys : ℕ) (rows : List Row) (row : Row) → row.key ≡ int_val number ∷ [] → ArePlaces keys rows self.old →
             IfOk result (Placed keys rows row self.old self.new) }
@@ -143,7 +145,7 @@ impl Places {
         ensures places { (keys : ℕ) (rows more : List Row) → map (λ row. row.key) more ≡ map (λ v. v ∷ []) (map int_val numbers.now) →
             ArePlaces keys rows self.old → IfOk result (λ ps. PlacedAll keys rows more self.old self.new ps.items) }
     {
-        let mut places = vec![in alloc; 0usize; numbers.len()]?;
+        let mut places = vec![in alloc; self.count; numbers.len()]?;
         for i in 0..places.len() {
             places[i] = self.place_number(alloc, numbers[i])?;
         }

@@ -74,6 +74,7 @@ impl Sum {
     }
 
     /// Takes one more value, for which an i64 has no room.
+    #[inline(never)]
     fn add_far(&mut self, n: i64) -> Result<(), NoMemory>
         ensures { (vs : List Val) → IsSum self.old vs → IfOk result (λ _. IsSum self.new (vs ++ int_val n ∷ [])) }
     {
@@ -82,6 +83,7 @@ impl Sum {
     }
 
     /// Takes one more value.
+    #[inline(always)]
     pub(crate) fn add(&mut self, n: i64) -> Result<(), NoMemory>
         ensures { (vs : List Val) → IsSum self.old vs → IfOk result (λ _. IsSum self.new (vs ++ int_val n ∷ [])) }
     {
