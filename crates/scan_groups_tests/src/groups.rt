@@ -1,5 +1,5 @@
 //! Groups by keys of each kind, each measure, and sums at the ends of their range.
-use scan_groups::{Group, Groups, GroupsFault, Measured, compare};
+use scan_groups::{Cell as Lent, Group, Groups, GroupsFault, Measured, Run, compare};
 use scan_values::{Text, Value, Values};
 use std::alloc::Global;
 use std::cmp::Ordering;
@@ -328,5 +328,68 @@ fn values_are_compared_by_kind_first(rt: HostRuntime) -> Result<(), Fail> {
     assert!(rt; compare(&value(alloc, Cell::Word('a'))?, &Value::Int(MOST)) == Ordering::Greater);
     assert!(rt; compare(&list, &value(alloc, Cell::Word('a'))?) == Ordering::Greater);
     assert!(rt; compare(&Value::Int(7), &Value::Int(7)) == Ordering::Equal);
+    Ok(())
+}
+
+/// The sums of what is read of rows, by their keys of one value each, given in one run.
+fn sums_by(alloc: Global, keys: Run, read: Run) -> Result<Result<Vec<Group>, GroupsFault>, Fail> {
+    let mut groups = Groups::new(alloc, 1, Vec::from_slice(alloc, &[Measured::Sum(0)])?)?;
+    let places = groups.place_run(alloc, keys)?;
+    if groups.measure_count() == 0 {
+        return Err(Fail::from("no measure"));
+    }
+    if places.len() != read.len() {
+        return Err(Fail::from("as many keys as rows"));
+    }
+    groups.add_run(alloc, 0, &places, read)?;
+    Ok(groups.into_groups(alloc))
+}
+
+#[test]
+fn runs_of_numbers_are_summed_by_numbers(rt: HostRuntime) -> Result<(), Fail> {
+    use Cell::Number;
+    let alloc = rt.alloc();
+    let made = sums_by(
+        alloc,
+        Run::Numbers(&[5, -5, 5, 7]),
+        Run::Numbers(&[1, 2, 3, -4]),
+    )?;
+    let wanted: [(&[Cell], &[Cell]); 3] = [
+        (&[Number(-5)], &[Number(2)]),
+        (&[Number(5)], &[Number(4)]),
+        (&[Number(7)], &[Number(-4)]),
+    ];
+    assert!(rt; are(alloc, made, &wanted)?);
+    Ok(())
+}
+
+#[test]
+fn runs_of_lent_values_are_summed_by_values_of_each_kind(rt: HostRuntime) -> Result<(), Fail> {
+    use Cell::{Null, Number, Truth, Word};
+    let alloc = rt.alloc();
+    let keys = [
+        Lent::Text("b"),
+        Lent::Null,
+        Lent::Truth(true),
+        Lent::Text("b"),
+        Lent::Number(MOST),
+        Lent::Null,
+    ];
+    let read = [
+        Lent::Number(1),
+        Lent::Null,
+        Lent::Number(MOST),
+        Lent::Number(2),
+        Lent::Number(-3),
+        Lent::Null,
+    ];
+    let made = sums_by(alloc, Run::Cells(&keys), Run::Cells(&read))?;
+    let wanted: [(&[Cell], &[Cell]); 4] = [
+        (&[Null], &[Null]),
+        (&[Truth(true)], &[Number(MOST)]),
+        (&[Number(MOST)], &[Number(-3)]),
+        (&[Word('b')], &[Number(3)]),
+    ];
+    assert!(rt; are(alloc, made, &wanted)?);
     Ok(())
 }
