@@ -1,5 +1,5 @@
 -- The rows that a scan of a table gave, and those of the answer.
-use Rattle.std.proofs.Common.{◌≡◌, ℕ, zero, suc, ◌+◌, ◌<◌, Bool, true, false, not, List, [], ◌∷◌, ◌++◌, length, map, zip, flat_map, Option, None, Some, refl, sym, ap, ◌∙◌, subst, arith, IsPermutation}
+use Rattle.std.proofs.Common.{◌≡◌, ℕ, Bool, true, false, not, List, [], ◌∷◌, ◌++◌, length, map, zip, flat_map, Option, None, Some, refl, sym, ap, ◌∙◌, subst, arith, IsPermutation}
 use Rattle.std.specs.Prelude.{All, IsSome, if◌then◌else◌}
 use Rattle.std.specs.List.{AllByRecursion, slice_get}
 use Rattle.std.proofs.lemmas.List.{map-append}
@@ -10,7 +10,7 @@ use Rattle.scan_values.specs.DataType.{DataType}
 use Rattle.scan_values.specs.Val.{Val}
 use Rattle.scan_drive.proofs.Same.{joined_alike}
 use Rattle.scan_groups.specs.Order.{same_key}
-use Rattle.scan_groups.specs.Rows.{Row, group_of, values_at, is_in_range, is_sum_past, sum_of, IsPast, IsFirstPast}
+use Rattle.scan_groups.specs.Rows.{Row, group_of, values_at, is_in_range, is_sum_past, IsPast, IsFirstPast}
 use Rattle.scan_groups.specs.declared.measure.Measured.{Measured}
 use Rattle.scan_groups.specs.declared.measure.Measured.TheVariants.{Count, Values, Sum, Least, Greatest}
 use Rattle.scan_groups.proofs.Permuting.{passed_alike}

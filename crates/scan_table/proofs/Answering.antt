@@ -1,5 +1,5 @@
 -- What a run answers of its input, where all went well: bytes are one job at most.
-use Rattle.std.proofs.Common.{◌≡◌, ◌⊎◌, inl, inr, ℕ, Bool, true, false, List, [], ◌++◌, length, map, Option, None, Some, nat_lt, refl, sym, ap, ◌∙◌, subst, arith}
+use Rattle.std.proofs.Common.{◌≡◌, ◌⊎◌, inl, inr, ℕ, false, List, [], ◌++◌, length, map, Option, None, Some, nat_lt, refl, sym, ap, ◌∙◌, subst}
 use Rattle.std.specs.Prelude.{IfSome, Contains}
 use Rattle.std.specs.declared.ops.Range.{Range}
 use Rattle.serde_json.specs.Data.{Data}
@@ -12,7 +12,6 @@ use Rattle.scan_expr.specs.Expr.{Expr, pack, parts_of}
 use Rattle.scan_expr.specs.Typing.{of_names, request_fault}
 use Rattle.scan_expr.specs.declared.request.ScanRequest.{ScanRequest}
 use Rattle.scan_groups.specs.Rows.{IsFirstPast, Row}
-use Rattle.scan_groups.specs.declared.measure.Measured.{Measured}
 use Rattle.scan_manifest.specs.CacheSize.{CacheSize}
 use Rattle.scan_manifest.specs.declared.manifest.FileSpec.{FileSpec}
 use Rattle.scan_manifest.specs.declared.manifest.Manifest.{Manifest}
@@ -24,7 +23,7 @@ use Rattle.scan_run.specs.Io.{InputState, OutputState}
 use Rattle.scan_run.specs.Run.{CanFail, IsBadFile, IsUnreadable, told_by}
 use Rattle.scan_table.specs.Jobs.{Asks, IsJob, scanned_by}
 use Rattle.scan_table.specs.Request.{key_fault, measure_fault, of_bind, or_else, unless}
-use Rattle.scan_table.specs.Runs.{Answers, EndsTable, IsFaulty, IsGiven, IsPastIn, IsSound, IsTableReady, WentWell}
+use Rattle.scan_table.specs.Runs.{Answers, EndsTable, IsFaulty, IsGiven, IsPastAlone, IsPastIn, IsSound, IsTableReady, WentWell}
 use Rattle.scan_table.specs.Spec.{key_names, key_parts, measure_names, measure_parts, measured_from, own_names}
 use Rattle.scan_table.specs.Tables.{row_of}
 use Rattle.scan_table.specs.declared.fault.TableFault.{TableFault}
@@ -212,9 +211,9 @@ module _ (bytes : List ℕ) (old new : InputState) (output output' : OutputState
   end_answers s (inr (j, g, inl (e, f))) = faulty_answers s j g e f
   end_answers s (inr (j, g, inr (inl (e, u)))) = by u.why
     where
-      by : IsUnreadable (scanned_by j) ⊎ IsPastIn j → Answers bytes s
+      by : IsUnreadable (scanned_by j) ⊎ IsPastAlone j → Answers bytes s
       by (inl bad) = bad_answers s j g u.late (λ ok. ok.reads bad.file bad.there bad.bad)
-      by (inr p) = past_answers s j g e u.late p
+      by (inr p) = past_answers s j g e u.late p.past
   end_answers s (inr (j, g, inr (inr (inl (e, f))))) = bad_answers s j g f.late (λ ok. ok.works f.failing.file f.failing.there f.failing.failing)
   end_answers s (inr (j, g, inr (inr (inr e)))) = out_of_memory bytes s e
 

@@ -2,7 +2,6 @@
 use Rattle.std.proofs.Common.{◌≡◌, ◌≢◌, ℕ, true, false, Option, None, Some, Result, Ok, Err, refl, sym, ap, ◌∙◌, subst}
 use Rattle.std.specs.Prelude.{IfSome}
 use Rattle.scan_values.specs.DataType.{DataType}
-use Rattle.scan_expr.specs.Bound.{Bound, bound_of}
 use Rattle.scan_expr.specs.Expr.{Expr}
 use Rattle.scan_expr.specs.Infer.{infer}
 use Rattle.scan_expr.specs.Typing.{Fault, bind_fault, filter_fault, or_fault, request_fault, typed, unless as unless_bound}

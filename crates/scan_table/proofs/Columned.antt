@@ -1,10 +1,10 @@
 -- The rows of columns.
-use Rattle.std.proofs.Common.{◌≡◌, ℕ, ℤ, zero, suc, ◌+◌, ◌-◌, ◌<◌, ◌≤◌, Bool, true, false, cond, List, [], ◌∷◌, ◌++◌, length, get_or, map, take, drop, refl, sym, ap, ◌∙◌, subst, arith}
+use Rattle.std.proofs.Common.{◌≡◌, ℕ, ℤ, zero, suc, ◌+◌, ◌-◌, ◌≤◌, Bool, true, false, cond, List, [], ◌∷◌, ◌++◌, length, get_or, map, take, drop, refl, sym, ap, ◌∙◌, subst, arith}
 use Rattle.std.specs.Borrow.{Bor}
 use Rattle.std.specs.Prelude.{◌&&◌, IfOk, IfSome, Option, None, Some, Result, Ok, Err, replicate}
 use Rattle.std.specs.List.{list_all, slice_get}
 use Rattle.std.proofs.lemmas.List.{length-replicate, length-map, map-append, take_all}
-use Rattle.scan_values.specs.Val.{Val, null_val, bool_val, int_val, text_val}
+use Rattle.scan_values.specs.Val.{Val, null_val, int_val}
 use Rattle.scan_spelling.specs.LeafColumns.{text_or_null}
 use Rattle.scan_values.specs.declared.memory.NoMemory.{NoMemory}
 use Rattle.scan_columns.specs.Access.{AreFieldsIn}

@@ -183,7 +183,12 @@ module _ {O S : Type 0} (opener : O → OpenerState) (source : S → SourceState
       groups_cause : (f : GroupsFault) → (AreKeyed (key_count s) out.chunks → HasGroupsCause (all_measured s) (chunk_rows (key_count s) out.chunks) f)
           → HasTableCause opener source workers d s old new c c' (of_groups f)
       groups_cause (groups.SumRange measure) h =
-          (none, λ l. first_past_forth (all_measured s) (chunk_rows (key_count s) out.chunks) (table_rows d s (told opener source old)) measure (rows_alike l) (h (are_keyed l)))
+          record {
+            types = none;
+            read = scanned.read refl;
+            clean = λ l. clean_whole d (request_of s) (told opener source old) out.chunks (scanned.whole refl refl l);
+            past = λ l. first_past_forth (all_measured s) (chunk_rows (key_count s) out.chunks) (table_rows d s (told opener source old)) measure (rows_alike l) (h (are_keyed l));
+          }
       groups_cause groups.NoMemory h = tt
 
       groups_told : (f : GroupsFault) → ((measure : ℕ) × (of_groups f ≡ fault.SumRange measure)) ⊎ (of_groups f ≡ fault.NoMemory)

@@ -1,5 +1,5 @@
 -- The input of the program, read from JSON.
-use Rattle.std.proofs.Common.{◌≡◌, ℕ, ◌<◌, ◌≤◌, Bool, true, false, List, [], ◌∷◌, length, get_or, Option, None, Some, Result, Ok, Err, refl, sym, ap, ◌∙◌, subst, cond, arith}
+use Rattle.std.proofs.Common.{◌≡◌, ℕ, ◌<◌, ◌≤◌, Bool, true, false, List, [], ◌∷◌, length, get_or, Option, None, Some, Result, Err, refl, sym, ap, ◌∙◌, subst, cond, arith}
 use Rattle.std.specs.Prelude.{◌&&◌, String, string_bytes, option_and_then, option_map, codes}
 use Rattle.std.specs.declared.alloc.Global.{Global}
 use Rattle.std.specs.declared.vec.Vec.{Vec}
@@ -10,9 +10,8 @@ use Rattle.serde_json.specs.Find.{as_object, get}
 use Rattle.serde_json.specs.Read.{read}
 use Rattle.serde_json.specs.declared.value.Value.{Value}
 use Rattle.serde_json.specs.View.{items_view, members_view, view}
-use Rattle.scan_expr.specs.Expr.{Expr}
 use Rattle.scan_expr.specs.Expr.{is_root}
-use Rattle.scan_values.specs.DataType.{DataType, Name}
+use Rattle.scan_values.specs.DataType.{DataType}
 use Rattle.scan_manifest.specs.DTypes.{dtype_in}
 use Rattle.scan_manifest.specs.Json.{number_to, optional}
 use Rattle.scan_manifest.specs.Manifest.{all_agree, cache_in, files_in, manifest_in, manifest_with, request_in, usual_cache}
@@ -23,7 +22,6 @@ use Rattle.scan_manifest.specs.declared.manifest.FileSpec.{FileSpec}
 use Rattle.scan_manifest.specs.declared.manifest.Manifest.{Manifest}
 use Rattle.scan_table.specs.Jobs.{Asks, IsJob, free_manifest_in, has_job_form, have_job_keys, is_free, is_job_key, key_of, keys_at, manifest_at, measure_of, measures_at, named_count, named_over, named_part, rooted}
 use Rattle.scan_table.specs.declared.reading.Job.{Job}
-use Rattle.scan_table.specs.declared.spec.Measure.{Measure}
 
 pub have_keys-keys : (es : List (String Global × Value)) → have_job_keys (members_view es) ≡ list_all (λ k. is_job_key (string_bytes k)) (keys_of es)
 have_keys-keys [] = refl

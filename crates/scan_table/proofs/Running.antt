@@ -1,6 +1,8 @@
 -- What a run of the program has done at each of its ends.
-use Rattle.std.proofs.Common.{◌≡◌, ◌≢◌, ◌⊎◌, inl, inr, ℕ, ◌<◌, ◌≤◌, Bool, true, false, List, ◌++◌, map, Option, None, Some, nat_lt, refl, sym, ap, ◌∙◌, subst, arith}
-use Rattle.std.specs.Prelude.{IfSome, option_map}
+use Rattle.std.proofs.Common.{◌≡◌, ◌≢◌, ◌⊎◌, inl, inr, ℕ, ◌<◌, ◌≤◌, Bool, true, false, List, [], ◌∷◌, ◌++◌, map, Option, None, Some, nat_lt, refl, sym, ap, ◌∙◌, subst, arith}
+use Rattle.std.specs.Prelude.{All, IfSome, IsSome, option_map}
+use Rattle.std.specs.List.{AllByRecursion}
+use Rattle.std.proofs.lemmas.List.Elements.{All-from_recursion, recursion_from_All}
 use Rattle.scan_values.specs.DataType.{DataType, Name}
 use Rattle.scan_expr.specs.Typing.{Fault, request_fault}
 use Rattle.scan_segments.specs.Cache.{CacheState, empty_cache}
@@ -9,8 +11,10 @@ use Rattle.scan_segments.specs.MemorySource.{source_state}
 use Rattle.scan_segments.specs.declared.segment.SegmentKey.{SegmentKey}
 use Rattle.scan_groups.specs.Rows.{IsFirstPast}
 use Rattle.scan_groups.specs.declared.group.Group.{Group}
-use Rattle.scan_multi.specs.Answer.{ToldFile}
-use Rattle.scan_multi.specs.Lawful.{IsLawful, told}
+use Rattle.scan_manifest.specs.declared.manifest.FileSpec.{FileSpec}
+use Rattle.scan_multi.specs.Answer.{ToldFile, answer}
+use Rattle.scan_multi.specs.Checks.{IsGood}
+use Rattle.scan_multi.specs.Lawful.{Gives, IsLawful, told}
 use Rattle.scan_multi.specs.Request.{first_request_fault, has_no_partitions, is_forward, of_bind as scan_bind, or_else as scan_else, unless as scan_unless}
 use Rattle.scan_multi.specs.declared.scan.fault.RangeFault.TheVariants.{Reversed, Past}
 use Rattle.scan_multi.specs.declared.scan.fault.ScanFault.{ScanFault}
@@ -18,7 +22,8 @@ use Rattle.scan_multi.specs.declared.scan.fault.ScanFault.TheVariants as scan
 use Rattle.scan_run.specs.FileOf.{AreFilesOf, AreReady, memory_opener}
 use Rattle.scan_run.specs.Io.{InputState, OutputState}
 use Rattle.scan_run.specs.ReadAll.{GaveAll, TookMore}
-use Rattle.scan_run.specs.Run.{told_by}
+use Rattle.scan_opener.specs.Opener.{Given}
+use Rattle.scan_run.specs.Run.{given_by, told_by}
 use Rattle.scan_run.specs.Stops.{IsStop, status_of, stop_of}
 use Rattle.scan_run.specs.WriteAll.{WroteFront}
 use Rattle.scan_run.specs.declared.run.Stop.{Stop}
@@ -26,10 +31,10 @@ use Rattle.scan_run.specs.declared.run.Stop.TheVariants.{Unbound, Unreadable, Fa
 use Rattle.scan_run.proofs.Stopping.{File, stopped, told_same}
 use Rattle.scan_table.specs.AskedOf.{IsAsked}
 use Rattle.scan_table.specs.Jobs.{IsJob, scanned_by}
-use Rattle.scan_table.specs.Request.{first_plain_fault, first_table_fault, name_fault, of_bind, or_else, read_fault, type_fault, unless}
+use Rattle.scan_table.specs.Request.{first_table_fault, of_bind, or_else, unless}
 use Rattle.scan_table.specs.Runs.{EndsTable, HasTableEnd, IsEnd, IsFailed, IsFaulty, IsGiven, IsJobFound, IsNoJob, IsTableDone, IsTableReady, IsTextOf, IsTotalled, IsUntotalled, TableWrites, WroteFrontOfTable, group_lines, status_of_fault}
 use Rattle.scan_table.specs.Scans.{HasTableCause, IsTable}
-use Rattle.scan_table.specs.Spec.{all_measured, key_count, names_of, projection_of, request_of}
+use Rattle.scan_table.specs.Spec.{all_measured, names_of, projection_of, request_of}
 use Rattle.scan_table.specs.Tables.{IsTableOf, table_rows}
 use Rattle.scan_table.specs.declared.fault.TableFault.{TableFault}
 use Rattle.scan_table.specs.declared.fault.TableFault.TheVariants as fault
@@ -63,6 +68,16 @@ no_request_fault workers d s none =
     ∙ ap (λ b. scan_else (scan_unless b (scan.RowRange Reversed)) (scan_bind f)) forward
     ∙ ap scan_bind bound
 
+-- ---- what is told of files that were made is told of what they are made of
+goods_by : (P : Given → Type 0) (specs : List FileSpec) (made : List File) → AreFilesOf specs made → AllByRecursion (Gives memory_opener source_state P) made → AllByRecursion (λ (f : FileSpec). P (given_by f)) specs
+goods_by P [] [] are h = tt
+goods_by P [] (f ∷ fs) are h = absurd are
+goods_by P (spec ∷ specs) [] are h = absurd are
+goods_by P (spec ∷ specs) (f ∷ fs) are h = (subst (λ o. IfSome o P) are.0.gives h.0, goods_by P specs fs are.1 h.1)
+
+goods : (P : Given → Type 0) (specs : List FileSpec) (made : List File) → AreFilesOf specs made → All (Gives memory_opener source_state P) made → All (λ (f : FileSpec). P (given_by f)) specs
+goods P specs made are h = All-from_recursion (λ (f : FileSpec). P (given_by f)) specs (goods_by P specs made are (recursion_from_All (Gives memory_opener source_state P) made h))
+
 -- ---- a table of the files of a job
 module _ (j : Job) (made new : List File) (are : AreFilesOf j.files made) (lawful : IsLawful memory_opener source_state made empty_cache) (c' : CacheState SegmentKey) where
   scan_end : (t : Stop) → first_table_fault j.workers j.dtype j.spec ≡ None → IsStop (scanned_by j) t → IsEnd j (status_of t)
@@ -94,8 +109,18 @@ module _ (j : Job) (made new : List File) (are : AreFilesOf j.files made) (lawfu
   table_end (fault.Scan e) (inr (none, h)) = scan_end (stop_of e) none (stopped (scanned_by j) made new are lawful e h)
   table_end (fault.KeyType k) h = inl (refl, (fault.KeyType k, h))
   table_end (fault.MeasureType k) h = inl (refl, (fault.MeasureType k, h))
-  table_end (fault.SumRange k) (none, h) =
-      inr (inl (refl, record { late = none; why = inr (k, subst (λ (ts : List ToldFile). IsFirstPast (all_measured j.spec) (table_rows j.dtype j.spec ts) k) told_is (h lawful)) }))
+  table_end (fault.SumRange k) h =
+      inr (inl (
+        refl,
+        record {
+          late = h.types;
+          why = inr (record {
+            read = goods (IsGood j.dtype (request_of j.spec)) j.files made are h.read;
+            clean = subst (λ (ts : List ToldFile). All (λ item. IsSome item.value) (answer j.dtype (request_of j.spec) ts)) told_is (h.clean lawful);
+            past = (k, subst (λ (ts : List ToldFile). IsFirstPast (all_measured j.spec) (table_rows j.dtype j.spec ts) k) told_is (h.past lawful));
+          });
+        },
+      ))
   table_end fault.NoMemory h = inr (inr (inr refl))
 
   pub totalled : (groups : List Group) → IsTable memory_opener source_state j.workers j.dtype j.spec made new empty_cache c' groups → IsTotalled j groups

@@ -1,5 +1,5 @@
 -- The keys of the rows of a table are scalars.
-use Rattle.std.proofs.Common.{◌≡◌, ℕ, zero, suc, ◌+◌, ◌<◌, Bool, true, false, List, [], ◌∷◌, ◌++◌, length, map, take, Option, None, Some, refl, sym, ap, ◌∙◌, subst, arith}
+use Rattle.std.proofs.Common.{◌≡◌, ℕ, zero, suc, ◌+◌, Bool, true, false, List, [], ◌∷◌, ◌++◌, length, map, take, Option, None, Some, refl}
 use Rattle.std.specs.Prelude.{◌&&◌, All}
 use Rattle.std.proofs.lemmas.List.Elements.{All-nil, All-cons}
 use Rattle.scan_values.specs.DataType.{DataType, Name, bool_type, int_type, utf8_type, list_type, struct_type, Fields, no_fields, field}
@@ -13,7 +13,7 @@ use Rattle.scan_expr.specs.Infer.{infer, infer_all}
 use Rattle.scan_groups.specs.Order.{is_scalar, are_scalars}
 use Rattle.scan_table.specs.Request.{key_fault, or_else, unless}
 use Rattle.scan_table.specs.Spec.{key_count, key_parts, measure_parts, own_names, projection_of}
-use Rattle.scan_table.specs.Rows.{listed, fields_in, row_in}
+use Rattle.scan_table.specs.Rows.{listed, row_in}
 use Rattle.scan_table.specs.Totalled.{HasKey, begin_scalar, has_keys}
 use Rattle.scan_table.specs.declared.fault.TableFault.{TableFault}
 use Rattle.scan_table.specs.declared.fault.TableFault.TheVariants as fault

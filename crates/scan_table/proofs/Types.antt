@@ -10,7 +10,6 @@ use Rattle.std.specs.Fmt.{decimal}
 use Rattle.scan_expr.specs.Expr.{Expr, parts_of, root}
 use Rattle.scan_expr.specs.Infer.{infer, infer_all}
 use Rattle.scan_groups.specs.declared.measure.Measured.{Measured}
-use Rattle.scan_table.specs.declared.fault.TableFault.{TableFault}
 use Rattle.scan_table.specs.declared.fault.TableFault.TheVariants as fault
 use Rattle.scan_table.specs.declared.spec.Measure.{Measure}
 use Rattle.scan_table.specs.declared.spec.Measure.TheVariants.{Count, Values, Sum, Least, Greatest}

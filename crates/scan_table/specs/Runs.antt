@@ -1,5 +1,5 @@
 -- What a run of the program does.
-use Rattle.std.specs.Prelude.{◌≡◌, ◌⊎◌, ℕ, ◌<◌, List, [], ◌∷◌, ◌++◌, Bool, true, false, None, Some, IfSome, Contains, map, option_map, flat_map, codes}
+use Rattle.std.specs.Prelude.{◌≡◌, ◌⊎◌, ℕ, ◌<◌, List, [], ◌∷◌, ◌++◌, Bool, true, false, None, Some, IfSome, IsSome, All, Contains, map, option_map, flat_map, codes}
 use Rattle.std.specs.Str.{bytes_eq}
 use Rattle.scan_values.specs.DataType.{Name, Fields, no_fields, field, bool_type}
 use Rattle.scan_values.specs.declared.ptype.Nullability.TheVariants.{Nullable}
@@ -7,15 +7,17 @@ use Rattle.scan_values.specs.Val.{vals_of}
 use Rattle.scan_segments.specs.Faults.{Rose}
 use Rattle.scan_groups.specs.Rows.{IsFirstPast}
 use Rattle.scan_groups.specs.declared.group.Group.{Group}
+use Rattle.scan_multi.specs.Answer.{answer}
+use Rattle.scan_multi.specs.Checks.{IsGood}
 use Rattle.scan_run.specs.Io.{InputState, OutputState, WasRead}
 use Rattle.scan_run.specs.Line.{fields_text}
 use Rattle.scan_run.specs.ReadAll.{GaveAll, TookMore}
 use Rattle.scan_manifest.specs.declared.manifest.FileSpec.{FileSpec}
-use Rattle.scan_run.specs.Run.{CanFail, IsBadFile, IsUnreadable, IsFailing, WroteNone, told_by}
+use Rattle.scan_run.specs.Run.{CanFail, IsBadFile, IsUnreadable, IsFailing, WroteNone, given_by, told_by}
 use Rattle.scan_run.specs.Stops.{status_of, stop_of}
 use Rattle.scan_table.specs.Jobs.{IsJob, scanned_by}
 use Rattle.scan_table.specs.Request.{first_table_fault}
-use Rattle.scan_table.specs.Spec.{all_measured, names_of}
+use Rattle.scan_table.specs.Spec.{all_measured, names_of, request_of}
 use Rattle.scan_table.specs.Tables.{IsTableOf, table_rows}
 use Rattle.scan_table.specs.declared.fault.TableFault.{TableFault}
 use Rattle.scan_table.specs.declared.fault.TableFault.TheVariants as fault
@@ -85,10 +87,16 @@ IsFaulty j = (e : TableFault) × (first_table_fault j.workers j.dtype j.spec ≡
 abbrev pub IsPastIn : Job → Type 0
 IsPastIn j = (measure : ℕ) × IsFirstPast (all_measured j.spec) (table_rows j.dtype j.spec (map told_by j.files)) measure
 
--- the table has no fault, and a file can't be read, or some sum is past 64 bits
+-- Each file is skipped or of a good layout, no row of the answer is damaged, and a sum is past 64 bits.
+pub record IsPastAlone (j : Job) : Type 0 where
+  pub read : All (λ (f : FileSpec). IsGood j.dtype (request_of j.spec) (given_by f)) j.files
+  pub clean : All (λ item. IsSome item.value) (answer j.dtype (request_of j.spec) (map told_by j.files))
+  pub past : IsPastIn j
+
+-- the table has no fault, and a file can't be read, or all can and some sum is past 64 bits
 pub record IsUntotalled (j : Job) : Type 0 where
   pub late : first_table_fault j.workers j.dtype j.spec ≡ None
-  pub why : IsUnreadable (scanned_by j) ⊎ IsPastIn j
+  pub why : IsUnreadable (scanned_by j) ⊎ IsPastAlone j
 
 -- the table has no fault, and what may fail of a file did
 pub record IsFailed (j : Job) : Type 0 where
@@ -118,7 +126,7 @@ module _ (status : ℕ) (input input' : InputState) (output output' : OutputStat
     pub refused : status ≡ 2 → IsNoJob input input'
     -- the table has a fault
     pub faulty : status ≡ 3 → IsJobFound input input' IsFaulty
-    -- it has none, and a file can't be read, or some sum is past 64 bits
+    -- it has none, and a file can't be read, or all can and some sum is past 64 bits
     pub untotalled : status ≡ 4 → IsJobFound input input' IsUntotalled
     -- it has none, and what may fail of a file did
     pub failed : status ≡ 5 → IsJobFound input input' IsFailed

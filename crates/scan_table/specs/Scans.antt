@@ -1,11 +1,12 @@
 -- What a table of files means, why it is refused, and what is left.
-use Rattle.std.specs.Prelude.{◌≡◌, ◌≢◌, ◌⊎◌, ℕ, List, None, Some, IfSome, All}
+use Rattle.std.specs.Prelude.{◌≡◌, ◌≢◌, ◌⊎◌, ℕ, List, None, Some, IfSome, IsSome, All}
 use Rattle.scan_values.specs.DataType.{DataType}
 use Rattle.scan_segments.specs.Source.{SourceState}
 use Rattle.scan_segments.specs.Cache.{CacheState}
 use Rattle.scan_segments.specs.declared.segment.SegmentKey.{SegmentKey}
 use Rattle.scan_opener.specs.Opener.{OpenerState}
 use Rattle.scan_drive.specs.declared.files.ScanFile.{ScanFile}
+use Rattle.scan_multi.specs.Answer.{answer}
 use Rattle.scan_multi.specs.Causes.{HasCause}
 use Rattle.scan_multi.specs.Checks.{IsGood}
 use Rattle.scan_multi.specs.Lawful.{told, IsLawful, Gives}
@@ -32,14 +33,24 @@ module _ {O S : Type 0} (opener : O → OpenerState) (source : S → SourceState
     -- each file is skipped or of a good layout, as far as its opener tells
     pub read : All (Gives opener source (IsGood d (request_of s))) old
 
+  -- Some sum is past 64 bits, this measure's first.
+  pub record IsPastSum (measure : ℕ) : Type 0 where
+    -- the table has no fault
+    pub types : first_table_fault workers d s ≡ None
+    -- each file is skipped or of a good layout, as far as its opener tells
+    pub read : All (Gives opener source (IsGood d (request_of s))) old
+    -- over lawful objects: no row of the answer is damaged
+    pub clean : IsLawful opener source old cache → All (λ item. IsSome item.value) (answer d (request_of s) (told opener source old))
+    -- over lawful objects: some group of its rows has a sum of this measure past 64 bits, and none one of an earlier measure
+    pub past : IsLawful opener source old cache → IsFirstPast (all_measured s) (table_rows d s (told opener source old)) measure
+
   -- the cause of each fault
   abbrev pub HasTableCause : TableFault → Type 0
   HasTableCause (fault.Scan e) = (first_table_fault workers d s ≡ Some (fault.Scan e))
       ⊎ ((first_table_fault workers d s ≡ None) × HasCause opener source workers d (request_of s) cache old new e)
   HasTableCause (fault.KeyType key) = first_table_fault workers d s ≡ Some (fault.KeyType key)
   HasTableCause (fault.MeasureType measure) = first_table_fault workers d s ≡ Some (fault.MeasureType measure)
-  HasTableCause (fault.SumRange measure) = (first_table_fault workers d s ≡ None)
-      × (IsLawful opener source old cache → IsFirstPast (all_measured s) (table_rows d s (told opener source old)) measure)
+  HasTableCause (fault.SumRange measure) = IsPastSum measure
   HasTableCause fault.NoMemory = Unit {0}
 
   -- Why there is no table, by this fault.

@@ -13,7 +13,7 @@ ghost use Rattle.scan_table.specs.Totalled.{AreRead, HasAdded, HaveColumns, Have
 
 use crate::lent::{lent_cells, value_cells};
 use scan_columns::{Cells, Column};
-use scan_groups::{Groups, Run};
+use scan_groups::{Groups, RowPlaces, Run};
 use scan_values::{Array, NoMemory, Value, Values};
 use std::alloc::Global;
 
@@ -81,9 +81,9 @@ fn place_keys(
     groups: &mut Groups,
     alloc: Global,
     key: &Cells,
-) -> Result<Option<Vec<usize>>, NoMemory>
+) -> Result<Option<RowPlaces>, NoMemory>
     ensures { IfOk result (λ o. MatchOption o (groups.new ≡ groups.old)
-        (λ ps. (keys : ℕ) → HavePlaces keys (map (λ v. v ∷ []) (vals_in key.now)) ps.items groups.old groups.new)) }
+        (λ ps. (keys : ℕ) → HavePlaces keys (map (λ v. v ∷ []) (vals_in key.now)) ps groups.old groups.new)) }
 {
     if let Some(numbers) = key.numbers() {
         return Ok(Some(groups.place_run(alloc, Run::Numbers(numbers))?));
@@ -99,7 +99,7 @@ fn read_values(
     groups: &mut Groups,
     alloc: Global,
     measure: usize,
-    places: &[usize],
+    places: &RowPlaces,
     cells: &Cells,
 ) -> Result<(), NoMemory>
     requires measure { measure < count_of groups.old }
@@ -116,7 +116,7 @@ fn read_cells(
     groups: &mut Groups,
     alloc: Global,
     measure: usize,
-    places: &[usize],
+    places: &RowPlaces,
     cells: &Cells,
 ) -> Result<(), NoMemory>
     requires measure { measure < count_of groups.old }
@@ -151,7 +151,7 @@ fn read_measure(
     groups: &mut Groups,
     alloc: Global,
     measure: usize,
-    places: &[usize],
+    places: &RowPlaces,
     columns: &[Cells],
 ) -> Result<(), NoMemory>
     requires measure { measure < count_of groups.old }
@@ -169,7 +169,7 @@ fn read_measure(
 fn read_all(
     groups: &mut Groups,
     alloc: Global,
-    places: &[usize],
+    places: &RowPlaces,
     columns: &[Cells],
 ) -> Result<(), NoMemory>
     requires { AreLong (length places.now) (map vals_in columns.now) }
@@ -193,7 +193,7 @@ fn add_keyless(
     ensures { IfOk result (λ _. HasAdded true 0 (column_rows 0 len (map vals_in columns.now)) groups.old groups.new) }
 {
     let places = groups.place_keyless(alloc, len)?;
-    read_all(groups, alloc, places.as_slice(), columns)?;
+    read_all(groups, alloc, &places, columns)?;
     Ok(())
 }
 
@@ -210,7 +210,7 @@ fn add_keyed(
 {
     match place_keys(groups, alloc, key)? {
         Some(places) => {
-            read_all(groups, alloc, places.as_slice(), columns)?;
+            read_all(groups, alloc, &places, columns)?;
             Ok(true)
         }
         None => Ok(false),
@@ -296,7 +296,7 @@ fn run_end(from: usize, len: usize) -> usize
 }
 
 /// The rows of a column, in their order, a run at a time.
-pub(crate) fn add_column(
+fn add_runs(
     groups: &mut Groups,
     alloc: Global,
     keys: usize,
@@ -314,4 +314,21 @@ pub(crate) fn add_column(
         from = to;
     }
     Ok(())
+}
+
+/// The rows of a column, in their order; where it is longer than a run, a run at a time.
+pub(crate) fn add_column(
+    groups: &mut Groups,
+    alloc: Global,
+    keys: usize,
+    column: Column,
+) -> Result<(), NoMemory>
+    ensures { (ms : List Measured) (rows : List Row) → AreOf keys ms rows groups.old → has_keys keys column.dtype ≡ true →
+        IfOk result (λ _. AreOf keys ms (rows ++ rows_in keys column.items) groups.new) }
+{
+    if column.len() > RUN {
+        add_runs(groups, alloc, keys, &column)
+    } else {
+        add_run(groups, alloc, keys, column)
+    }
 }

@@ -52,7 +52,7 @@ fn add_chunk(
         rows: _,
         values,
     } = chunk;
-    add_column(groups, alloc, keys, &values)
+    add_column(groups, alloc, keys, values)
 }
 
 /// The rows of chunks, in whatever order they come. Each chunk is let go once its rows are totalled.

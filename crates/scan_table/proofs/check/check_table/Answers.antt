@@ -1,4 +1,4 @@
-use Rattle.std.proofs.Common.{◌≡◌, ◌≢◌, None, Some, sym, ap, ◌∙◌, subst}
+use Rattle.std.proofs.Common.{◌≡◌, ◌≢◌, None, Some, sym, ap, ◌∙◌}
 use Rattle.std.proofs.lemmas.Result.{err_from_is_err_and}
 use Rattle.scan_expr.specs.Bound.{Bound, bound_of}
 use Rattle.scan_expr.specs.Typing.{bind_fault, filter_fault}
@@ -6,7 +6,6 @@ use Rattle.scan_expr.specs.declared.op.BindFault.TheVariants as bind
 use Rattle.scan_expr.specs.declared.request.ScanRequest.{ScanRequest}
 use Rattle.scan_table.specs.Request.{of_bind, type_fault}
 use Rattle.scan_table.specs.Spec.{projection_of}
-use Rattle.scan_table.specs.declared.fault.TableFault.TheVariants as fault
 use Rattle.scan_table.proofs.Checking.{bind_err, bind_ok, filter_refused, memory_refused, names_refused, none_is, passes, plain_refused, read_refused, types_refused}
 use Rattle.scan_table.proofs.check.check_table.Goals as goal
 

@@ -1,4 +1,4 @@
-use Rattle.std.proofs.Common.{◌≡◌, sym, ◌∙◌, arith, refl}
+use Rattle.std.proofs.Common.{sym, ◌∙◌, arith, refl}
 use Rattle.scan_values.specs.FieldLists.{dtypes_of}
 use Rattle.scan_table.proofs.Types.{key_here, key_next, keys_done}
 use Rattle.scan_table.proofs.check.first_bad_key.Goals as goal

@@ -1,5 +1,5 @@
 -- What a run has done at each of its ends: other words, the lines written, a write that failed, no memory, and an end before anything is written.
-use Rattle.std.proofs.Common.{Err, List, ℕ, refl, sym, ap, ◌∙◌, inl, inr, arith}
+use Rattle.std.proofs.Common.{Err, refl, sym, ap, ◌∙◌, arith}
 use Rattle.scan_table.proofs.Answering.{end_answers, ready_answers, short_answers}
 use Rattle.scan_table.proofs.Running.{clash, done_writes, end_below, end_done, end_table, end_words, failed_end, failed_writes, no_end, ready_done, ready_front, short_writes, still_writes}
 use Rattle.scan_table.proofs.program.run_table.Goals as goal

@@ -1,5 +1,5 @@
 use Rattle.std.proofs.Common.{sym, ◌∙◌}
-use Rattle.scan_table.proofs.Parsing.{form_of, have_keys-keys, no_form}
+use Rattle.scan_table.proofs.Parsing.{form_of, have_keys-keys}
 use Rattle.scan_table.proofs.reading.has_job_form.Goals as goal
 
 pub returns-in-Some : goal.returns-in-Some

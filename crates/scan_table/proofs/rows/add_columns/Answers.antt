@@ -1,5 +1,4 @@
-use Rattle.std.proofs.Common.{◌≡◌, ℕ, ◌-◌, ◌∷◌, List, true, length, map, take, drop, sym, ap, ◌∙◌, subst, arith}
-use Rattle.scan_values.specs.Val.{Val}
+use Rattle.std.proofs.Common.{◌≡◌, ◌-◌, ◌∷◌, List, true, length, map, take, drop, sym, subst, arith}
 use Rattle.scan_columns.specs.Cells.{vals_in}
 use Rattle.scan_columns.specs.Nested.{AreLong}
 use Rattle.scan_columns.specs.declared.cells.Cells.{Cells}

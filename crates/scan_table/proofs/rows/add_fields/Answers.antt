@@ -1,7 +1,6 @@
-use Rattle.std.proofs.Common.{◌≡◌, map, length, true, sym, ap, ◌∙◌, subst, arith}
+use Rattle.std.proofs.Common.{map, ap, ◌∙◌, arith}
 use Rattle.scan_values.specs.Values.{val_of}
 use Rattle.scan_groups.specs.Order.{are_scalars}
-use Rattle.scan_groups.specs.Rows.{Row}
 use Rattle.scan_table.proofs.Rowing.{row_added, row_parts}
 use Rattle.scan_table.proofs.rows.add_fields.Goals as goal
 

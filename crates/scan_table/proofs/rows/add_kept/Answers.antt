@@ -1,4 +1,4 @@
-use Rattle.std.proofs.Common.{◌≡◌, length, map, sym, ap, ◌∙◌, subst, List}
+use Rattle.std.proofs.Common.{length, map, sym, ap, ◌∙◌, subst, List}
 use Rattle.std.specs.Prelude.{IfOk}
 use Rattle.scan_columns.specs.Cells.{vals_in}
 use Rattle.scan_columns.specs.Nested.{AreLong}

@@ -1,4 +1,4 @@
-use Rattle.std.proofs.Common.{◌≡◌, sym, ap, ◌∙◌}
+use Rattle.std.proofs.Common.{sym, ap, ◌∙◌}
 use Rattle.scan_columns.specs.Cells.{vals_in}
 use Rattle.scan_table.proofs.Columned.{have_columns}
 use Rattle.scan_table.proofs.rows.columns_in.Goals as goal

@@ -11,7 +11,7 @@ use Rattle.scan_table.proofs.rows.place_keys.Goals as goal
 
 pub returns-in-Some : goal.returns-in-Some
 returns-in-Some c = λ keys.
-    subst (λ (vs : List Val). HavePlaces keys (map (λ (v : Val). v ∷ []) vs) c.in_ok-place_run.field-0.items c.args.groups.now c.place_run.new.self) c.in-Some.ensures (c.in_ok-place_run.ensures keys (ints_scalar c.in-Some.numbers.now))
+    subst (λ (vs : List Val). HavePlaces keys (map (λ (v : Val). v ∷ []) vs) c.in_ok-place_run.field-0 c.args.groups.now c.place_run.new.self) c.in-Some.ensures (c.in_ok-place_run.ensures keys (ints_scalar c.in-Some.numbers.now))
 
 pub returns-in_ok-place_run-in-Some-2 : goal.returns-in_ok-place_run-in-Some-2
 returns-in_ok-place_run-in-Some-2 c = λ keys.
@@ -19,5 +19,5 @@ returns-in_ok-place_run-in-Some-2 c = λ keys.
     let v : map cell_val items ≡ vals_in c.args.key.now = subst (λ o. IfSome o (λ cs. map cell_val cs.items ≡ vals_in c.args.key.now)) c.in-Some-2.is c.in_ok-cells.ensures.values in
     let s : list_all is_scalar (map cell_val items) ≡ true = subst (λ o. IfSome o (λ cs. list_all is_scalar (map cell_val cs.items) ≡ true)) c.in-Some-2.is c.in_ok-cells.ensures.scalars in
     let e = ap (map cell_val) c.deref.ensures.value in
-    subst (λ (vs : List Val). HavePlaces keys (map (λ (v : Val). v ∷ []) vs) c.in_ok-place_run-in-Some-2.field-0.items c.args.groups.now c.place_run-in-Some-2.new.self) (e ∙ v)
+    subst (λ (vs : List Val). HavePlaces keys (map (λ (v : Val). v ∷ []) vs) c.in_ok-place_run-in-Some-2.field-0 c.args.groups.now c.place_run-in-Some-2.new.self) (e ∙ v)
     (c.in_ok-place_run-in-Some-2.ensures keys (subst (λ (vs : List Val). list_all is_scalar vs ≡ true) (sym e) s))

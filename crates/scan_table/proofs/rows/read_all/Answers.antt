@@ -1,4 +1,4 @@
-use Rattle.std.proofs.Common.{◌≤◌, length, map, arith}
+use Rattle.std.proofs.Common.{length, map, arith}
 use Rattle.scan_columns.specs.Cells.{vals_in}
 use Rattle.scan_groups.proofs.Totalling.{count_same}
 use Rattle.scan_table.proofs.Columned.{all_read, measure_read, none_read}

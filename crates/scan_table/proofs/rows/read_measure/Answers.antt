@@ -1,5 +1,5 @@
 use Rattle.std.proofs.Common.{◌≡◌, length, map, sym, ap, ◌∙◌, subst, List}
-use Rattle.std.specs.Prelude.{IfOk}
+use Rattle.std.specs.Prelude.{IfOk, replicate}
 use Rattle.std.proofs.lemmas.List.{length-replicate}
 use Rattle.scan_values.specs.Val.{Val, null_val}
 use Rattle.scan_columns.specs.Cells.{vals_in}
@@ -14,7 +14,7 @@ read_cells-requires-clause-even c =
     sym (ap length (c.in-Some.ensures n)) ∙ column_long c.reads.result n (map vals_in c.args.columns.now) c.requires.even
 
 pub add_run-requires-clause-even : goal.add_run-requires-clause-even
-add_run-requires-clause-even c = length-replicate (length c.args.places.now) null_val
+add_run-requires-clause-even c = length-replicate c.len.result null_val ∙ c.len.ensures
 
 pub returns-in-Some : goal.returns-in-Some
 returns-in-Some c =
@@ -26,4 +26,6 @@ pub returns-in-None : goal.returns-in-None
 returns-in-None c =
     let n = length c.args.places.now in
     let cs = map vals_in c.args.columns.now in
-    subst (λ (vs : List Val). IfOk c.add_run.result (λ _. HasRead c.args.measure c.args.places.now vs c.args.groups.now c.add_run.new.self)) (sym (c.in-None.ensures n) ∙ ap (λ o. column_in o n cs) c.reads.ensures) c.add_run.ensures
+    let nulls : replicate c.len.result null_val ≡ replicate n null_val = ap (λ k. replicate k null_val) c.len.ensures in
+    subst (λ (vs : List Val). IfOk c.add_run.result (λ _. HasRead c.args.measure c.args.places.now vs c.args.groups.now c.add_run.new.self)) (nulls ∙ sym (c.in-None.ensures n) ∙ ap (λ o. column_in o n cs) c.reads.ensures)
+    c.add_run.ensures

@@ -1,6 +1,6 @@
 use Rattle.std.proofs.Common.{◌≡◌, ◌≤◌, ◌-◌, length}
 use Rattle.scan_table.proofs.Rowing.{HasRows}
-use Rattle.scan_table.proofs.rows.add_column.Given as goal
+use Rattle.scan_table.proofs.rows.add_runs.Given as goal
 
 abbrev pub invariant-runs : goal.invariant-runs
 invariant-runs l = record {

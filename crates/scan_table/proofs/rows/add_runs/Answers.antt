@@ -1,7 +1,7 @@
-use Rattle.std.proofs.Common.{◌≡◌, ◌≤◌, ap, sym, ◌∙◌, arith}
+use Rattle.std.proofs.Common.{◌≤◌, ap, arith}
 use Rattle.scan_values.specs.Arrays.{ArrayData}
 use Rattle.scan_table.proofs.Rowing.{all_rows, no_rows, run_more}
-use Rattle.scan_table.proofs.rows.add_column.Goals as goal
+use Rattle.scan_table.proofs.rows.add_runs.Goals as goal
 
 pub runs-init : goal.runs-init
 runs-init c = record { within = omega arith; len = c.len-len.ensures; rows = no_rows c.args.keys c.args.column.now.dtype c.args.column.now.items c.args.groups.now }
