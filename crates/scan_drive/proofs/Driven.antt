@@ -13,6 +13,7 @@ use Rattle.scan_drive.specs.Files.{Told, answer}
 use Rattle.scan_drive.specs.Forward.{LinePolls, fault_in}
 use Rattle.scan_drive.specs.Grants.{AreGiven}
 use Rattle.scan_drive.specs.Grounds.{IsGround}
+use Rattle.scan_drive.specs.Handed.{with_taken}
 use Rattle.scan_drive.specs.Line.{exchanged, restored, placed_by, renamed, IsAnswered}
 use Rattle.scan_drive.specs.Moves.{EachMoves, tell, tells}
 use Rattle.scan_drive.specs.Openers.{OpenerState}
@@ -24,11 +25,11 @@ use Rattle.scan_drive.specs.Trades.{CacheAgrees}
 use Rattle.scan_drive.specs.Wants.{Cache}
 use Rattle.scan_drive.specs.declared.delivery.Chunk.{Chunk}
 use Rattle.scan_drive.specs.declared.delivery.DriveFault.TheVariants as fault
-use Rattle.scan_drive.specs.declared.driving.DriveOutput.{DriveOutput}
+use Rattle.scan_drive.specs.declared.driving.DriveEnd.{DriveEnd}
 use Rattle.scan_drive.specs.declared.files.ScanFile.{ScanFile}
-use Rattle.scan_drive.specs.declared.report.ScanReport.{ScanReport}
 use Rattle.scan_drive.specs.declared.round.Drive.{Drive}
 use Rattle.scan_drive.specs.declared.settling.RoundFault.{RoundFault}
+use Rattle.scan_drive.specs.declared.sink.Flow.{Flow}
 use Rattle.scan_drive.specs.declared.settling.RoundFault.TheVariants as why
 use Rattle.scan_segments.specs.Faults.{Rose}
 use Rattle.scan_drive.proofs.Exchanging.{length_exchanged}
@@ -75,39 +76,35 @@ module _ {O S I R : Type 0} (state : O → OpenerState I) (source : S → Source
       let all : EachMoves state polls source If (exchanged log a) e = each_then state polls source If (exchanged log a) b e m (each_sources state polls source If NoneOf b e k (λ k id f may h. absurd may)) in
       each_under state polls source If (IsLawful state source a c) (λ h. cache_exchanged log a r source c h.cache) a (restored log e) (back_moves log a r e (all.len ∙ length_exchanged log a) state polls source If all)
 
-module _ {R F : Type 0} (cs : List (Chunk R)) (report : ScanReport) (log : List (ℕ × ℕ)) (done : Result (Unit {0}) (RoundFault F)) (out : Result (DriveOutput R) (RoundFault F)) where
-  -- what is given where all is done
-  abbrev pub GivesOut : Type 0
-  GivesOut = IfOk out (λ o. (done ≡ Ok tt) × (o.report ≡ report) × (o.chunks.items ≡ map (renamed (placed_by log)) cs))
-
+module _ {F : Type 0} (log : List (ℕ × ℕ)) (done : Result Flow (RoundFault F)) (out : Result DriveEnd (RoundFault F)) where
   -- why not all is
   abbrev pub FaultsOut : Type 0
-  FaultsOut = IfErr out (λ e. (e ≡ why.Split fault.NoMemory) ⊎ ((f : RoundFault F) × (done ≡ Err f) × (e ≡ fault_in (placed_by log) f)))
+  FaultsOut = IfErr out (λ e. (f : RoundFault F) × (done ≡ Err f) × (e ≡ fault_in (placed_by log) f))
 
-  err_to : (P Q : RoundFault F → Type 0) → ((e : RoundFault F) → P e → Q e) → (z : Result (DriveOutput R) (RoundFault F)) → IfErr z P → IfErr z Q
+  err_to : (P Q : RoundFault F → Type 0) → ((e : RoundFault F) → P e → Q e) → (z : Result DriveEnd (RoundFault F)) → IfErr z P → IfErr z Q
   err_to P Q to (Ok o) h = tt
   err_to P Q to (Err e) h = to e h
 
-  pub out_fault : {O S W I : Type 0} (state : O → OpenerState I) (polls : O → O → Type 0) (refuses : O → O → F → Type 0) (admits : O → O → List W → Type 0) (source : S → SourceState) (split : W → SplitState I) (comes : W → Arrivals → Store → Event → Type 0) (items : R → List I)
+  pub out_fault : {O S W R I : Type 0} (state : O → OpenerState I) (polls : O → O → Type 0) (refuses : O → O → F → Type 0) (admits : O → O → List W → Type 0) (source : S → SourceState) (split : W → SplitState I) (comes : W → Arrivals → Store → Event → Type 0) (items : R → List I)
       (limit : Option ℕ) (ordered : Bool) (c : Cache) (a b e : List (ScanFile O S)) (d0 d1 : Drive W R F) → Starts (length a) limit d0 → (ordered ≡ true → log ≡ []) → SwapsInRange (length a) log → length b ≡ length a → SourcesMove source NoneOf b e → FaultsOut →
-      IfErr done (λ x. StopsRun state polls refuses source split comes items (exchanged log a) b c d0 d1 x) → IfErr done (λ x. ordered ≡ true → IsLawful state source a c → StopsBefore items limit (tells state source a) x) → IfErr done
+      IfErr done (λ x. (us : List (Chunk R)) × StopsRun state polls refuses source split comes items (exchanged log a) b c d0 (with_taken us d1) x) → IfErr done (λ x. ordered ≡ true → IsLawful state source a c → StopsBefore items limit (tells state source a) x) → IfErr done
       (IsGround state polls admits source (exchanged log a) b c) →
       IfErr out (StopsDrive state polls refuses admits source items limit ordered c a (restored log e))
-  out_fault {O = O} {S = S} state polls refuses admits source split comes items limit ordered c a b e d0 d1 s order r n m h run before ground =
-      err_to (λ x. (x ≡ why.Split fault.NoMemory) ⊎ ((f : RoundFault F) × (done ≡ Err f) × (x ≡ fault_in (placed_by log) f))) (StopsDrive state polls refuses admits source items limit ordered c a (restored log e)) go out h
+  out_fault {O = O} {S = S} {R = R} state polls refuses admits source split comes items limit ordered c a b e d0 d1 s order r n m h run before ground =
+      err_to (λ x. (f : RoundFault F) × (done ≡ Err f) × (x ≡ fault_in (placed_by log) f)) (StopsDrive state polls refuses admits source items limit ordered c a (restored log e)) go out h
     where
       length_e : length e ≡ length a
       length_e = m.len ∙ n
 
       at_places : (f : RoundFault F) → done ≡ Err f → StopsDrive state polls refuses admits source items limit ordered c (exchanged log a) e f
       at_places f is =
-          stops_drive state polls refuses admits source split comes items limit ordered c (exchanged log a) b e d0 d1 s.shut m.opener
+          let r = subst (λ (z : Result Flow (RoundFault F)). IfErr z (λ x. (us : List (Chunk R)) × StopsRun state polls refuses source split comes items (exchanged log a) b c d0 (with_taken us d1) x)) is run in
+          stops_drive state polls refuses admits source split comes items limit ordered c (exchanged log a) b e d0 (with_taken r.0 d1) s.shut m.opener
           (starts_sound (length a) limit d0 s split comes items (tells state source (exchanged log a)) (length-map (exchanged log a) (tell state source) ∙ length_exchanged log a)) f
           (λ o. subst (λ (xs : List (ScanFile O S)). IsLawful state source xs c → StopsBefore items limit (tells state source xs) f) (sym (ap (λ ss. exchanged ss a) (order o)))
-          (subst (λ (z : Result (Unit {0}) (RoundFault F)). IfErr z (λ x. ordered ≡ true → IsLawful state source a c → StopsBefore items limit (tells state source a) x)) is before o))
-          (ground_closed state polls admits source (exchanged log a) c b e f m (subst (λ (z : Result (Unit {0}) (RoundFault F)). IfErr z (IsGround state polls admits source (exchanged log a) b c)) is ground))
-          (subst (λ (z : Result (Unit {0}) (RoundFault F)). IfErr z (λ x. StopsRun state polls refuses source split comes items (exchanged log a) b c d0 d1 x)) is run)
+          (subst (λ (z : Result Flow (RoundFault F)). IfErr z (λ x. ordered ≡ true → IsLawful state source a c → StopsBefore items limit (tells state source a) x)) is before o))
+          (ground_closed state polls admits source (exchanged log a) c b e f m (subst (λ (z : Result Flow (RoundFault F)). IfErr z (IsGround state polls admits source (exchanged log a) b c)) is ground))
+          r.1
 
-      go : (x : RoundFault F) → (x ≡ why.Split fault.NoMemory) ⊎ ((f : RoundFault F) × (done ≡ Err f) × (x ≡ fault_in (placed_by log) f)) → StopsDrive state polls refuses admits source items limit ordered c a (restored log e) x
-      go x (inl short) = subst (StopsDrive state polls refuses admits source items limit ordered c a (restored log e)) (sym short) tt
-      go x (inr y) = subst (StopsDrive state polls refuses admits source items limit ordered c a (restored log e)) (sym y.2) (back_stops log a r e length_e state polls refuses admits source items limit ordered c order y.0 (at_places y.0 y.1))
+      go : (x : RoundFault F) → (f : RoundFault F) × (done ≡ Err f) × (x ≡ fault_in (placed_by log) f) → StopsDrive state polls refuses admits source items limit ordered c a (restored log e) x
+      go x y = subst (StopsDrive state polls refuses admits source items limit ordered c a (restored log e)) (sym y.2) (back_stops log a r e length_e state polls refuses admits source items limit ordered c order y.0 (at_places y.0 y.1))

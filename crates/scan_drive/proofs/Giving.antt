@@ -5,7 +5,7 @@ use Rattle.scan_values.specs.Selections.{is_among}
 use Rattle.scan_segments.specs.Source.{Store}
 use Rattle.scan_splits.specs.Arrivals.{Arrivals}
 use Rattle.scan_drive.specs.Actives.{GivesRows, IsHalted, Stays, AreSeats, Seated, SlotOk, AllOk, groups_in, groups_left}
-use Rattle.scan_drive.specs.Chunks.{limit_of, HasRoom, Fits, fault_of, given, AddsFile, KeepsFiles, GivesAll, GivesFirst, IsCause, IsCut, IsMore, IsDeliverFault}
+use Rattle.scan_drive.specs.Chunks.{limit_of, HasRoom, Fits, fault_of, given, AddsFile, KeepsFiles, KeepsRows, GivesAll, GivesFirst, IsCause, IsCut, IsMore, IsDeliverFault}
 use Rattle.scan_drive.specs.Files.{Group, grouped, count, cut, Part, Told, told_at, untold, over, AllTell, IfTold}
 use Rattle.scan_drive.specs.Measures.{is_there}
 use Rattle.scan_drive.specs.Slots.{slot_at, is_read, slot_groups, StageOk, HaltAt}
@@ -32,7 +32,7 @@ counts_after n k (Some m) left' f e =
     (ap (limit_of (n + k)) e ∙ ap Some z, subst HasRoom (sym e) room)
 
 module _ {I : Type 0} where
-  count_append : (gs hs : List (Group I)) → count (gs ++ hs) ≡ count gs + count hs
+  pub count_append : (gs hs : List (Group I)) → count (gs ++ hs) ≡ count gs + count hs
   count_append [] hs = omega arith
   count_append (g ∷ gs) hs = let r = count_append gs hs in omega arith
 
@@ -40,17 +40,17 @@ module _ {I : Type 0} where
   count_grouped file [] = refl
   count_grouped file (x ∷ xs) = omega arith
 
-  cut_zero : (gs : List (Group I)) → cut 0 gs ≡ []
+  pub cut_zero : (gs : List (Group I)) → cut 0 gs ≡ []
   cut_zero [] = refl
   cut_zero (g ∷ gs) = let z : 0 - length g.1 ≡ 0 = omega arith in ap (λ n. cut n gs) z ∙ cut_zero gs
 
-  take_all : (xs : List I) (n : ℕ) → length xs ≤ n → take n xs ≡ xs
+  pub take_all : (xs : List I) (n : ℕ) → length xs ≤ n → take n xs ≡ xs
   take_all [] zero le = refl
   take_all [] (suc n) le = refl
   take_all (x ∷ xs) zero le = absurd (omega arith)
   take_all (x ∷ xs) (suc n) le = ap (λ ys. x ∷ ys) (take_all xs n (omega arith))
 
-  take_some : (xs : List I) (n : ℕ) → n ≤ length xs → length (take n xs) ≡ n
+  pub take_some : (xs : List I) (n : ℕ) → n ≤ length xs → length (take n xs) ≡ n
   take_some [] zero le = refl
   take_some [] (suc n) le = absurd (omega arith)
   take_some (x ∷ xs) zero le = refl
@@ -65,7 +65,7 @@ module _ {I : Type 0} where
       ap (λ ys. grouped file ys ++ cut (length (x ∷ xs) + n - length (x ∷ xs)) rest) all ∙ ap (λ k. grouped file (x ∷ xs) ++ cut k rest) z
 
   -- one within a group cuts it
-  cut_within : (file : ℕ) (xs : List I) (n : ℕ) (rest : List (Group I)) → n ≤ length xs → cut n (grouped file xs ++ rest) ≡ grouped file (take n xs)
+  pub cut_within : (file : ℕ) (xs : List I) (n : ℕ) (rest : List (Group I)) → n ≤ length xs → cut n (grouped file xs ++ rest) ≡ grouped file (take n xs)
   cut_within file [] n rest le = let z : n ≡ 0 = omega arith in let none : List I = [] in ap (λ k. cut k rest) z ∙ cut_zero rest ∙ sym (ap (λ k. grouped file (take k none)) z)
   cut_within file (x ∷ xs) n rest le =
       let z : n - length (x ∷ xs) ≡ 0 = omega arith in
@@ -223,8 +223,8 @@ stays_seated {W} {R} old new s h =
 
 -- the fault of a split that was given up
 pub held_fault : {W I R : Type 0} (split : W → SplitState I) (comes : W → Arrivals → Store → Event → Type 0) (items : R → List I) (file : ℕ) (h : Halt) (old new : Active W R) (chunks chunks' : List (Chunk R)) (left left' : Option ℕ) → IsHalted file h new →
-    IsMore split comes items true old new chunks chunks' left left' → IsDeliverFault split comes items old new chunks chunks' left left' (fault_of file h)
-held_fault split comes items file (halt.Source id) old new chunks chunks' left left' t m = record { turn = t; more = m }
-held_fault split comes items file (halt.Corrupt id) old new chunks chunks' left left' t m = record { turn = t; more = m }
-held_fault split comes items file halt.Overflow old new chunks chunks' left left' t m = record { turn = t; more = m }
-held_fault split comes items file halt.NoMemory old new chunks chunks' left left' t m = tt
+    KeepsRows items chunks chunks' → IsMore split comes items true old new chunks chunks' left left' → IsDeliverFault split comes items old new chunks chunks' left left' (fault_of file h)
+held_fault split comes items file (halt.Source id) old new chunks chunks' left left' t r m = record { turn = t; rows = r; more = m }
+held_fault split comes items file (halt.Corrupt id) old new chunks chunks' left left' t r m = record { turn = t; rows = r; more = m }
+held_fault split comes items file halt.Overflow old new chunks chunks' left left' t r m = record { turn = t; rows = r; more = m }
+held_fault split comes items file halt.NoMemory old new chunks chunks' left left' t r m = tt

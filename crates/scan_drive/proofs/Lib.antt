@@ -31,6 +31,7 @@ pub mod Fillings
 pub mod Following
 pub mod Forwarding
 pub mod Freely
+pub mod Fronts
 pub mod Giving
 pub mod Going
 pub mod Granting
@@ -54,6 +55,7 @@ pub mod Moving
 pub mod Nearing
 pub mod Opened
 pub mod Ordering
+pub mod Outgone
 pub mod Polling
 pub mod Reckoning
 pub mod Resting
@@ -64,6 +66,7 @@ pub mod Running
 pub mod Same
 pub mod Seating
 pub mod Serving
+pub mod Sinking
 pub mod Standing
 pub mod Starting
 pub mod Stopping
@@ -74,6 +77,7 @@ pub mod Tracking
 pub mod Trading
 pub mod Trimming
 pub mod Turning
+pub mod Waited
 pub mod Waiting
 pub mod Wanting
 pub mod Weighing

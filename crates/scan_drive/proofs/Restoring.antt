@@ -1,7 +1,7 @@
 -- Exchanges of a log, one after the other, and back.
-use Rattle.std.proofs.Common.{◌≡◌, ◌⊎◌, ℕ, zero, suc, ◌+◌, ◌<◌, ◌≤◌, List, [], ◌∷◌, ◌++◌, true, ◌==◌, Result, Ok, Err, IfErr, length, take, drop, set, map, get_or, swap, inl, inr, refl, sym, ap, ◌∙◌, subst, arith}
+use Rattle.std.proofs.Common.{◌≡◌, ◌⊎◌, ℕ, zero, suc, ◌+◌, ◌-◌, ◌<◌, ◌≤◌, List, [], ◌∷◌, ◌++◌, true, ◌==◌, Result, Ok, Err, IfErr, length, take, drop, set, map, get_or, swap, inl, inr, refl, sym, ap, ◌∙◌, subst, arith}
 use Rattle.std.specs.List.Sorted.{SwapsInRange}
-use Rattle.std.proofs.lemmas.List.{take_more, take_more_set, drop-set-lt, drop-drop, get_or-drop, get_or_past, map-append, length-set}
+use Rattle.std.proofs.lemmas.List.{take_more, get_or-drop, get_or_past, length-drop, take_all}
 use Rattle.std.proofs.lemmas.Bool.Decides.{nat_tests}
 use Rattle.std.proofs.lemmas.List.FromFn.{length-range_with_len}
 use Rattle.std.specs.List.{range_with_len}
@@ -45,6 +45,20 @@ module _ {X : Type 0} where
   makes_more log k s old now lt is h =
       ap (λ xs. swap xs s.0 s.1) h ∙ sym (exchanged_snoc (take k log) s old) ∙ ap (λ ss. exchanged ss old) (ap (λ x. take k log ++ x ∷ []) is ∙ sym (take_more log k s lt))
 
+-- the exchanges from one on
+module _ (log : List (ℕ × ℕ)) (from k : ℕ) where
+  pub swapped_at : (s : ℕ × ℕ) → from ≤ k → k < length log → s ≡ get_or log k s → (k - from < length (drop from log)) × (s ≡ get_or (drop from log) (k - from) s)
+  swapped_at s low lt is =
+      let n = length-drop from log in
+      let z : from + (k - from) ≡ k = omega arith in
+      (omega (arith, n), is ∙ ap (λ m. get_or log m s) (sym z) ∙ sym (get_or-drop from log (k - from) s))
+
+  pub swapped_all : length log ≤ k → take (k - from) (drop from log) ≡ drop from log
+  swapped_all le = let n = length-drop from log in take_all (k - from) (drop from log) (omega (arith, n))
+
+pub one_on : (from k : ℕ) → from ≤ k → k - from + 1 ≡ k + 1 - from
+one_on from k low = omega arith
+
 -- one number more
 pub range_snoc_at : (a n : ℕ) → range_with_len a (n + 1) ≡ range_with_len a n ++ (a + n) ∷ []
 range_snoc_at a zero = ap (λ m. m ∷ []) (let z : a ≡ a + 0 = omega arith in z)
@@ -55,31 +69,6 @@ range_snoc_at a (suc n) =
 
 pub range_pushed : (n : ℕ) (xs : List ℕ) → xs ≡ range_with_len 0 n → xs ++ n ∷ [] ≡ range_with_len 0 (n + 1)
 range_pushed n xs h = ap (λ ys. ys ++ n ∷ []) h ∙ ap (λ m. range_with_len 0 n ++ m ∷ []) (let z : n ≡ 0 + n = omega arith in z) ∙ sym (range_snoc_at 0 n)
-
--- ---- each item of a list becomes another, one after the other
-module _ {X : Type 0} (f : X → X) where
-  -- the first ones are
-  pub record Becomes (k : ℕ) (old now : List X) : Type 0 where
-    pub long : length now ≡ length old
-    pub done : take k now ≡ map f (take k old)
-    pub rest : drop k now ≡ drop k old
-
-  pub becomes_more : (k : ℕ) (x y : X) (old now : List X) → k < length now → x ≡ get_or now k x → y ≡ f x → Becomes k old now → Becomes (k + 1) old (set now k y)
-  becomes_more k x y old now lt is e h = record {
-    long = length-set now k y ∙ h.long;
-    done =
-        take_more_set now k y lt
-        ∙ (let first = h.done in let last : y ≡ f (get_or old k x) = e ∙ ap f was in λ i. first i ++ last i ∷ [])
-        ∙ sym (map-append f (take k old) (get_or old k x ∷ []))
-        ∙ ap (map f) (sym (take_more old k x (let l = h.long in omega arith)));
-    rest = drop-set-lt (k + 1) now k y (omega arith) ∙ sym (drop-drop 1 k now) ∙ ap (drop 1) h.rest ∙ drop-drop 1 k old;
-  }
-    where
-      z : k + 0 ≡ k
-      z = omega arith
-
-      was : x ≡ get_or old k x
-      was = is ∙ ap (λ n. get_or now n x) (sym z) ∙ sym (get_or-drop k now 0 x) ∙ ap (λ xs. get_or xs 0 x) h.rest ∙ get_or-drop k old 0 x ∙ ap (λ n. get_or old n x) z
 
 -- ---- chunks and faults, by the files
 -- the file at each place, as the order list has it
@@ -93,32 +82,6 @@ named_by log n order r e = λ i k. at k i
         go (inr lt) = ap (λ xs. get_or xs k k) e ∙ order_at log n k k r lt
         go (inl le) = get_or_past order k k (let l = ap length e ∙ length_exchanged log (range_with_len 0 n) ∙ length-range_with_len 0 n in omega arith) ∙ sym (placed_behind n log k r le)
 
-pub unnamed : {R : Type 0} (log : List (ℕ × ℕ)) (chunks : List (Chunk R)) → log ≡ [] → chunks ≡ map (renamed (placed_by log)) chunks
-unnamed {R} log chunks e = same chunks ∙ ap (λ ss. map (renamed (placed_by ss)) chunks) (sym e)
-  where
-    same : (cs : List (Chunk R)) → cs ≡ map (renamed (placed_by [])) cs
-    same [] = refl
-    same (c ∷ cs) = ap (λ ds. c ∷ ds) (same cs)
-
-pub unfaulted : {F : Type 0} (log : List (ℕ × ℕ)) (x : RoundFault F) → log ≡ [] → x ≡ fault_in (placed_by log) x
-unfaulted {F} log x e = same x ∙ ap (λ ss. fault_in (placed_by ss) x) (sym e)
-  where
-    here : (y : DriveFault) → y ≡ split_fault_in (placed_by []) y
-    here fault.NoMemory = refl
-    here (fault.Source k id) = refl
-    here (fault.Corrupt k id) = refl
-    here (fault.Overflow k) = refl
-
-    same : (y : RoundFault F) → y ≡ fault_in (placed_by []) y
-    same (why.Split y) = ap why.Split (here y)
-    same (why.TooManyRows k) = refl
-    same (why.Refused k z) = refl
-
-pub none_left : (n : ℕ) (xs : List (ℕ × ℕ)) → n ≡ length xs → true ≡ (n == 0) → xs ≡ []
-none_left n [] e t = refl
-none_left n (x ∷ xs) e t = let z : n ≡ 0 = grind (arith, nat_tests) in absurd (omega arith)
-
-pub err_named : {A F : Type 0} (r : Result A (RoundFault F)) (done : Result (Unit {0}) (RoundFault F)) (f g : ℕ → ℕ) → f ≡ g → IfErr r (λ e. (x : RoundFault F) × (done ≡ Err x) × (e ≡ fault_in f x))
-    → IfErr r (λ e. (e ≡ why.Split fault.NoMemory) ⊎ ((x : RoundFault F) × (done ≡ Err x) × (e ≡ fault_in g x)))
+pub err_named : {A B F : Type 0} (r : Result A (RoundFault F)) (done : Result B (RoundFault F)) (f g : ℕ → ℕ) → f ≡ g → IfErr r (λ e. (x : RoundFault F) × (done ≡ Err x) × (e ≡ fault_in f x)) → IfErr r (λ e. (x : RoundFault F) × (done ≡ Err x) × (e ≡ fault_in g x))
 err_named (Ok a) done f g same h = tt
-err_named (Err e) done f g same h = inr (h.0, h.1, h.2 ∙ ap (λ k. fault_in k h.0) same)
+err_named (Err e) done f g same h = (h.0, h.1, h.2 ∙ ap (λ k. fault_in k h.0) same)

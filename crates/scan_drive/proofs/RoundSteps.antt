@@ -1,5 +1,5 @@
 -- One round: openers are polled, splits are polled and their rows given, and segments are wanted.
-use Rattle.std.proofs.Common.{◌≡◌, ℕ, ◌+◌, ◌≤◌, List, length, Bool, true, false, refl, sym, ◌∙◌, subst, inl}
+use Rattle.std.proofs.Common.{ap, ◌≡◌, ℕ, ◌+◌, ◌≤◌, List, length, Bool, true, false, refl, sym, ◌∙◌, subst, inl}
 use Rattle.std.specs.Prelude.{All}
 use Rattle.scan_segments.specs.Source.{SourceState, Store}
 use Rattle.scan_splits.specs.Arrivals.{Arrivals}
@@ -8,7 +8,7 @@ use Rattle.scan_drive.specs.Before.{SoundInOrder, StopsBefore}
 use Rattle.scan_drive.specs.Chunks.{given, HasRow, KeepsRows}
 use Rattle.scan_drive.specs.Desks.{Waiters}
 use Rattle.scan_drive.specs.Drives.{DesksAgree, SourcesMove, EachLinked, NoneOf}
-use Rattle.scan_drive.specs.Ends.{Settles, limit_in}
+use Rattle.scan_drive.specs.Ends.{Settles, limit_in, gives_first}
 use Rattle.scan_drive.specs.Files.{answer}
 use Rattle.scan_drive.specs.Grounds.{KeepsGrounds}
 use Rattle.scan_drive.specs.Losses.{FilesBalance, HaltsStay}
@@ -32,6 +32,7 @@ use Rattle.scan_drive.specs.declared.round.Drive.{Drive}
 use Rattle.scan_drive.specs.declared.rounds.Round.TheVariants as round
 use Rattle.scan_drive.specs.declared.settling.RoundFault.{RoundFault}
 use Rattle.scan_drive.specs.declared.settling.RoundFault.TheVariants as why
+use Rattle.scan_drive.proofs.Fronts.{front_along}
 use Rattle.scan_drive.proofs.Accounting.{out_before}
 use Rattle.scan_drive.proofs.Going.{agree_kept, trade_kept, limit_same, moves_all, sound_served, stands_served, why_same, round_steps}
 use Rattle.scan_drive.proofs.Halting.{round_same, round_served}
@@ -65,6 +66,7 @@ module _ {O S W R I F : Type 0} (state : O → OpenerState I) (polls : O → O �
     fault = record { mid = d; limit = refl; why = λ k x is. inl is; held = tt; sound = λ h. h; stops = λ h. tt };
     before = λ o h. tt;
     ends = λ first before h. tt;
+    gave = λ first. absurd cc;
   }
 
   -- openers were polled
@@ -106,6 +108,12 @@ module _ {O S W R I F : Type 0} (state : O → OpenerState I) (polls : O → O �
         fault = record { mid = d1; limit = limit; why = br.why; held = held_by d1 x s.settles; sound = br.sound; stops = λ h. s.fault (tells state source a) (br.sound h) };
         before = λ o h. subst (λ l. StopsBefore items l (tells state source a) x) limit (s.before (rest.3 ∙ o) (tells state source a) (h.0, br.sound h.1, br.order h.2));
         ends = λ first before h. settled_ground state polls admits source first before b c d1 x same_length s.settles (br.grounds c first before h);
+        gave = λ first.
+            (let g = s.gave (ap (λ o. gives_first o x) rest.3 ∙ first) (tells state source a) in
+            record {
+              rows = λ h. g.rows (subst (λ chunks. All (HasRow items) chunks.items) (sym rest.0) h);
+              front = λ all h. front_along items d0.ordered d1.ordered (limit_in split comes items d0) (limit_in split comes items d1) (answer (tells state source a)) (given items d2.chunks.items) rest.3 limit (g.front all (br.sound h));
+            });
       }
 
       -- splits were polled, and segments wanted

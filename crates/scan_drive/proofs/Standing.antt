@@ -306,9 +306,9 @@ module _ {W I R : Type 0} (split : W → SplitState I) (comes : W → Arrivals �
   pub fault_mid : (old mid new : Active W R) (chunks chunks' : List (Chunk R)) (left left' : Option ℕ) → ((tale : List (Told I)) → Keeps split comes items tale old.turns.items old.slots.items mid.slots.items) → mid.turns ≡ old.turns → ((q : ℕ) →
       (slot_at mid.slots.items q).file ≡ (slot_at old.slots.items q).file) → (e : DriveFault) → IsDeliverFault split comes items mid new chunks chunks' left left' e → IsDeliverFault split comes items old new chunks chunks' left left' e
   fault_mid old mid new chunks chunks' left left' k t f fault.NoMemory h = tt
-  fault_mid old mid new chunks chunks' left left' k t f (fault.Source file id) h = record { turn = h.turn; more = more_mid true old mid new chunks chunks' left left' k t f h.more }
-  fault_mid old mid new chunks chunks' left left' k t f (fault.Corrupt file id) h = record { turn = h.turn; more = more_mid true old mid new chunks chunks' left left' k t f h.more }
-  fault_mid old mid new chunks chunks' left left' k t f (fault.Overflow file) h = record { turn = h.turn; more = more_mid true old mid new chunks chunks' left left' k t f h.more }
+  fault_mid old mid new chunks chunks' left left' k t f (fault.Source file id) h = record { turn = h.turn; rows = h.rows; more = more_mid true old mid new chunks chunks' left left' k t f h.more }
+  fault_mid old mid new chunks chunks' left left' k t f (fault.Corrupt file id) h = record { turn = h.turn; rows = h.rows; more = more_mid true old mid new chunks chunks' left left' k t f h.more }
+  fault_mid old mid new chunks chunks' left left' k t f (fault.Overflow file) h = record { turn = h.turn; rows = h.rows; more = more_mid true old mid new chunks chunks' left left' k t f h.more }
 
   -- splits that were polled are of the same files
   pub files_mid : (asking : List ℕ) (old mid : List (Slot W R)) (n : ℕ) → EachPolled split comes items asking old mid → FilesWithin n old → FilesWithin n mid

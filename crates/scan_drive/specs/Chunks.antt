@@ -132,6 +132,7 @@ module _ {W I R : Type 0} (split : W → SplitState I) (comes : W → Arrivals �
   -- all that stands before the split is given, less than the limit, and it is the split's turn, which is given up for this
   pub record IsHeld (file : ℕ) (h : Halt) (old new : Active W R) (chunks chunks' : List (Chunk R)) (left left' : Option ℕ) : Type 0 where
     pub turn : IsHalted file h new
+    pub rows : KeepsRows items chunks chunks'
     pub more : IsMore true old new chunks chunks' left left'
 
   -- why a delivery in order fails: a split is given up for this at its turn

@@ -1,5 +1,5 @@
 -- How a drive ends.
-use Rattle.std.specs.Prelude.{true, ◌≡◌, ◌≢◌, ◌<◌, ◌≤◌, ◌⊎◌, ℕ, List, [], Option, length}
+use Rattle.std.specs.Prelude.{Bool, true, false, ◌≡◌, ◌≢◌, ◌<◌, ◌≤◌, ◌⊎◌, ℕ, List, [], Option, length}
 use Rattle.scan_segments.specs.Source.{Store}
 use Rattle.scan_splits.specs.Arrivals.{Arrivals}
 use Rattle.scan_splits.specs.Wanted.{no_repeats}
@@ -22,6 +22,7 @@ use Rattle.scan_drive.specs.declared.phase.Tally.{Tally}
 use Rattle.scan_drive.specs.declared.round.Drive.{Drive}
 use Rattle.scan_drive.specs.declared.settling.End.{End}
 use Rattle.scan_drive.specs.declared.settling.End.TheVariants as end
+use Rattle.scan_drive.specs.declared.delivery.DriveFault.TheVariants as fault
 use Rattle.scan_drive.specs.declared.settling.RoundFault.{RoundFault}
 use Rattle.scan_drive.specs.declared.settling.RoundFault.TheVariants as why
 
@@ -44,6 +45,16 @@ module _ {W F : Type 0} where
   IsHeldIn ps (why.Split e) = Unit {0}
   IsHeldIn ps (why.TooManyRows file) = Unit {0}
   IsHeldIn ps (why.Refused file f) = phase_at ps file ≡ phase.Held f
+
+module _ {F : Type 0} where
+  -- whether what a round has given is known where it ends with this fault: that it is a front of what may be given
+  abbrev pub gives_first : Bool → RoundFault F → Bool
+  gives_first ordered (why.Split fault.NoMemory) = false
+  gives_first ordered (why.Split (fault.Source file id)) = ordered
+  gives_first ordered (why.Split (fault.Corrupt file id)) = ordered
+  gives_first ordered (why.Split (fault.Overflow file)) = ordered
+  gives_first ordered (why.TooManyRows file) = true
+  gives_first ordered (why.Refused file f) = true
 
 module _ {W I R F : Type 0} (split : W → SplitState I) (comes : W → Arrivals → Store → Event → Type 0) (items : R → List I) where
   -- how many rows may be given in all

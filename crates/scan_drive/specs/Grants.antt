@@ -1,5 +1,5 @@
 -- What is given of groups: the first of their rows in order, or in no order the first rows of some of them.
-use Rattle.std.specs.Prelude.{◌≡◌, ◌++◌, ℕ, Bool, true, false, List, [], ◌∷◌, Option, None, take, IsPermutation}
+use Rattle.std.specs.Prelude.{◌≡◌, ◌≤◌, ◌++◌, ℕ, Bool, true, false, List, [], ◌∷◌, Option, None, Some, take, IsPermutation}
 use Rattle.scan_drive.specs.Files.{Group, count, limited}
 
 module _ {I : Type 0} where
@@ -34,3 +34,15 @@ module _ {I : Type 0} where
   abbrev pub AreGiven : Bool → Option ℕ → List (Group I) → List (Group I) → Type 0
   AreGiven true limit all gs = gs ≡ limited limit all
   AreGiven false limit all gs = AreSome limit all gs
+
+-- a limit allows so many
+abbrev pub Allows : Option ℕ → ℕ → Type 0
+Allows None n = Unit {0}
+Allows (Some most) n = n ≤ most
+
+module _ {I : Type 0} where
+  -- what is given under a limit that is no higher
+  pub record IsGivenFront (ordered : Bool) (limit : Option ℕ) (all gs : List (Group I)) : Type 0 where
+    pub most : ℕ
+    pub within : Allows limit most
+    pub given : AreGiven ordered (Some most) all gs

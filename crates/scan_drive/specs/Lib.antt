@@ -16,6 +16,7 @@ pub mod Filling
 pub mod Forward
 pub mod Grants
 pub mod Grounds
+pub mod Handed
 pub mod Laws
 pub mod Ledger
 pub mod Line
@@ -27,6 +28,7 @@ pub mod Measures
 pub mod Moves
 pub mod Openers
 pub mod Order
+pub mod Outgoing
 pub mod Phases
 pub mod Polls
 pub mod Rounds
@@ -36,6 +38,7 @@ pub mod Slots
 pub mod Sources
 pub mod Splits
 pub mod Steps
+pub mod Taking
 pub mod Trades
 pub mod Traffic
 pub mod Turns

@@ -13,11 +13,11 @@ use Rattle.scan_drive.specs.Chunks.{given, HasRow, IsCause, IsDeliverFault, Keep
 use Rattle.scan_drive.specs.Desks.{Waiters}
 use Rattle.scan_drive.specs.Drives.{DesksAgree, EachLinked, SlotsKeep, BringsFileNearer, NoneOf, IsIdle}
 use Rattle.scan_drive.specs.Drivings.{IsKeptIn, PollsEnd, WasAdmitted}
-use Rattle.scan_drive.specs.Ends.{Stops, limit_in}
+use Rattle.scan_drive.specs.Ends.{Stops, limit_in, gives_first}
 use Rattle.scan_drive.specs.Files.{Part, Told, AllTell, answer}
 use Rattle.scan_drive.specs.Filling.{Fills, OpensBy}
 use Rattle.scan_drive.specs.Forward.{LinePolls}
-use Rattle.scan_drive.specs.Grants.{AreGiven}
+use Rattle.scan_drive.specs.Grants.{AreGiven, IsGivenFront}
 use Rattle.scan_drive.specs.Grounds.{At, IsGround, EndsGrounded, KeepsGrounds, PolledStops, RoundGrounds, SettlesBy, SlotsFollow, SourceFollows}
 use Rattle.scan_drive.specs.Ledger.{FilesKeepReport, KeepsReport}
 use Rattle.scan_drive.specs.Line.{exchanged, IsAnswered}
@@ -147,6 +147,12 @@ module _ {W I R F : Type 0} (split : W → SplitState I) (comes : W → Arrivals
     -- nor has a file any left
     pub spent : old.left ≡ None → length old.phases.items ≤ old.first
 
+  -- what was given is a front of the answer, of chunks with rows
+  pub record GivesFront (tale : List (Told I)) (old new : Drive W R F) : Type 0 where
+    pub rows : KeepsRows items old.chunks.items new.chunks.items
+    pub front : AllTell tale → Sound split comes items tale old
+        → IsGivenFront old.ordered (limit_in split comes items old) (answer tale) (given items new.chunks.items)
+
   -- why a drive ends without all rows
   pub record SettlesNot (old new : Drive W R F) (e : RoundFault F) : Type 0 where
     -- a split was given up for a cause, or all before a file that is not read is given
@@ -156,6 +162,8 @@ module _ {W I R F : Type 0} (split : W → SplitState I) (comes : W → Arrivals
         → StopsBefore items (limit_in split comes items old) tale e
     -- at which split, or at which file
     pub settles : SettlesBy old e
+    -- what was given before, where that is known
+    pub gave : gives_first old.ordered e ≡ true → (tale : List (Told I)) → GivesFront tale old new
 
 module _ {O S W R I F : Type 0} (state : O → OpenerState I) (polls : O → O → Type 0) (refuses : O → O → F → Type 0) (admits : O → O → List W → Type 0)
     (source : S → SourceState) (split : W → SplitState I) (comes : W → Arrivals → Store → Event → Type 0) (items : R → List I) where
@@ -321,6 +329,8 @@ module _ {O S W R I F : Type 0} (state : O → OpenerState I) (polls : O → O �
         → StopsBefore items (limit_in split comes items old) (tells state source files) e
     -- what was done to the file
     pub ends : EndsGrounded state polls admits source files files' c old e
+    -- what was given before, where that is known
+    pub gave : gives_first old.ordered e ≡ true → GivesFront split comes items (tells state source files) old new
 
   -- what rounds have come to that others follow, or that are the last
   pub record WaitComes (r : Round) (files files' : List (ScanFile O S)) (desks : List Waiters) (c d : Cache) (old new : Drive W R F) : Type 0 where

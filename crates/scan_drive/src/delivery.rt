@@ -12,6 +12,7 @@ ghost use Rattle.scan_drive.specs.declared.delivery.Delivered.TheVariants as del
 ghost use Rattle.scan_drive.specs.declared.delivery.DriveFault.TheVariants as faults;
 
 use crate::active::{Active, Front};
+use crate::outbox::Outbox;
 use crate::slot::Halt;
 use crate::work::SplitWork;
 use scan_segments::SegmentId;
@@ -83,7 +84,7 @@ fn less(left: Option<u64>, count: usize) -> Option<u64>
 
 /// Adds a chunk of the rows of a split, where there are some.
 fn push_rows<W: SplitWork + Drop>(
-    chunks: &mut Vec<Chunk<W::Rows>>,
+    chunks: &mut Outbox<Chunk<W::Rows>>,
     file: usize,
     rows: W::Rows,
 ) -> Result<(), NoMemory>
@@ -102,7 +103,7 @@ fn push_rows<W: SplitWork + Drop>(
 /// Gives the rows of a split, and no more of them than are left of the limit.
 fn give<W: SplitWork + Drop>(
     alloc: Global,
-    chunks: &mut Vec<Chunk<W::Rows>>,
+    chunks: &mut Outbox<Chunk<W::Rows>>,
     left: &mut Option<u64>,
     file: usize,
     rows: W::Rows,
@@ -132,7 +133,7 @@ fn give<W: SplitWork + Drop>(
 pub fn deliver<W: SplitWork + Drop>(
     alloc: Global,
     active: &mut Active<W, W::Rows>,
-    chunks: &mut Vec<Chunk<W::Rows>>,
+    chunks: &mut Outbox<Chunk<W::Rows>>,
     left: &mut Option<u64>,
 ) -> Result<Delivered, DriveFault>
     requires seated { Seated active.old }
@@ -207,7 +208,7 @@ fn hold<W: Drop, R: Drop>(
 fn deliver_any<W: SplitWork + Drop>(
     alloc: Global,
     active: &mut Active<W, W::Rows>,
-    chunks: &mut Vec<Chunk<W::Rows>>,
+    chunks: &mut Outbox<Chunk<W::Rows>>,
     left: &mut Option<u64>,
     cut: bool,
 ) -> Result<Delivered, DriveFault>
@@ -256,7 +257,7 @@ pub(crate) fn deliver_in<W: SplitWork + Drop>(
     alloc: Global,
     ordered: bool,
     active: &mut Active<W, W::Rows>,
-    chunks: &mut Vec<Chunk<W::Rows>>,
+    chunks: &mut Outbox<Chunk<W::Rows>>,
     left: &mut Option<u64>,
     cut: bool,
 ) -> Result<Delivered, DriveFault>

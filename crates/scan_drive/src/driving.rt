@@ -1,35 +1,40 @@
 //! One call over all files of a scan. After the Rust's `scan::multi`.
-ghost use Rattle.std.specs.Prelude.{◌≡◌, ◌<◌, true, false, None, All, IfOk, IfErr, option_map};
+ghost use Rattle.std.specs.Prelude.{◌≡◌, ◌<◌, true, false, None, Ok, Err, All, IfOk, IfErr, option_map};
 ghost use Rattle.scan_drive.specs.Budgets.{IsBudget};
 ghost use Rattle.scan_drive.specs.Chunks.{HasRoom};
 ghost use Rattle.scan_drive.specs.Drives.{IsIdle};
 ghost use Rattle.scan_drive.specs.Drivings.{StopsDrive};
+ghost use Rattle.scan_drive.specs.Forward.{fault_in};
+ghost use Rattle.scan_drive.specs.Handed.{Hands, DriveTakes, EndsBy, named_in};
 ghost use Rattle.scan_drive.specs.Runnings.{Starts};
 ghost use Rattle.scan_drive.specs.Steps.{DriveGives, DriveKeeps};
+ghost use Rattle.scan_drive.specs.declared.settling.RoundFault.{RoundFault};
 
 use crate::active::Active;
 use crate::budget::Budget;
-use crate::delivery::{Chunk, DriveFault};
+use crate::delivery::DriveFault;
 use crate::drive::{close_all, make_desks};
 use crate::files::ScanFile;
 use crate::gate::Gate;
-use crate::line::{give_output, put_back};
+use crate::line::{name_fault, places_of, put_back};
 use crate::opening::SplitOpener;
+use crate::outbox::Outbox;
 use crate::phase::{Phase, Tally, Unclaimed};
 use crate::report::ScanReport;
 use crate::round::Drive;
 use crate::rounds::run_rounds;
 use crate::settling::RoundFault;
+use crate::sink::{ChunkSink, Flow, FromChunk};
 use crate::work::SplitWork;
 use scan_segments::{KeyedSegmentCache, SegmentSource};
 use scan_values::NoMemory;
 use std::alloc::Global;
 use std::thread::Threads;
 
-/// What a drive gives.
-#[derive(Drop)]
-pub struct DriveOutput<R> {
-    pub chunks: Vec<Chunk<R>>,
+/// What a drive comes to: whether all was given, or the sink wanted no more, and how many segments were wanted.
+#[derive(Clone, Copy, Debug, PartialEq, Eq)]
+pub struct DriveEnd {
+    pub flow: Flow,
     pub report: ScanReport,
 }
 
@@ -85,7 +90,7 @@ fn start<W: SplitWork + Drop, F: Drop>(
     Ok(Drive {
         phases,
         active: Active::new(alloc),
-        chunks: Vec::new(alloc),
+        chunks: Outbox::new(alloc),
         first: 0,
         tally: Tally::default(),
         left: limit,
@@ -96,10 +101,28 @@ fn start<W: SplitWork + Drop, F: Drop>(
     })
 }
 
-/// The rows of all files, and no more of them than the limit: in the order of files and splits, or else as they are read.
-/// Of a limit in no order splits claim rows before they are read, in the order in which they become active, where their
-/// rows are counted by then, and none becomes active once all are claimed; or else workers claim them as splits end.
-/// After any answer the files stand as they stood, and no request is live.
+/// What a drive comes to, with the file of a fault named in place of where it stood.
+fn end_drive<F: Drop>(
+    done: Result<Flow, RoundFault<F>>,
+    report: ScanReport,
+    order: &Vec<usize>,
+) -> Result<DriveEnd, RoundFault<F>>
+    ensures ok { IfOk result (λ e. (done ≡ Ok e.flow) × (e.report ≡ report)) }
+    ensures err { IfErr result (λ e. (f : RoundFault F) × (done ≡ Err f) × (e ≡ fault_in (named_in order.now.items)
+        f)) }
+{
+    match done {
+        Ok(flow) => Ok(DriveEnd { flow, report }),
+        Err(fault) => Err(name_fault(fault, order)),
+    }
+}
+
+/// Gives the rows of all files to a sink, split by split as they are given, and no more of them than the limit: in
+/// the order of files and splits, or else as they are read. What is given is handed over after each round, so that no
+/// more is kept than what is active. Of a limit in no order splits claim rows before they are read, in the order in
+/// which they become active, where their rows are counted by then, and none becomes active once all are claimed; or
+/// else workers claim them as splits end. Where the sink wants no more, nothing else is read. After any answer the
+/// files stand as they stood, no request is live, and the sink has taken a front of what is given where all is.
 pub fn drive_files<
     R: Threads + Sync,
     X: SplitOpener<O, W, F>,
@@ -109,6 +132,8 @@ pub fn drive_files<
     S: SegmentSource + Drop,
     C: KeyedSegmentCache,
     G: Gate,
+    T: FromChunk<W::Rows>,
+    K: ChunkSink<T>,
 >(
     rt: &R,
     alloc: Global,
@@ -116,22 +141,30 @@ pub fn drive_files<
     context: &X,
     files: &mut Vec<ScanFile<O, S>>,
     cache: &mut C,
+    sink: &mut K,
     workers: usize,
     limit: Option<u64>,
     ordered: bool,
     counted: bool,
-) -> Result<DriveOutput<W::Rows>, RoundFault<F>>
+) -> Result<DriveEnd, RoundFault<F>>
     requires workers { 0 < workers }
     requires idle { All (IsIdle S.state) files.old.items }
     requires limit { HasRoom limit }
     ensures keeps { DriveKeeps (X.state context.now) X.polls (X.admits context.now) S.state W.items limit ordered workers
         files.old.items files.new.items (C.cache cache.old) (C.cache cache.new) }
-    ensures gives { IfOk result (λ o. DriveGives (X.state context.now) X.polls (X.admits context.now) S.state W.items
-        limit ordered files.old.items files.new.items (C.cache cache.old) (C.cache cache.new) o.chunks.items o.report) }
+    ensures takes { Hands T.made T.fits K.takes sink.old sink.new
+        (DriveTakes (X.state context.now) S.state W.items limit ordered files.old.items (C.cache cache.old)) }
+    ensures gives { IfOk result (λ e. EndsBy e.flow (K.full sink.new)
+        (Hands T.made T.fits K.takes sink.old sink.new (λ chunks. DriveGives (X.state context.now) X.polls
+        (X.admits context.now) S.state W.items limit ordered files.old.items files.new.items
+        (C.cache cache.old) (C.cache cache.new) chunks e.report))) }
     ensures fault { IfErr result (λ e. StopsDrive (X.state context.now) X.polls (X.refuses context.now)
         (X.admits context.now) S.state W.items limit ordered (C.cache cache.old) files.old.items files.new.items e) }
 {
     let Ok(mut desks) = make_desks(alloc, files) else {
+        return Err(RoundFault::Split(DriveFault::NoMemory));
+    };
+    let Ok(mut order) = places_of(alloc, files.len()) else {
         return Err(RoundFault::Split(DriveFault::NoMemory));
     };
     let Ok(mut drive) = start::<W, F>(alloc, files.len(), limit, ordered, counted) else {
@@ -148,9 +181,11 @@ pub fn drive_files<
         cache,
         &mut drive,
         &mut exchanges,
+        &mut order,
+        sink,
         workers,
     );
     close_all(files, &mut desks);
     put_back(files, &exchanges);
-    give_output(alloc, drive, &exchanges, files.len(), done)
+    end_drive(done, drive.report, &order)
 }

@@ -1,22 +1,25 @@
 //! Files in the order in which they open. After the Rust's `buffer_unordered` over files.
-ghost use Rattle.std.specs.Prelude.{◌≡◌, ◌≤◌, ◌<◌, ◌+◌, ◌^◌, ◌-◌, ◌⊎◌, ℕ, true, false, List, Ok, Err, IfOk, IfErr, length, map, slice_index_or};
+ghost use Rattle.std.specs.Prelude.{◌≡◌, ◌≤◌, ◌<◌, ◌+◌, ◌^◌, ◌-◌, ◌⊎◌, ℕ, [], true, false, List, IfOk, drop, length, slice_index_or};
 ghost use Rattle.std.specs.List.{range_with_len};
 ghost use Rattle.std.specs.List.Sorted.{SwapsInRange};
 ghost use Rattle.scan_drive.specs.Actives.{AreSeats};
+ghost use Rattle.scan_drive.specs.Ends.{gives_first};
 ghost use Rattle.scan_drive.specs.Forward.{BringsForward, KeepsLine, split_fault_in, fault_in};
-ghost use Rattle.scan_drive.specs.Line.{exchanged, restored, placed_by, renamed};
+ghost use Rattle.scan_drive.specs.Handed.{HandsOver, EndsBy, made_by, named_in};
+ghost use Rattle.scan_drive.specs.Line.{exchanged, restored, renamed};
 ghost use Rattle.scan_drive.specs.Phases.{is_unopened, phase_at};
 ghost use Rattle.scan_drive.specs.declared.delivery.DriveFault.TheVariants as faults;
 ghost use Rattle.scan_drive.specs.declared.phase.Phase.TheVariants as phases;
-ghost use Rattle.scan_drive.specs.declared.settling.RoundFault.TheVariants as whys;
+ghost use Rattle.scan_drive.specs.declared.sink.Flow.TheVariants as flows;
 
 use crate::delivery::{Chunk, DriveFault};
 use crate::desk::Desk;
-use crate::driving::DriveOutput;
 use crate::files::ScanFile;
+use crate::outbox::Outbox;
 use crate::phase::Phase;
 use crate::round::{Drive, window_end};
 use crate::settling::RoundFault;
+use crate::sink::{ChunkSink, Flow, FromChunk};
 use crate::work::SplitWork;
 use scan_values::NoMemory;
 use std::alloc::Global;
@@ -137,24 +140,26 @@ pub(crate) fn put_back<O: Drop, S: Drop>(
     }
 }
 
-/// The file that stands at each place.
-fn order_of(
-    alloc: Global,
-    exchanges: &Vec<(usize, usize)>,
-    files: usize,
-) -> Result<Vec<usize>, NoMemory>
-    requires { SwapsInRange files exchanges.now.items }
-    ensures { IfOk result (λ order. order.items ≡ exchanged exchanges.now.items (range_with_len 0 files)) }
+/// The files by their numbers: each stands at its own place.
+pub(crate) fn places_of(alloc: Global, files: usize) -> Result<Vec<usize>, NoMemory>
+    ensures { IfOk result (λ order. order.items ≡ range_with_len 0 files) }
 {
     let mut order = Vec::new(alloc);
     for file in 0..files {
         order.push(file)?;
     }
-    for k in 0..exchanges.len() {
+    Ok(order)
+}
+
+/// Exchanges places as the exchanges from one on do.
+pub(crate) fn swap_places(order: &mut Vec<usize>, exchanges: &Vec<(usize, usize)>, from: usize)
+    requires { SwapsInRange (length order.old.items) (drop from exchanges.now.items) }
+    ensures { order.new.items ≡ exchanged (drop from exchanges.now.items) order.old.items }
+{
+    for k in from..exchanges.len() {
         let (front, place) = exchanges[k];
         order.swap(front, place);
     }
-    Ok(order)
 }
 
 /// The file at a place.
@@ -168,19 +173,42 @@ fn file_at(order: &Vec<usize>, place: usize) -> usize
     }
 }
 
-/// Names the files of chunks in place of where they stood.
-fn name_chunks<R: Drop>(chunks: &mut Vec<Chunk<R>>, order: &Vec<usize>)
-    ensures { chunks.new.items ≡ map (renamed (λ k. slice_index_or order.now.items k k)) chunks.old.items }
+/// A chunk that is named by its file, in place of where that stood.
+fn name_chunk<R>(chunk: Chunk<R>, order: &Vec<usize>) -> Chunk<R>
+    ensures { result ≡ renamed (named_in order.now.items) chunk }
 {
-    for k in 0..chunks.len() {
-        let chunk = &mut chunks[k];
-        chunk.file = file_at(order, chunk.file);
+    let Chunk { file, rows } = chunk;
+    Chunk {
+        file: file_at(order, file),
+        rows,
+    }
+}
+
+/// Hands over what waits, each chunk under the name of its file, as long as the sink wants more.
+pub(crate) fn hand_over<R: Drop, T: FromChunk<R>, K: ChunkSink<T>>(
+    chunks: &mut Outbox<Chunk<R>>,
+    order: &Vec<usize>,
+    sink: &mut K,
+) -> Result<Flow, NoMemory>
+    ensures over { HandsOver (made_by T.made (named_in order.now.items)) T.fits K.takes result chunks.old.items
+        chunks.new.items sink.old sink.new }
+    ensures ends { IfOk result (λ f. EndsBy f (K.full sink.new) (chunks.new.items ≡ [])) }
+{
+    'waiting: loop {
+        let Some(chunk) = chunks.pop() else {
+            return Ok(Flow::More);
+        };
+        match sink.take(T::from_chunk(name_chunk(chunk, order))) {
+            Ok(Flow::More) => {}
+            Ok(Flow::Stop) => return Ok(Flow::Stop),
+            Err(short) => return Err(short),
+        }
     }
 }
 
 /// Names the file of a split's fault in place of where it stood.
 fn name_split_fault(fault: DriveFault, order: &Vec<usize>) -> DriveFault
-    ensures { result ≡ split_fault_in (λ k. slice_index_or order.now.items k k) fault }
+    ensures { result ≡ split_fault_in (named_in order.now.items) fault }
 {
     match fault {
         DriveFault::NoMemory => DriveFault::NoMemory,
@@ -199,8 +227,8 @@ fn name_split_fault(fault: DriveFault, order: &Vec<usize>) -> DriveFault
 }
 
 /// Names the file of a fault in place of where it stood.
-fn name_fault<F: Drop>(fault: RoundFault<F>, order: &Vec<usize>) -> RoundFault<F>
-    ensures { result ≡ fault_in (λ k. slice_index_or order.now.items k k) fault }
+pub(crate) fn name_fault<F: Drop>(fault: RoundFault<F>, order: &Vec<usize>) -> RoundFault<F>
+    ensures { result ≡ fault_in (named_in order.now.items) fault }
 {
     match fault {
         RoundFault::Split(fault) => RoundFault::Split(name_split_fault(fault, order)),
@@ -209,54 +237,35 @@ fn name_fault<F: Drop>(fault: RoundFault<F>, order: &Vec<usize>) -> RoundFault<F
     }
 }
 
-/// What a drive gives, with files named in place of where they stood.
-fn name_files<W: SplitWork + Drop, F: Drop>(
-    mut drive: Drive<W, W::Rows, F>,
-    order: &Vec<usize>,
-    done: Result<(), RoundFault<F>>,
-) -> Result<DriveOutput<W::Rows>, RoundFault<F>>
-    ensures ok { IfOk result (λ o. (done ≡ Ok tt) × (o.report ≡ drive.report)
-        × (o.chunks.items ≡ map (renamed (λ k. slice_index_or order.now.items k k)) drive.chunks.items)) }
-    ensures err { IfErr result (λ e. (f : RoundFault F) × (done ≡ Err f)
-        × (e ≡ fault_in (λ k. slice_index_or order.now.items k k) f)) }
+/// Whether what a round has given is known where it ends with this fault.
+fn gives_first<F>(ordered: bool, fault: &RoundFault<F>) -> bool
+    ensures { result ≡ gives_first ordered fault.now }
 {
-    match done {
-        Ok(()) => {
-            name_chunks(&mut drive.chunks, order);
-            Ok(DriveOutput {
-                chunks: drive.chunks,
-                report: drive.report,
-            })
-        }
-        Err(fault) => Err(name_fault(fault, order)),
+    match fault {
+        RoundFault::Split(DriveFault::NoMemory) => false,
+        RoundFault::Split(DriveFault::Source { .. }) => ordered,
+        RoundFault::Split(DriveFault::Corrupt { .. }) => ordered,
+        RoundFault::Split(DriveFault::Overflow { .. }) => ordered,
+        RoundFault::TooManyRows(_) => true,
+        RoundFault::Refused(_, _) => true,
     }
 }
 
-/// What a drive gives, with the files of chunks and of a fault named: they stood where the exchanges had left them.
-pub(crate) fn give_output<W: SplitWork + Drop, F: Drop>(
-    alloc: Global,
-    drive: Drive<W, W::Rows, F>,
-    exchanges: &Vec<(usize, usize)>,
-    files: usize,
-    done: Result<(), RoundFault<F>>,
-) -> Result<DriveOutput<W::Rows>, RoundFault<F>>
-    requires places { SwapsInRange files exchanges.now.items }
-    ensures ok { IfOk result (λ o. (done ≡ Ok tt) × (o.report ≡ drive.report)
-        × (o.chunks.items ≡ map (renamed (placed_by exchanges.now.items)) drive.chunks.items)) }
-    ensures err { IfErr result (λ e. (e ≡ whys.Split faults.NoMemory)
-        ⊎ ((f : RoundFault F) × (done ≡ Err f) × (e ≡ fault_in (placed_by exchanges.now.items) f))) }
+/// Hands over what was given before a fault, where that is known.
+pub(crate) fn hand_first<R: Drop, F, T: FromChunk<R>, K: ChunkSink<T>>(
+    chunks: &mut Outbox<Chunk<R>>,
+    ordered: bool,
+    fault: &RoundFault<F>,
+    order: &Vec<usize>,
+    sink: &mut K,
+) -> Result<Flow, NoMemory>
+    ensures over { HandsOver (made_by T.made (named_in order.now.items)) T.fits K.takes result chunks.old.items
+        chunks.new.items sink.old sink.new }
+    ensures none { gives_first ordered fault.now ≡ false → K.takes sink.old [] sink.new }
+    ensures ends { IfOk result (λ f. f ≡ flows.Stop → K.full sink.new) }
 {
-    if exchanges.is_empty() {
-        return match done {
-            Ok(()) => Ok(DriveOutput {
-                chunks: drive.chunks,
-                report: drive.report,
-            }),
-            Err(fault) => Err(fault),
-        };
+    if gives_first(ordered, fault) {
+        return hand_over(chunks, order, sink);
     }
-    let Ok(order) = order_of(alloc, exchanges, files) else {
-        return Err(RoundFault::Split(DriveFault::NoMemory));
-    };
-    name_files(drive, &order, done)
+    Ok(Flow::More)
 }

@@ -7,11 +7,13 @@ ghost use Rattle.scan_drive.specs.Budgets.{BudgetData, IsBudget};
 ghost use Rattle.scan_drive.specs.Before.{IsDone, SoundInOrder};
 ghost use Rattle.scan_drive.specs.Drives.{DesksAgree, SourcesMove, FilesWithin};
 ghost use Rattle.scan_drive.specs.Ends.{limit_in};
+ghost use Rattle.scan_drive.specs.Handed.{with_taken};
 ghost use Rattle.scan_drive.specs.Moves.{EachMoves, KeepsSources, tells};
 ghost use Rattle.scan_drive.specs.Polls.{PollsOn};
 ghost use Rattle.scan_drive.specs.Rounds.{IsReady, AreAsking, IsFrontFile, Stands};
 ghost use Rattle.scan_drive.specs.Steps.{BringsIn, GivesNot, GivesOut, GivesRows, Serves};
 ghost use Rattle.scan_drive.specs.Trades.{FilesTrade};
+ghost use Rattle.scan_drive.specs.declared.delivery.Chunk.{Chunk};
 ghost use Rattle.scan_drive.specs.declared.files.ScanFile.{ScanFile};
 ghost use Rattle.scan_drive.specs.Windows.{AreBusy, IsWindow};
 ghost use Rattle.scan_splits.specs.Wanted.{no_repeats};
@@ -24,6 +26,7 @@ use crate::drive::fetch_files;
 use crate::files::{ScanFile, open_files};
 use crate::gate::Gate;
 use crate::opening::SplitOpener;
+use crate::outbox::Outbox;
 use crate::phase::{Phase, Tally, Unclaimed, activate, all_claimed};
 use crate::report::ScanReport;
 use crate::slot::Slot;
@@ -41,7 +44,8 @@ use std::thread::Threads;
 pub struct Drive<W, R, F> {
     pub phases: Vec<Phase<W, F>>,
     pub active: Active<W, R>,
-    pub chunks: Vec<Chunk<R>>,
+    /// Chunks that are given and wait to be taken.
+    pub chunks: Outbox<Chunk<R>>,
     /// No file below it has a split that is not active yet.
     pub first: usize,
     pub tally: Tally,
@@ -152,8 +156,9 @@ fn free_places(workers: usize, busy: usize, closed: bool) -> usize
     workers.saturating_sub(busy)
 }
 
-/// Up to which file openers are polled, so that no more files are unfinished than there are workers: in order those from
-/// the front on, and in no order a file that is finished frees its place, as long as rows are left that no split has claimed.
+/// Up to which file openers are polled, so that no more files are unfinished than there are workers: in order those
+/// from the front on, and in no order a file that is finished frees its place, as long as rows are left that no split
+/// has claimed.
 pub(crate) fn window_end<W: Drop, R: Drop>(
     ordered: bool,
     turns: &VecDeque<usize>,
@@ -179,6 +184,7 @@ pub(crate) fn window_end<W: Drop, R: Drop>(
 }
 
 /// Polls the openers of the files in the window, and makes splits active. It says whether an opener has answered.
+/// What is said of the drive is so whatever was taken of it before.
 pub(crate) fn bring_in<X: SplitOpener<O, W, F>, O, W: SplitWork + Drop, F: Drop, S: SegmentSource>(
     alloc: Global,
     context: &X,
@@ -192,11 +198,14 @@ pub(crate) fn bring_in<X: SplitOpener<O, W, F>, O, W: SplitWork + Drop, F: Drop,
     ensures sources { KeepsSources files.old.items files.new.items }
     ensures rest { (drive.new.chunks ≡ drive.old.chunks) × (drive.new.left ≡ drive.old.left) × (drive.new.report ≡ drive.old.report)
         × (drive.new.ordered ≡ drive.old.ordered) × (drive.new.budget ≡ drive.old.budget) }
-    ensures brings { IfOk result (λ b. BringsIn (X.state context.now) X.polls (X.refuses context.now) (X.admits context.now)
-        S.state W.split W.comes W.items b files.old.items files.new.items drive.old drive.new) }
-    ensures polls { PollsOn (X.state context.now) W.items drive.old.ordered workers (limit_in W.split W.comes W.items drive.old)
-        (tells (X.state context.now) S.state files.old.items)
-        (SoundInOrder W.split W.comes W.items (tells (X.state context.now) S.state files.old.items) drive.old)
+    ensures brings { IfOk result (λ b. (ts : List (Chunk W.Rows)) → BringsIn (X.state context.now) X.polls
+        (X.refuses context.now) (X.admits context.now) S.state W.split W.comes W.items b files.old.items files.new.items
+        (with_taken ts drive.old) (with_taken ts drive.new)) }
+    ensures polls { (ts : List (Chunk W.Rows)) → PollsOn (X.state context.now) W.items drive.old.ordered workers
+        (limit_in W.split W.comes W.items (with_taken ts drive.old)) (tells (X.state context.now) S.state
+        files.old.items)
+        (SoundInOrder W.split W.comes W.items (tells (X.state context.now) S.state files.old.items) (with_taken ts
+        drive.old))
         drive.old.phases.items files.old.items files.new.items }
 {
     let first = drive.first;
@@ -234,9 +243,9 @@ fn holds_last(cut: bool, budget: &Option<Budget>) -> bool
     }
 }
 
-/// Polls the splits that wait for nothing, and gives the rows of those whose turn it is, or in no order of all that are read, which of
-/// a limit a budget has granted, and where the last is cut those of the others before it. It answers the places of the splits that wait for other segments now, or nothing once the
-/// limit is met.
+/// Polls the splits that wait for nothing, and gives the rows of those whose turn it is, or in no order of all that
+/// are read, which of a limit a budget has granted, and where the last is cut those of the others before it. It
+/// answers the places of the splits that wait for other segments now, or nothing once the limit is met.
 pub(crate) fn give_out<R: Threads + Sync, W: SplitWork + Drop + Send, G: Gate>(
     rt: &R,
     alloc: Global,
@@ -245,7 +254,7 @@ pub(crate) fn give_out<R: Threads + Sync, W: SplitWork + Drop + Send, G: Gate>(
     ordered: bool,
     budget: &mut Option<Budget>,
     active: &mut Active<W, W::Rows>,
-    chunks: &mut Vec<Chunk<W::Rows>>,
+    chunks: &mut Outbox<Chunk<W::Rows>>,
     left: &mut Option<u64>,
     cut: bool,
 ) -> Result<Option<VecDeque<usize>>, DriveFault>

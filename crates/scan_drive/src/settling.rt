@@ -1,11 +1,13 @@
 //! What is given of a drive, and where it ends.
-ghost use Rattle.std.specs.Prelude.{◌≡◌, ◌<◌, [], true, false, None, ℕ, OnOk, IfOk, IfErr, IfSome, MatchOption};
+ghost use Rattle.std.specs.Prelude.{◌≡◌, ◌<◌, [], true, false, None, ℕ, List, OnOk, IfOk, IfErr, IfSome, MatchOption};
 ghost use Rattle.scan_drive.specs.Chunks.{given, KeepsRows};
 ghost use Rattle.scan_drive.specs.Drives.{NoneOf};
 ghost use Rattle.scan_drive.specs.Ends.{EndIs, Settles};
+ghost use Rattle.scan_drive.specs.Handed.{with_taken};
 ghost use Rattle.scan_drive.specs.Lost.{EachFollows};
 ghost use Rattle.scan_drive.specs.Rounds.{Stands};
 ghost use Rattle.scan_drive.specs.Steps.{SettlesAll, SettlesNot};
+ghost use Rattle.scan_drive.specs.declared.delivery.Chunk.{Chunk};
 ghost use Rattle.scan_drive.specs.declared.phase.Phase.TheVariants as phases;
 
 use crate::delivery::DriveFault;
@@ -79,8 +81,9 @@ fn end_of<W: Drop, F: Drop>(phases: &mut Vec<Phase<W, F>>, first: usize, tally: 
     }
 }
 
-/// Polls the splits that wait for nothing, and gives the rows of those whose turn it is, or in no order of all that are read. It answers
-/// the places of the splits that wait for other segments now, or nothing once all is given or the limit is met.
+/// Polls the splits that wait for nothing, and gives the rows of those whose turn it is, or in no order of all that
+/// are read. It answers the places of the splits that wait for other segments now, or nothing once all is given or
+/// the limit is met. What is said of the drive is so whatever was taken of it before.
 pub(crate) fn settle<R: Threads + Sync, W: SplitWork + Drop + Send, F: Drop, G: Gate>(
     rt: &R,
     alloc: Global,
@@ -91,12 +94,15 @@ pub(crate) fn settle<R: Threads + Sync, W: SplitWork + Drop + Send, F: Drop, G: 
     requires workers { 0 < workers }
     requires stands { (n : ℕ) × Stands n drive.old }
     ensures report { drive.new.report ≡ drive.old.report }
-    ensures waits { IfOk result (λ o. IfSome o (λ asking. Settles W.split W.comes W.items asking.items drive.old drive.new)) }
-    ensures all { IfOk result (λ o. o ≡ None → SettlesAll W.split W.comes W.items drive.old drive.new) }
+    ensures waits { IfOk result (λ o. IfSome o (λ asking. (ts : List (Chunk W.Rows)) →
+        Settles W.split W.comes W.items asking.items (with_taken ts drive.old) (with_taken ts drive.new))) }
+    ensures all { IfOk result (λ o. o ≡ None → (ts : List (Chunk W.Rows)) →
+        SettlesAll W.split W.comes W.items (with_taken ts drive.old) (with_taken ts drive.new)) }
     ensures some { OnOk result (KeepsRows W.items drive.old.chunks.items drive.new.chunks.items) }
     ensures follows { IfOk result (λ o. IfSome o (λ asking.
         EachFollows NoneOf NoneOf drive.old.active.slots.items drive.new.active.slots.items)) }
-    ensures stops { IfErr result (λ e. SettlesNot W.split W.comes W.items drive.old drive.new e) }
+    ensures stops { IfErr result (λ e. (ts : List (Chunk W.Rows)) →
+        SettlesNot W.split W.comes W.items (with_taken ts drive.old) (with_taken ts drive.new) e) }
 {
     let asking = match give_out(
         rt,

@@ -124,17 +124,17 @@ module _ (d : DataType) (q : ScanRequest) (a : FileAsk) (asks : AsksFor d q a) (
       (few_given d q a asks files g.places (drive_chunks.given row_items g.chunks) g.more g.groups (chunks_clean g.chunks) (below-of q.limit _ g.room))
 
   -- chunks of what a drive gives, in order or in some order, give as many items as the limit allows
-  pub items_given : (ordered : Bool) (chunks : List (Chunk RowsData)) → IsAnswered ordered q.limit (map (tale_of a) files) (drive_chunks.given row_items chunks)
-      → IsGiven ordered q.limit (answer d q files) (given (map chunk_of chunks))
-  items_given true chunks is = sym (chunks_items chunks) ∙ given_limited d q a asks files q.limit (drive_chunks.given row_items chunks) is (chunks_clean chunks)
-  items_given false chunks is =
-      subst (IsChoice q.limit (answer d q files)) (chunks_items chunks) (choice_given d q a asks files q.limit (drive_chunks.given row_items chunks) is (chunks_clean chunks))
+  pub items_given : (limit : Option ℕ) (ordered : Bool) (chunks : List (Chunk RowsData)) → IsAnswered ordered limit (map (tale_of a) files) (drive_chunks.given row_items chunks)
+      → IsGiven ordered limit (answer d q files) (given (map chunk_of chunks))
+  items_given limit true chunks is = sym (chunks_items chunks) ∙ given_limited d q a asks files limit (drive_chunks.given row_items chunks) is (chunks_clean chunks)
+  items_given limit false chunks is =
+      subst (IsChoice limit (answer d q files)) (chunks_items chunks) (choice_given d q a asks files limit (drive_chunks.given row_items chunks) is (chunks_clean chunks))
 
-  rows-typed : (ordered : Bool) (gs : List (drive.Group drive.Item)) → IsAnswered ordered q.limit (map (tale_of a) files) gs → AreOf (infer d q.projection) (drive.flattened gs)
-  rows-typed true gs is = limited_typed (infer d q.projection) (drive.answer (map (tale_of a) files)) (rows_typed d q a asks files) q.limit gs is
-  rows-typed false gs is = rows_typed_in d q a asks files q.limit gs is
+  rows-typed : (limit : Option ℕ) (ordered : Bool) (gs : List (drive.Group drive.Item)) → IsAnswered ordered limit (map (tale_of a) files) gs → AreOf (infer d q.projection) (drive.flattened gs)
+  rows-typed limit true gs is = limited_typed (infer d q.projection) (drive.answer (map (tale_of a) files)) (rows_typed d q a asks files) limit gs is
+  rows-typed limit false gs is = rows_typed_in d q a asks files limit gs is
 
   -- each of them has the dtype of the projection
-  pub typed_chunks : (ordered : Bool) (chunks : List (Chunk RowsData)) → IsAnswered ordered q.limit (map (tale_of a) files) (drive_chunks.given row_items chunks) → All (HasRow row_items) chunks
+  pub typed_chunks : (limit : Option ℕ) (ordered : Bool) (chunks : List (Chunk RowsData)) → IsAnswered ordered limit (map (tale_of a) files) (drive_chunks.given row_items chunks) → All (HasRow row_items) chunks
       → All IsEven (map chunk_of chunks) → All (IsChunk (infer d q.projection)) (map chunk_of chunks)
-  typed_chunks ordered chunks is some even = are_chunks (infer d q.projection) chunks some even (rows-typed ordered (drive_chunks.given row_items chunks) is)
+  typed_chunks limit ordered chunks is some even = are_chunks (infer d q.projection) chunks some even (rows-typed limit ordered (drive_chunks.given row_items chunks) is)

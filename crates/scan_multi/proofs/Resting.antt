@@ -15,7 +15,11 @@ use Rattle.scan_segments.specs.declared.cache.CacheEvent.{CacheEvent}
 use Rattle.scan_segments.specs.declared.segment.SegmentKey.{SegmentKey}
 use Rattle.scan_opener.specs.Opener.{OpenerState}
 use Rattle.scan_drive.specs.Traffic.{key_of, asked_keys, ended_since, Grows, capped_report, CacheMoves, IsFedBy, LooksUpFirst}
+use Rattle.scan_drive.specs.Grants.{Allows}
+use Rattle.scan_drive.specs.declared.driving.DriveEnd.{DriveEnd}
 use Rattle.scan_drive.specs.declared.files.ScanFile.{ScanFile}
+use Rattle.scan_drive.specs.declared.sink.Flow.{Flow}
+use Rattle.scan_drive.specs.declared.sink.Flow.TheVariants as flow
 use Rattle.scan_multi.specs.Answer.{Item, ToldFile, answer}
 use Rattle.scan_multi.specs.Causes.{HasCause}
 use Rattle.scan_multi.specs.Chunks.{AreSplits, IsFrontOf, cut}
@@ -23,10 +27,11 @@ use Rattle.scan_multi.specs.Checked.{IsRequestFault}
 use Rattle.scan_multi.specs.Lawful.{told_file, told, IsIdle}
 use Rattle.scan_multi.specs.Moves.{FileMoves}
 use Rattle.scan_multi.specs.Named.{named}
-use Rattle.scan_multi.specs.Output.{IsChunk, IsGiven}
+use Rattle.scan_multi.specs.Output.{ChunkData, IsChunk, IsGiven}
 use Rattle.scan_multi.specs.Placed.{no_counts}
 use Rattle.scan_multi.specs.Request.{or_else, unless, of_bind, has_no_partitions, is_forward, first_request_fault}
 use Rattle.scan_multi.specs.Scans.{IsScan, IsRefusedFor, ScanMoves}
+use Rattle.scan_multi.specs.Taken.{TakesFront, EndsScan}
 use Rattle.scan_multi.specs.declared.scan.fault.RangeFault.TheVariants.{Reversed, Past}
 use Rattle.scan_multi.specs.declared.scan.fault.ScanFault.{ScanFault}
 use Rattle.scan_multi.specs.declared.scan.fault.ScanFault.TheVariants as fault
@@ -41,6 +46,10 @@ same-events (Some es) = ap Some (sym (append-nil es))
 same-count : (o : Option ℕ) → Grows o o
 same-count None = tt
 same-count (Some n) = omega arith
+
+least : (o : Option ℕ) → Allows o 0
+least None = tt
+least (Some n) = omega arith
 
 -- what holds of no events holds of those that a cache tells
 since : (c : CacheState SegmentKey) (P : List (CacheEvent SegmentKey) → Type 0) → P [] → IfSome (ended_since c c) P
@@ -129,6 +138,28 @@ module _ {O S : Type 0} (opener : O → OpenerState) (source : S → SourceState
       };
     }
 
+    -- ---- a sink that takes nothing
+    module _ {K : Type 0} (takes : K → List ChunkData → K → Type 0) (sink : K) (nothing : takes sink [] sink) where
+      pub front_still : TakesFront opener source takes d q files c sink sink
+      front_still = record {
+        chunks = [];
+        took = nothing;
+        front = λ l. record {
+          most = 0;
+          within = least q.limit;
+          chunks = All-nil (IsChunk (infer d q.projection));
+          items = none-given q.ordered (answer d q (told opener source files));
+          splits = none-split q.ordered (told opener source files) d q;
+        };
+      }
+
+      pub ends_none : (Full : Type 0) → first_request_fault workers d q ≡ None → q.limit ≡ Some 0 → EndsScan opener source takes workers d q files files c c Full sink sink (record { flow = flow.More; report = no_counts })
+      ends_none Full none zero-rows = record {
+        types = none;
+        stop = λ e. cc;
+        whole = λ e. record { chunks = []; took = nothing; scan = scan_of_none none zero-rows };
+      }
+
     -- ---- a request with a fault
     -- faults of requests
     abbrev IsOfRequest : ScanFault → Type 0
@@ -170,3 +201,16 @@ module _ {O S : Type 0} (opener : O → OpenerState) (source : S → SourceState
       request_fault = λ other. subst (λ o. IfSome o (λ f. e ≡ f)) (sym (r.first other)) refl;
       complete = complete opener source workers d q c files files e (cause-of e r);
     }
+
+-- ---- a sink that keeps all
+module _ {O S K : Type 0} (opener : O → OpenerState) (source : S → SourceState) (takes : K → List ChunkData → K → Type 0) (workers : ℕ) (d : DataType) (q : ScanRequest) (old new : List (ScanFile O S)) (c c' : CacheState SegmentKey)
+    (sink sink' : K) where
+  pub kept_all : (now : List ChunkData) (end : DriveEnd) → EndsScan opener source takes workers d q old new c c' ⊥ sink sink' end → ((xs : List ChunkData) → takes sink xs sink' → now ≡ xs)
+      → IsScan opener source workers d q old new c c' (record { chunks = now; report = end.report })
+  kept_all now end h same = go end.flow refl
+    where
+      go : (f : Flow) → end.flow ≡ f → IsScan opener source workers d q old new c c' (record { chunks = now; report = end.report })
+      go flow.More e =
+          let w = h.whole e in
+          subst (λ (xs : List ChunkData). IsScan opener source workers d q old new c c' (record { chunks = xs; report = end.report })) (sym (same w.chunks w.took)) w.scan
+      go flow.Stop e = absurd (h.stop e)

@@ -1,5 +1,5 @@
 -- What a scan does and answers, from what the drive over its files does and answers.
-use Rattle.std.proofs.Common.{◌≡◌, ℕ, ◌<◌, List, sym, subst, length, get_or, map}
+use Rattle.std.proofs.Common.{◌≡◌, ℕ, ◌<◌, List, Some, sym, subst, length, get_or, map}
 use Rattle.std.specs.Prelude.{None, IfSome, All}
 use Rattle.scan_values.specs.DataType.{DataType}
 use Rattle.scan_expr.specs.declared.request.ScanRequest.{ScanRequest}
@@ -10,10 +10,13 @@ use Rattle.scan_opener.specs.Opener.{OpenerState, Given, skip, layout_of}
 use Rattle.scan_drive.specs.Chunks.{HasRow}
 use Rattle.scan_drive.specs.Chunks as drive_chunks
 use Rattle.scan_drive.specs.Drivings.{PollsEnd, StopsDrive, WasAdmitted}
+use Rattle.scan_drive.specs.Handed.{Hands, DriveTakes, EndsBy}
 use Rattle.scan_drive.specs.Line.{IsAnswered}
+use Rattle.scan_drive.specs.Steps.{DriveGives}
 use Rattle.scan_drive.specs.Trades.{FilesTrade}
 use Rattle.scan_drive.specs.Traffic.{asked_keys, ended_since, CacheMoves, IsReport, LooksUpFirst, PutsWhatItAsked}
 use Rattle.scan_drive.specs.declared.delivery.Chunk.{Chunk}
+use Rattle.scan_drive.specs.declared.driving.DriveEnd.{DriveEnd}
 use Rattle.scan_drive.specs.declared.files.ScanFile.{ScanFile}
 use Rattle.scan_drive.specs.declared.report.ScanReport.{ScanReport}
 use Rattle.scan_drive.specs.declared.settling.RoundFault.{RoundFault}
@@ -26,9 +29,11 @@ use Rattle.scan_multi.specs.Asked.{AsksFor, tale_of}
 use Rattle.scan_multi.specs.Causes.{HasCause}
 use Rattle.scan_multi.specs.Checks.{IsGood}
 use Rattle.scan_multi.specs.Lawful.{told, IsLawful, IsIdle, Gives}
+use Rattle.scan_multi.specs.Output.{ChunkData}
 use Rattle.scan_multi.specs.Placed.{chunk_of, IsEven, placed}
 use Rattle.scan_multi.specs.Request.{first_request_fault}
 use Rattle.scan_multi.specs.Scans.{IsScan, IsRefusedFor, ScanMoves}
+use Rattle.scan_multi.specs.Taken.{IsFront, TakesFront, TakesScan, EndsScan}
 use Rattle.scan_multi.specs.declared.scan.fault.ScanFault.{ScanFault}
 use Rattle.scan_multi.specs.declared.scan.fault.ScanFault.TheVariants as fault
 use Rattle.scan_multi.proofs.Causing.{causes}
@@ -100,12 +105,47 @@ module _ {O S : Type 0} (opener : O → OpenerState) (source : S → SourceState
     scan_given report some even opened puts counts = record {
       types = none;
       admits = λ l. record {
-        chunks = typed_chunks d q a asks (told opener source old) q.ordered chunks (told-is l) some even;
-        items = items_given d q a asks (told opener source old) q.ordered chunks (told-is l);
+        chunks = typed_chunks d q a asks (told opener source old) q.limit q.ordered chunks (told-is l) some even;
+        items = items_given d q a asks (told opener source old) q.limit q.ordered chunks (told-is l);
       };
-      chunks = λ l. chunks_split d q a asks (told opener source old) q.ordered chunks (told-is l) some;
+      chunks = λ l. chunks_split d q a asks (told opener source old) q.limit q.ordered chunks (told-is l) some;
       whole = λ un all l. chunks_whole d q a asks (told opener source old) q.ordered q.limit chunks un all (told-is l) some;
       read = λ e k f lt. good-at (get_or old k f) (get_or new k f) (opened e k f lt);
       puts = puts;
       report = counts;
+    }
+
+  -- ---- what a sink has taken
+  front_of : (chunks : List (Chunk RowsData)) → DriveTakes (asked_state opener a) source row_items q.limit q.ordered old c chunks → All IsEven (map chunk_of chunks) → IsLawful opener source old c
+      → IsFront d q (told opener source old) (map chunk_of chunks)
+  front_of chunks t even l =
+      let f = t.front (lawful_drive opener source a old c l) in
+      let is : IsAnswered q.ordered (Some f.most) (map (tale_of a) (told opener source old)) (drive_chunks.given row_items chunks) =
+      subst (λ ts. IsAnswered q.ordered (Some f.most) ts (drive_chunks.given row_items chunks)) (tale_is opener source a old l.tells) f.given in
+      record {
+        most = f.most;
+        within = f.within;
+        chunks = typed_chunks d q a asks (told opener source old) (Some f.most) q.ordered chunks is t.rows even;
+        items = items_given d q a asks (told opener source old) (Some f.most) q.ordered chunks is;
+        splits = chunks_split d q a asks (told opener source old) (Some f.most) q.ordered chunks is t.rows;
+      }
+
+  module _ {K : Type 0} (takes : K → List ChunkData → K → Type 0) (sink sink' : K) where
+    pub front_taken : Hands chunk_of IsEven takes sink sink' (DriveTakes (asked_state opener a) source row_items q.limit q.ordered old c) → TakesFront opener source takes d q old c sink sink'
+    front_taken h = record { chunks = map chunk_of h.chunks; took = h.took; front = front_of h.chunks h.so h.fitting }
+
+    -- a sink has taken all that a drive gives, with this report
+    abbrev TakesDrive : ScanReport → Type 0
+    TakesDrive report = Hands chunk_of IsEven takes sink sink' (λ chunks. DriveGives (asked_state opener a) (Polls opener a) (admitted_by opener a) source row_items q.limit q.ordered old new c c' chunks report)
+
+    all_taken : (report : ScanReport) → TakesDrive report → TakesScan opener source takes workers d q old new c c' sink sink' report
+    all_taken report h =
+        let g = h.so in
+        record { chunks = map chunk_of h.chunks; took = h.took; scan = scan_given h.chunks g.answer report g.some h.fitting g.opened g.puts g.report }
+
+    pub scan_ended : (Full : Type 0) (end : DriveEnd) → EndsBy end.flow Full (TakesDrive end.report) → EndsScan opener source takes workers d q old new c c' Full sink sink' end
+    scan_ended Full end h = record {
+      types = none;
+      stop = λ e. subst (λ f. EndsBy f Full (TakesDrive end.report)) e h;
+      whole = λ e. all_taken end.report (subst (λ f. EndsBy f Full (TakesDrive end.report)) e h);
     }

@@ -42,13 +42,13 @@ given_full (c ∷ cs) = full_before c.file (row_items c.rows) (drive_chunks.give
 
 module _ (d : DataType) (q : ScanRequest) (a : FileAsk) (asks : AsksFor d q a) (files : List ToldFile) where
   -- chunks of what a drive gives are split where the files are
-  pub chunks_split : (ordered : Bool) (chunks : List (Chunk RowsData)) → IsAnswered ordered q.limit (map (tale_of a) files) (drive_chunks.given row_items chunks) → All (HasRow row_items) chunks
+  pub chunks_split : (limit : Option ℕ) (ordered : Bool) (chunks : List (Chunk RowsData)) → IsAnswered ordered limit (map (tale_of a) files) (drive_chunks.given row_items chunks) → All (HasRow row_items) chunks
       → AreSplits ordered d q files (map chunk_of chunks)
-  chunks_split true chunks is some =
-      given_splits d q a asks files q.limit (drive_chunks.given row_items chunks) (map chunk_of chunks) is (chunks_clean chunks) (group_by_group chunks some) (sym (chunks_items chunks))
-  chunks_split false chunks is some =
+  chunks_split limit true chunks is some =
+      given_splits d q a asks files limit (drive_chunks.given row_items chunks) (map chunk_of chunks) is (chunks_clean chunks) (group_by_group chunks some) (sym (chunks_items chunks))
+  chunks_split limit false chunks is some =
       subst (All (IsFrontOf (cut d q files (answer d q files)))) (sym (group_by_group chunks some))
-      (fronts_given d q a asks files q.limit (drive_chunks.given row_items chunks) is (chunks_clean chunks) (given_full chunks))
+      (fronts_given d q a asks files limit (drive_chunks.given row_items chunks) is (chunks_clean chunks) (given_full chunks))
 
   -- without an order and a limit they are the groups of the answer, each once
   pub chunks_whole : (ordered : Bool) (limit : Option ℕ) (chunks : List (Chunk RowsData)) → ordered ≡ false → limit ≡ None → IsAnswered ordered limit (map (tale_of a) files) (drive_chunks.given row_items chunks)

@@ -15,6 +15,7 @@ pub mod Late
 pub mod Causes
 pub mod Valid
 pub mod Scans
+pub mod Taken
 pub mod Asked
 pub mod Checked
 pub mod Placed

@@ -5,7 +5,7 @@ mod files;
 mod output;
 mod request;
 
-pub use columns::scan_columns_of;
+pub use columns::{scan_columns_of, scan_into};
 pub use fault::{RangeFault, ScanFault};
 pub use files::scan_files;
 pub use output::{ColumnChunk, ColumnOutput, ScanChunk, ScanOutput};

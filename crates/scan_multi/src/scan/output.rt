@@ -1,9 +1,9 @@
 //! What a scan gives.
-ghost use Rattle.std.specs.Prelude.{◌≡◌, [], All, IfOk, map};
-ghost use Rattle.scan_multi.specs.Placed.{chunk_of, IsEven, no_counts};
+ghost use Rattle.std.specs.Prelude.{◌≡◌, IfOk};
+ghost use Rattle.scan_multi.specs.Placed.{chunk_of, IsEven};
 
 use scan_columns::Column;
-use scan_drive::{Chunk, ScanReport};
+use scan_drive::{Chunk, FromChunk, ScanReport};
 use scan_file::FileRows;
 use scan_values::{Array, NoMemory};
 use std::alloc::Global;
@@ -95,16 +95,6 @@ impl ColumnChunk {
 }
 
 impl ColumnOutput {
-    /// No rows, for which nothing was wanted.
-    pub(crate) fn empty(alloc: Global) -> ColumnOutput
-        ensures { result ≡ record { chunks = []; report = no_counts } }
-    {
-        ColumnOutput {
-            chunks: Vec::new(alloc),
-            report: ScanReport::default(),
-        }
-    }
-
     /// The same with an array for each column, made chunk by chunk.
     pub fn into_arrays(self, alloc: Global) -> Result<ScanOutput, NoMemory>
         ensures { IfOk result (λ out. out ≡ self) }
@@ -128,31 +118,22 @@ fn arrays_of(alloc: Global, chunks: Vec<ColumnChunk>) -> Result<Vec<ScanChunk>, 
     Ok(made)
 }
 
-/// The rows of a split as a chunk of a scan. No value is copied.
-fn chunk_of(chunk: Chunk<FileRows>) -> ColumnChunk
-    ensures is { result ≡ chunk_of chunk }
-    ensures even { IsEven result }
-{
-    let Chunk { file, rows } = chunk;
-    let (numbers, values) = rows.into_parts();
-    ColumnChunk {
-        file,
-        rows: numbers,
-        values,
-    }
-}
+impl FromChunk<FileRows> for ColumnChunk {
+    ghost made = { chunk_of };
 
-/// The same of each split.
-pub(crate) fn chunks_of(
-    alloc: Global,
-    chunks: Vec<Chunk<FileRows>>,
-) -> Result<Vec<ColumnChunk>, NoMemory>
-    ensures are { IfOk result (λ v. v.items ≡ map chunk_of chunks.items) }
-    ensures even { IfOk result (λ v. All IsEven v.items) }
-{
-    let mut made = Vec::with_capacity(alloc, chunks.len())?;
-    for chunk in chunks {
-        made.push(chunk_of(chunk))?;
+    ghost fits = { IsEven };
+
+    /// The rows of a split as a chunk of a scan. No value is copied.
+    fn from_chunk(chunk: Chunk<FileRows>) -> ColumnChunk
+        ensures made { result ≡ chunk_of chunk }
+        ensures fits { IsEven result }
+    {
+        let Chunk { file, rows } = chunk;
+        let (numbers, values) = rows.into_parts();
+        ColumnChunk {
+            file,
+            rows: numbers,
+            values,
+        }
     }
-    Ok(made)
 }

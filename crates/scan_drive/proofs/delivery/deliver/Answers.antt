@@ -44,7 +44,7 @@ returns-in-Ok-Halted-clause-fault g c =
     let more = more_stays g.W.SplitWork.split g.W.SplitWork.comes g.W.SplitWork.items c.args.active.now c.turns.active c.take_front.new.self c.args.chunks.now.items c.turns.chunks.items c.args.left.now c.turns.left c.turns.invariant.more f.1 in
     let turn = stays_halted c.in-Ok-Halted.file c.in-Ok-Halted.halt c.turns.active c.take_front.new.self f.0 f.1 in
     subst (λ (e : DriveFault). IsDeliverFault g.W.SplitWork.split g.W.SplitWork.comes g.W.SplitWork.items c.args.active.now c.take_front.new.self c.args.chunks.now.items c.turns.chunks.items c.args.left.now c.turns.left e) (sym c.held.ensures)
-    (held_fault g.W.SplitWork.split g.W.SplitWork.comes g.W.SplitWork.items c.in-Ok-Halted.file c.in-Ok-Halted.halt c.args.active.now c.take_front.new.self c.args.chunks.now.items c.turns.chunks.items c.args.left.now c.turns.left turn more)
+    (held_fault g.W.SplitWork.split g.W.SplitWork.comes g.W.SplitWork.items c.in-Ok-Halted.file c.in-Ok-Halted.halt c.args.active.now c.take_front.new.self c.args.chunks.now.items c.turns.chunks.items c.args.left.now c.turns.left turn c.turns.invariant.some more)
 
 pub returns-in-Ok-Halted-clause-cause : goal.returns-in-Ok-Halted-clause-cause
 returns-in-Ok-Halted-clause-cause g c tale ok =

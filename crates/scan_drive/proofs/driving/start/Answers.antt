@@ -10,7 +10,7 @@ returns-clause-starts g c =
       first = search rules;
       seated = c.new.ensures.seated;
       turns = c.new.ensures.turns;
-      chunks = c.new-2.ensures.items;
+      chunks = c.new-2.ensures;
       tally = (c.default.ensures.0, c.default.ensures.1);
       left = search rules;
       report = λ i. record { wants = none.0 i; hits = none.1.0 i; shared = none.1.1.0 i; asks = none.1.1.1 i };

@@ -1,12 +1,14 @@
 use Rattle.std.proofs.Common.{◌≡◌, ◌∙◌, List, length, sym, subst, refl, arith}
 use Rattle.std.proofs.lemmas.List.{length-map}
 use Rattle.scan_drive.specs.Ends.{limit_in}
+use Rattle.scan_drive.specs.Handed.{with_taken}
 use Rattle.scan_drive.specs.Moves.{tell, tells}
 use Rattle.scan_drive.specs.declared.phase.Phase.{Phase}
 use Rattle.scan_drive.specs.declared.round.Drive.{Drive}
 use Rattle.scan_drive.specs.declared.files.ScanFile.{ScanFile}
 use Rattle.scan_drive.proofs.Halting.{halts_seats}
 use Rattle.scan_drive.proofs.Lasting.{brought, stands_new, sound_new, why_after}
+use Rattle.scan_drive.proofs.Outgone.{stands_taken}
 use Rattle.scan_drive.proofs.Standing.{linked_seated}
 use Rattle.scan_drive.proofs.Tracking.{stand_phases, late_polled}
 use Rattle.scan_drive.proofs.Tracing.{brought_grounds}
@@ -27,7 +29,7 @@ pub open_files-requires-clause-below : goal.open_files-requires-clause-below
 open_files-requires-clause-below g c κs lives = c.requires.stands.below
 
 pub returns-clause-brings : goal.returns-clause-brings
-returns-clause-brings g c =
+returns-clause-brings g c ts =
     let state = g.X.SplitOpener.state c.args.context.now in
     let polls = g.X.SplitOpener.polls in
     let source = g.S.SegmentSource.state in
@@ -37,9 +39,9 @@ returns-clause-brings g c =
     let files : List (ScanFile g.row.O.Denot g.row.S.Denot) = c.args.files.now.items in
     let files1 : List (ScanFile g.row.O.Denot g.row.S.Denot) = c.open_files.new.files.items in
     let mid : List (Phase g.row.W.Denot g.row.F.Denot) = c.open_files.new.phases.items in
-    let old : Drive g.row.W.Denot g.row.W-Rows.Denot g.row.F.Denot = c.args.drive.now in
+    let old : Drive g.row.W.Denot g.row.W-Rows.Denot g.row.F.Denot = with_taken ts c.args.drive.now in
     let new : Drive g.row.W.Denot g.row.W-Rows.Denot g.row.F.Denot = record old { phases = c.activate.new.phases; active = c.activate.new.active; tally = c.activate.new.tally; first = c.in_ok-drive.field-0; unclaimed = c.activate.new.unclaimed } in
-    let stands = c.requires.stands in
+    let stands = stands_taken ts (length files) c.args.drive.now c.requires.stands in
     let all = c.open_files.ensures in
     let o = c.in_ok-opened.ensures.opens in
     let a = c.in_ok-drive.ensures in
@@ -63,11 +65,11 @@ returns-clause-brings g c =
     }
 
 pub returns-clause-polls : goal.returns-clause-polls
-returns-clause-polls g c = record {
+returns-clause-polls g c ts = record {
   grows = c.open_files.ensures.keeps.grows;
   fit = c.open_files.ensures.keeps.fit;
   late = λ h start l.
-      (let d : Drive g.row.W.Denot g.row.W-Rows.Denot g.row.F.Denot = c.args.drive.now in
+      (let d : Drive g.row.W.Denot g.row.W-Rows.Denot g.row.F.Denot = with_taken ts c.args.drive.now in
       let tale = tells (g.X.SplitOpener.state c.args.context.now) g.S.SegmentSource.state c.args.files.now.items in
       late_polled (g.X.SplitOpener.state c.args.context.now) g.W.SplitWork.items d.ordered c.args.workers d.first c.window_end-last.result (limit_in g.W.SplitWork.split g.W.SplitWork.comes g.W.SplitWork.items d) tale start c.args.files.now.items c.open_files.new.files.items
       c.open_files.ensures.keeps.others (gives_in_window g.W.SplitWork.split g.W.SplitWork.comes g.W.SplitWork.items c.args.workers c.window_end-last.result tale d h.0 h.1 h.2 c.requires.stands.below c.requires.stands.room
@@ -75,11 +77,11 @@ returns-clause-polls g c = record {
 }
 
 pub returns-in_err-opened-clause-polls : goal.returns-in_err-opened-clause-polls
-returns-in_err-opened-clause-polls g c = record {
+returns-in_err-opened-clause-polls g c ts = record {
   grows = c.open_files.ensures.keeps.grows;
   fit = c.open_files.ensures.keeps.fit;
   late = λ h start l.
-      (let d : Drive g.row.W.Denot g.row.W-Rows.Denot g.row.F.Denot = c.args.drive.now in
+      (let d : Drive g.row.W.Denot g.row.W-Rows.Denot g.row.F.Denot = with_taken ts c.args.drive.now in
       let tale = tells (g.X.SplitOpener.state c.args.context.now) g.S.SegmentSource.state c.args.files.now.items in
       late_polled (g.X.SplitOpener.state c.args.context.now) g.W.SplitWork.items d.ordered c.args.workers d.first c.window_end-last.result (limit_in g.W.SplitWork.split g.W.SplitWork.comes g.W.SplitWork.items d) tale start c.args.files.now.items c.open_files.new.files.items
       c.open_files.ensures.keeps.others (gives_in_window g.W.SplitWork.split g.W.SplitWork.comes g.W.SplitWork.items c.args.workers c.window_end-last.result tale d h.0 h.1 h.2 c.requires.stands.below c.requires.stands.room
@@ -87,11 +89,11 @@ returns-in_err-opened-clause-polls g c = record {
 }
 
 pub returns-in_err-drive-clause-polls : goal.returns-in_err-drive-clause-polls
-returns-in_err-drive-clause-polls g c = record {
+returns-in_err-drive-clause-polls g c ts = record {
   grows = c.open_files.ensures.keeps.grows;
   fit = c.open_files.ensures.keeps.fit;
   late = λ h start l.
-      (let d : Drive g.row.W.Denot g.row.W-Rows.Denot g.row.F.Denot = c.args.drive.now in
+      (let d : Drive g.row.W.Denot g.row.W-Rows.Denot g.row.F.Denot = with_taken ts c.args.drive.now in
       let tale = tells (g.X.SplitOpener.state c.args.context.now) g.S.SegmentSource.state c.args.files.now.items in
       late_polled (g.X.SplitOpener.state c.args.context.now) g.W.SplitWork.items d.ordered c.args.workers d.first c.window_end-last.result (limit_in g.W.SplitWork.split g.W.SplitWork.comes g.W.SplitWork.items d) tale start c.args.files.now.items c.open_files.new.files.items
       c.open_files.ensures.keeps.others (gives_in_window g.W.SplitWork.split g.W.SplitWork.comes g.W.SplitWork.items c.args.workers c.window_end-last.result tale d h.0 h.1 h.2 c.requires.stands.below c.requires.stands.room

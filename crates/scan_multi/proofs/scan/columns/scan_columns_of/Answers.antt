@@ -1,155 +1,31 @@
-use denote.Param.Send.{sendable}
-use Rattle.std.proofs.Common.{List, sym, subst}
-use Rattle.std.specs.Prelude.{All}
+use Rattle.std.proofs.Common.{◌++◌, ◌∙◌, List, ap}
 use Rattle.std.proofs.lemmas.Result.{err_from_is_err_and}
-use Rattle.scan_file.proofs.FilesSent.{FileRows-send, FileSplit-send}
-use Rattle.scan_multi.specs.Output.{ChunkData, OutputData}
-use Rattle.scan_multi.specs.Placed.{IsEven}
-use Rattle.scan_multi.specs.Scans.{IsScan, IsRefusedFor}
-use Rattle.scan_multi.specs.declared.scan.fault.ScanFault.{ScanFault}
-use Rattle.scan_multi.proofs.Laws.{means_of}
-use Rattle.scan_multi.proofs.Meaning.{Means}
-use Rattle.scan_multi.proofs.Requesting.{some_workers}
-use Rattle.scan_multi.proofs.Resting.{moves_still, scan_of_none, refused_request}
-use Rattle.scan_multi.proofs.Scanning.{scan_moved, refused_memory, refused_drive, scan_given}
+use Rattle.scan_multi.specs.Output.{ChunkData}
+use Rattle.scan_multi.proofs.Resting.{kept_all}
 use Rattle.scan_multi.proofs.scan.columns.scan_columns_of.Goals as goal
 
--- ---- a request with a fault
-pub returns-in_err-ask-clause-ok : goal.returns-in_err-ask-clause-ok
-returns-in_err-ask-clause-ok g c = let p = err_from_is_err_and c.from_residual.result c.from_residual.ensures.1 in rw (p.1) tt
+pub scan_into-requires-after_bounds : goal.scan_into-requires-after_bounds
+scan_into-requires-after_bounds g c κs within = c.requires
 
-pub returns-in_err-ask-clause-err : goal.returns-in_err-ask-clause-err
-returns-in_err-ask-clause-err g c =
-    let p = err_from_is_err_and c.from_residual.result c.from_residual.ensures.1 in
-    rw (p.1, p.2)
-    (refused_request g.O.LayoutReaderFactory.opener g.S.SegmentSource.state c.args.files.now.items (g.C.KeyedSegmentCache.cache c.args.cache.now) c.args.workers c.args.dtype.now c.args.request.now _ c.in_err-ask.ensures.err)
+pub returns-in_err-end-clause-ok : goal.returns-in_err-end-clause-ok
+returns-in_err-end-clause-ok g c = let p = err_from_is_err_and c.from_residual.result c.from_residual.ensures.1 in rw (p.1) tt
 
-pub returns-in_err-ask-clause-moves : goal.returns-in_err-ask-clause-moves
-returns-in_err-ask-clause-moves g c =
-    moves_still g.O.LayoutReaderFactory.opener g.S.SegmentSource.state c.args.files.now.items (g.C.KeyedSegmentCache.cache c.args.cache.now) c.args.workers c.args.dtype.now c.args.request.now c.requires
+pub returns-in_err-end-clause-err : goal.returns-in_err-end-clause-err
+returns-in_err-end-clause-err g c = let p = err_from_is_err_and c.from_residual.result c.from_residual.ensures.1 in rw (p.1, p.2) c.in_err-end.ensures.err
 
--- ---- a limit of no rows
-pub returns-then-not-has_room-clause-ok : goal.returns-then-not-has_room-clause-ok
-returns-then-not-has_room-clause-ok g c =
-    let opener = g.O.LayoutReaderFactory.opener in
-    let source = g.S.SegmentSource.state in
-    let files = c.args.files.now.items in
-    let cache = g.C.KeyedSegmentCache.cache c.args.cache.now in
-    let zero-rows = c.has_room.ensures.none c.if-not-has_room.true in
-    subst (λ (o : OutputData). IsScan opener source c.args.workers c.args.dtype.now c.args.request.now files files cache cache o) (sym c.empty.ensures)
-    (scan_of_none opener source files cache c.args.workers c.args.dtype.now c.args.request.now c.in_ok-ask.ensures.ok.no_fault zero-rows)
+pub returns-in_err-end-clause-moves : goal.returns-in_err-end-clause-moves
+returns-in_err-end-clause-moves g c = c.scan_into.ensures.moves
 
-pub returns-then-not-has_room-clause-moves : goal.returns-then-not-has_room-clause-moves
-returns-then-not-has_room-clause-moves g c =
-    moves_still g.O.LayoutReaderFactory.opener g.S.SegmentSource.state c.args.files.now.items (g.C.KeyedSegmentCache.cache c.args.cache.now) c.args.workers c.args.dtype.now c.args.request.now c.requires
-
--- ---- the drive
-pub drive_files-requires-send-W : goal.drive_files-requires-send-W
-drive_files-requires-send-W g c κs = let a = FileSplit-send in search sendable depth 20
-
-pub drive_files-requires-send-W-Rows : goal.drive_files-requires-send-W-Rows
-drive_files-requires-send-W-Rows g c κs = let a = FileRows-send in search sendable depth 20
-
-pub drive_files-requires-clause-workers : goal.drive_files-requires-clause-workers
-drive_files-requires-clause-workers g c κs lives = some_workers c.args.workers c.args.dtype.now c.args.request.now c.in_ok-ask.ensures.ok.no_fault
-
-pub drive_files-requires-clause-idle : goal.drive_files-requires-clause-idle
-drive_files-requires-clause-idle g c κs lives = c.requires
-
-pub drive_files-requires-clause-limit : goal.drive_files-requires-clause-limit
-drive_files-requires-clause-limit g c κs lives = c.has_room.ensures.some c.if-not-has_room.false
-
--- ---- want of memory for the chunks
-pub returns-in_err-chunks_of-in-Ok-clause-ok : goal.returns-in_err-chunks_of-in-Ok-clause-ok
-returns-in_err-chunks_of-in-Ok-clause-ok g c =
-    let p = err_from_is_err_and c.from_residual-in_err-chunks_of-in-Ok.result c.from_residual-in_err-chunks_of-in-Ok.ensures.1 in
-    rw (p.1) tt
-
-pub returns-in_err-chunks_of-in-Ok-clause-err : goal.returns-in_err-chunks_of-in-Ok-clause-err
-returns-in_err-chunks_of-in-Ok-clause-err g c =
-    let d = c.args.dtype.now in
-    let q = c.args.request.now in
-    let a = c.in_ok-ask.ask in
-    let asked = c.in_ok-ask.ensures.ok in
-    let did = c.drive_files.ensures.keeps in
-    let means : Means d q a = means_of d q a asked.asks in
-    let p = err_from_is_err_and c.from_residual-in_err-chunks_of-in-Ok.result c.from_residual-in_err-chunks_of-in-Ok.ensures.1 in
-    rw (p.1, p.2)
-    (refused_memory g.O.LayoutReaderFactory.opener g.S.SegmentSource.state c.args.workers d q a asked.asks means
-    (g.C.KeyedSegmentCache.cache c.args.cache.now) (g.C.KeyedSegmentCache.cache c.drive_files.new.cache) c.args.files.now.items c.drive_files.new.files.items
-    asked.no_fault)
-
-pub returns-in_err-chunks_of-in-Ok-clause-moves : goal.returns-in_err-chunks_of-in-Ok-clause-moves
-returns-in_err-chunks_of-in-Ok-clause-moves g c =
-    let d = c.args.dtype.now in
-    let q = c.args.request.now in
-    let a = c.in_ok-ask.ask in
-    let asked = c.in_ok-ask.ensures.ok in
-    let did = c.drive_files.ensures.keeps in
-    let means : Means d q a = means_of d q a asked.asks in
-    scan_moved g.O.LayoutReaderFactory.opener g.S.SegmentSource.state c.args.workers d q a asked.asks means
-    (g.C.KeyedSegmentCache.cache c.args.cache.now) (g.C.KeyedSegmentCache.cache c.drive_files.new.cache) c.args.files.now.items c.drive_files.new.files.items
-    asked.no_fault did.moves did.polled did.trades did.cache did.lookups c.requires did.idle
-
--- ---- all chunks
-pub returns-in-Ok-clause-ok : goal.returns-in-Ok-clause-ok
-returns-in-Ok-clause-ok g c =
-    let d = c.args.dtype.now in
-    let q = c.args.request.now in
-    let a = c.in_ok-ask.ask in
-    let asked = c.in_ok-ask.ensures.ok in
-    let did = c.drive_files.ensures.keeps in
-    let means : Means d q a = means_of d q a asked.asks in
-    let had = c.in-Ok.ensures.gives in
-    let made = c.in_ok-chunks_of-in-Ok.ensures in
+pub returns-clause-ok : goal.returns-clause-ok
+returns-clause-ok g c =
     let opener = g.O.LayoutReaderFactory.opener in
     let source = g.S.SegmentSource.state in
     let old = c.args.files.now.items in
-    let new = c.drive_files.new.files.items in
+    let new = c.scan_into.new.files.items in
     let before = g.C.KeyedSegmentCache.cache c.args.cache.now in
-    let after = g.C.KeyedSegmentCache.cache c.drive_files.new.cache in
-    subst (λ (cs : List ChunkData). IsScan opener source c.args.workers d q old new before after (record { chunks = cs; report = c.in-Ok.output.report })) (sym made.are)
-    (scan_given opener source c.args.workers d q a asked.asks means before after old new asked.no_fault
-    c.in-Ok.output.chunks.items had.answer c.in-Ok.output.report had.some (subst (All IsEven) made.are made.even) had.opened had.puts had.report)
-
-pub returns-in-Ok-clause-moves : goal.returns-in-Ok-clause-moves
-returns-in-Ok-clause-moves g c =
-    let d = c.args.dtype.now in
-    let q = c.args.request.now in
-    let a = c.in_ok-ask.ask in
-    let asked = c.in_ok-ask.ensures.ok in
-    let did = c.drive_files.ensures.keeps in
-    let means : Means d q a = means_of d q a asked.asks in
-    scan_moved g.O.LayoutReaderFactory.opener g.S.SegmentSource.state c.args.workers d q a asked.asks means
-    (g.C.KeyedSegmentCache.cache c.args.cache.now) (g.C.KeyedSegmentCache.cache c.drive_files.new.cache) c.args.files.now.items c.drive_files.new.files.items
-    asked.no_fault did.moves did.polled did.trades did.cache did.lookups c.requires did.idle
-
--- ---- a fault of the drive
-pub returns-clause-err : goal.returns-clause-err
-returns-clause-err g c =
-    let d = c.args.dtype.now in
-    let q = c.args.request.now in
-    let a = c.in_ok-ask.ask in
-    let asked = c.in_ok-ask.ensures.ok in
-    let did = c.drive_files.ensures.keeps in
-    let means : Means d q a = means_of d q a asked.asks in
-    let opener = g.O.LayoutReaderFactory.opener in
-    let source = g.S.SegmentSource.state in
-    let old = c.args.files.now.items in
-    let new = c.drive_files.new.files.items in
-    let before = g.C.KeyedSegmentCache.cache c.args.cache.now in
-    let after = g.C.KeyedSegmentCache.cache c.drive_files.new.cache in
-    subst (λ (e : ScanFault). IsRefusedFor opener source c.args.workers d q old new before after e) (sym c.placed.ensures)
-    (refused_drive opener source c.args.workers d q a asked.asks means before after old new asked.no_fault c.in-Err.fault c.in-Err.ensures.fault)
+    let after = g.C.KeyedSegmentCache.cache c.scan_into.new.cache in
+    kept_all opener source _ c.args.workers c.args.dtype.now c.args.request.now old new before after c.new-kept.result c.scan_into.new.sink c.scan_into.new.sink.chunks.items c.in_ok-end.end c.in_ok-end.ensures.ok
+    (λ (xs : List ChunkData) took. took ∙ ap (λ (ys : List ChunkData). ys ++ xs) c.new-kept.ensures)
 
 pub returns-clause-moves : goal.returns-clause-moves
-returns-clause-moves g c =
-    let d = c.args.dtype.now in
-    let q = c.args.request.now in
-    let a = c.in_ok-ask.ask in
-    let asked = c.in_ok-ask.ensures.ok in
-    let did = c.drive_files.ensures.keeps in
-    let means : Means d q a = means_of d q a asked.asks in
-    scan_moved g.O.LayoutReaderFactory.opener g.S.SegmentSource.state c.args.workers d q a asked.asks means
-    (g.C.KeyedSegmentCache.cache c.args.cache.now) (g.C.KeyedSegmentCache.cache c.drive_files.new.cache) c.args.files.now.items c.drive_files.new.files.items
-    asked.no_fault did.moves did.polled did.trades did.cache did.lookups c.requires did.idle
+returns-clause-moves g c = c.scan_into.ensures.moves
