@@ -1,5 +1,6 @@
 #!/usr/bin/env python3
-"""Instructions and memory of a stream of a struct's rows, by its rows and by the segments in which they lie.
+"""Instructions and memory of a stream of a struct's rows, to columns and to arrays of values, by its rows and by the
+segments in which they lie.
 
 Builds bench/streams/main.rt.txt as a program in a copy of the repository (`rt run`, which proves it first), counts it
 by callgrind and takes its greatest memory by GNU time. What a stream takes is what a run takes beyond `setup`, which
@@ -16,7 +17,7 @@ TOP = HERE.parent.parent
 COLUMNS = 3
 # the segments of a column, and the rows of a segment
 SIZES = [(100, 1000), (1000, 1000), (1000, 100)]
-USES = "scan_values scan_expr scan_partition scan_segments scan_layout scan_readers scan_streams scan_core"
+USES = "scan_values scan_expr scan_partition scan_segments scan_layout scan_columns scan_readers scan_streams scan_core"
 
 
 def build(folder):
@@ -30,8 +31,9 @@ def build(folder):
     crate = folder / "crates" / "bench_streams"
     (crate / "src").mkdir(parents=True)
     shutil.copy(HERE / "main.rt.txt", crate / "src" / "main.rt")
-    (crate / "proofs" / "given").mkdir(parents=True)
-    shutil.copy(HERE / "given.antt.txt", crate / "proofs" / "given" / "Invariants.antt")
+    for name in ["given", "given_columns"]:
+        (crate / "proofs" / name).mkdir(parents=True)
+        shutil.copy(HERE / f"{name}.antt.txt", crate / "proofs" / name / "Invariants.antt")
     with open(folder / "crates.txt", "a", encoding="utf-8") as lines:
         lines.write(f"bench_streams: {USES}\n")
     subprocess.run(["rt", "run", "--", "setup", "1", "1"], cwd=crate, check=True)
@@ -63,16 +65,18 @@ def main():
     with tempfile.TemporaryDirectory() as made:
         folder = Path(made)
         program = build(folder)
-        first = None
+        first = {}
         for segments, rows in SIZES:
-            kinds = [[kind, str(segments), str(rows)] for kind in ["stream", "setup"]]
-            taken, before = [count(program, folder, words) for words in kinds]
-            most, held = [memory(program, words) for words in kinds]
-            taken -= before
-            first = first or taken
-            print(f"{segments * rows:,} rows in {COLUMNS * segments:,} segments of {rows:,}: {taken:,} instructions, "
-                  f"{taken / segments / rows:,.0f} a row, {taken / segments / COLUMNS:,.0f} a segment, "
-                  f"{taken / first:.2f} times the first; {most - held:,} KiB beyond the {held:,} of setup")
+            size = [str(segments), str(rows)]
+            before, held = count(program, folder, ["setup", *size]), memory(program, ["setup", *size])
+            for kind, given in [("columns", "columns"), ("stream", "arrays")]:
+                taken = count(program, folder, [kind, *size]) - before
+                most = memory(program, [kind, *size])
+                first.setdefault(kind, taken)
+                print(f"{segments * rows:,} rows in {COLUMNS * segments:,} segments of {rows:,}, to {given}: "
+                      f"{taken:,} instructions, {taken / segments / rows:,.0f} a row, "
+                      f"{taken / segments / COLUMNS:,.0f} a segment, {taken / first[kind]:.2f} times the first; "
+                      f"{most - held:,} KiB beyond the {held:,} of setup", flush=True)
 
 
 if __name__ == "__main__":

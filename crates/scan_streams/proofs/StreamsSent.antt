@@ -2,10 +2,10 @@
 use denote.Param.Send.{IsSend, IsSync, sendable}
 use Rattle.std.proofs.Crossing as cross
 use Rattle.std.proofs.MapsCrossing as maps
-use Rattle.scan_values.proofs.ArraysSent.{Array-send}
 use Rattle.scan_values.proofs.DTypeSent.{DType-send}
 use Rattle.scan_values.specs.contracts.selection.Selection as Selection
 use Rattle.scan_segments.proofs.BytesSent.{ByteBuffer-send}
+use Rattle.scan_columns.proofs.ColumnsSent.{Column-send}
 use Rattle.scan_plans.specs.contracts.plan.Plan as Plan
 use Rattle.scan_plans.proofs.PlansSent.{Plan-send, Plan-sync, ArrayFuture-send}
 use Rattle.scan_splits.specs.contracts.inbox.Inbox as Inbox
@@ -34,7 +34,7 @@ run_send : IsSend Run.the_row
 run_send = let a = ArrayFuture-send in let b = inbox_send in let d = wanted_send in search (sendable, cross.crosses) depth 40
 
 slot_send : IsSend Slot.the_row
-slot_send = let a = run_send in let b = Array-send in search sendable depth 40
+slot_send = let a = run_send in let b = Column-send in search sendable depth 40
 
 places_send : IsSend Places.the_row
 places_send = search (sendable, cross.crosses) depth 40

@@ -145,7 +145,11 @@ Answers answers s t old new (poll.Fault (fault.Corrupt id)) = HaltsAll s t old.f
 Answers answers s t old new (poll.Fault fault.Overflow) = HaltsAll s t old.feed new.feed halt.Overflow
 Answers answers s t old new (poll.Fault fault.NoMemory) = HaltsAll s t old.feed new.feed halt.NoMemory
 
--- what is given of an array that was mapped: a fault of the map ends the stream
+-- what a step answers that changes nothing
+abbrev pub gives_itself : {M F : Type 0} → M → ArrayData → Result ArrayData F → Type 0
+gives_itself _ a r = r ≡ Ok a
+
+-- what is given of an array that was mapped: a fault of the map ends the stream, and so does want of memory
 abbrev pub Maps : {A F : Type 0} → (Result A F → Type 0) → FeedData → FeedData → StreamPoll A F → Type 0
 Maps answered old new poll.Pending = ⊥
 Maps answered old new (poll.Item x) = (new ≡ old) × answered (Ok x)
@@ -155,7 +159,7 @@ Maps answered old new (poll.Fault (fault.Setup f)) = ⊥
 Maps answered old new (poll.Fault (fault.Source id)) = ⊥
 Maps answered old new (poll.Fault (fault.Corrupt id)) = ⊥
 Maps answered old new (poll.Fault fault.Overflow) = ⊥
-Maps answered old new (poll.Fault fault.NoMemory) = ⊥
+Maps answered old new (poll.Fault fault.NoMemory) = new ≡ ended_feed old
 
 -- the fault of a stream whose splits are not read any further
 abbrev pub halt_fault : {F : Type 0} → Halt → StreamFault F

@@ -12,8 +12,9 @@ use crate::claims::Claims;
 use crate::fault::Halt;
 use crate::queue::SplitQueue;
 use crate::reading::{Next, Reading};
+use scan_columns::Column;
 use scan_segments::SegmentSource;
-use scan_values::{Array, DType, NoMemory};
+use scan_values::{DType, NoMemory};
 use std::alloc::Global;
 use std::marker::Model;
 
@@ -45,7 +46,7 @@ pub(crate) enum FeedPoll {
     /// The source put off an answer.
     Pending,
     /// The rows of a split that are granted, at least one.
-    Array(Array),
+    Array(Column),
     End,
     Halt(Halt),
 }
@@ -137,7 +138,7 @@ impl Feed {
     }
 
     /// As many rows of an array that was read as are granted.
-    fn give<S: SegmentSource>(&mut self, alloc: Global, source: &mut S, array: Array) -> FeedPoll
+    fn give<S: SegmentSource>(&mut self, alloc: Global, source: &mut S, array: Column) -> FeedPoll
         requires live { LiveAs (S.state source.old).live self.old.live }
         requires going { self.old.ended ≡ false }
         requires dtype { array.dtype ≡ self.old.dtype }
@@ -186,7 +187,7 @@ fn claim(claims: &mut Option<Claims>, rows: usize) -> usize
 }
 
 /// The first rows of an array.
-fn trim(alloc: Global, array: Array, rows: usize) -> Result<Array, NoMemory>
+fn trim(alloc: Global, array: Column, rows: usize) -> Result<Column, NoMemory>
     ensures { IfOk result (λ a. a ≡ first_rows rows array) }
 {
     if rows >= array.len() {

@@ -17,8 +17,9 @@ use crate::look::{fetch, look};
 use crate::queue::SplitQueue;
 use crate::slot::Slot;
 use crate::start::{start_all, take};
+use scan_columns::Column;
 use scan_segments::SegmentSource;
-use scan_values::{Array, NoMemory};
+use scan_values::NoMemory;
 use std::alloc::Global;
 use std::collections::VecDeque;
 
@@ -44,7 +45,7 @@ pub enum Next {
     /// The source put off an answer.
     Pending,
     /// The array of a split. It has rows.
-    Array(Array),
+    Array(Column),
     /// Nothing is left.
     End,
 }
@@ -53,7 +54,7 @@ pub enum Next {
 #[derive(Drop)]
 pub(crate) enum Step {
     More,
-    Array(Array),
+    Array(Column),
     Pending,
     End,
 }

@@ -5,17 +5,18 @@ ghost use Rattle.scan_plans.specs.Came.{came};
 ghost use Rattle.scan_plans.specs.Futures.{SameFuture};
 ghost use Rattle.scan_streams.specs.Runs.{RunData, new_run, with_arrival, run_waits, is_ready, PollsRun};
 
+use scan_columns::Column;
 use scan_plans::ArrayFuture;
 use scan_segments::SegmentId;
 use scan_splits::{Arrival, Inbox, Poll, WantedIds};
-use scan_values::{Array, NoMemory};
+use scan_values::NoMemory;
 use std::alloc::Global;
 use std::marker::Model;
 
 /// The answer of a poll of a run.
 #[derive(Drop)]
 pub enum RunPoll {
-    Ready(Array),
+    Ready(Column),
     /// It waits for segments.
     Waits,
     /// A segment is missing or no good.
@@ -92,7 +93,7 @@ impl Run {
         ensures same { SameFuture (came self.old.inbox) self.new.future self.old.future }
         ensures inbox { self.new.inbox ≡ self.old.inbox }
     {
-        match self.future.poll(alloc, &self.inbox) {
+        match self.future.poll_column(alloc, &self.inbox) {
             Poll::Ready(array) => RunPoll::Ready(array),
             Poll::Pending(ids) => {
                 self.left = ids.as_slice().len();

@@ -7,16 +7,17 @@ ghost use Rattle.scan_streams.specs.Slots.{slot_at, slot_waits, is_fresh, is_don
 ghost use Rattle.scan_streams.specs.declared.slot.Slot.TheVariants as slot;
 
 use crate::run::Run;
+use scan_columns::Column;
 use scan_segments::SegmentId;
 use scan_splits::Arrival;
-use scan_values::{Array, NoMemory};
+use scan_values::NoMemory;
 use std::collections::VecDeque;
 
-/// A place for a split in progress: none, one that is being read, or the array of one that is read.
+/// A place for a split in progress: none, one that is being read, or the array of one that is read, kept as a column.
 pub enum Slot {
     Empty,
     Run(Run),
-    Done(Array),
+    Done(Column),
 }
 
 impl Drop for Slot {
@@ -31,7 +32,7 @@ impl Drop for Slot {
 
 impl Slot {
     /// The array of a split that is read.
-    pub(crate) fn into_array(self) -> Option<Array>
+    pub(crate) fn into_array(self) -> Option<Column>
         ensures { MatchOption result (is_done self ≡ false) (λ a. self ≡ slot.Done a) }
     {
         match self {

@@ -6,7 +6,8 @@ ghost use Rattle.scan_streams.specs.Slots.{is_done, slot_at};
 use crate::queue::SplitQueue;
 use crate::run::Run;
 use crate::slot::Slot;
-use scan_values::{Array, NoMemory};
+use scan_columns::Column;
+use scan_values::NoMemory;
 use std::alloc::Global;
 use std::collections::VecDeque;
 
@@ -54,7 +55,7 @@ pub(crate) fn take(
     queue: &mut SplitQueue,
     news: &mut VecDeque<usize>,
     place: usize,
-) -> Result<Option<Array>, NoMemory>
+) -> Result<Option<Column>, NoMemory>
     ensures { IfOk result (λ o. Takes place slots.old.items slots.new.items queue.old queue.new
         news.old.items news.new.items o) }
 {

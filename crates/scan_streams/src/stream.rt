@@ -5,15 +5,16 @@ ghost use Rattle.scan_streams.specs.Feeds.{new_feed};
 ghost use Rattle.scan_streams.specs.Grants.{HasRoom};
 ghost use Rattle.scan_streams.specs.Sources.{SourceMoves, NoId};
 ghost use Rattle.scan_streams.specs.Splits.{AllOf, new_split, reach};
-ghost use Rattle.scan_streams.specs.Streams.{stream_data, LiveAs, MayFeed, SameStream, Answers, Maps, halt_fault};
+ghost use Rattle.scan_streams.specs.Streams.{stream_data, LiveAs, MayFeed, SameStream, Answers, Maps, gives_itself, halt_fault};
 
 use crate::claims::Claims;
 use crate::fault::{Halt, StreamFault, StreamPoll};
 use crate::feed::{Feed, FeedPoll};
-use crate::map_step::MapStep;
+use crate::map_step::{Identity, MapStep};
 use crate::queue::SplitQueue;
+use scan_columns::Column;
 use scan_segments::SegmentSource;
-use scan_values::{Array, DType, NoMemory};
+use scan_values::{DType, NoMemory};
 use std::alloc::Global;
 use std::marker::Model;
 use std::sync::Arc;
@@ -82,7 +83,7 @@ impl<M: MapStep + Drop> ScanStream<M> {
     {
         match self.feed.next(alloc, source) {
             FeedPoll::Pending => StreamPoll::Pending,
-            FeedPoll::Array(rows) => self.map(source, rows),
+            FeedPoll::Array(rows) => self.map(alloc, source, rows),
             FeedPoll::End => StreamPoll::End,
             FeedPoll::Halt(halt) => StreamPoll::Fault(fault_of(halt)),
         }
@@ -98,8 +99,13 @@ impl<M: MapStep + Drop> ScanStream<M> {
         stream.feed.end(source);
     }
 
-    /// What the map makes of an array. A fault of the map ends the stream.
-    fn map<S: SegmentSource>(&mut self, source: &mut S, rows: Array) -> StreamPoll<M::Out, M::Fault>
+    /// What the map makes of an array. A fault of the map ends the stream, and so does want of memory for the array.
+    fn map<S: SegmentSource>(
+        &mut self,
+        alloc: Global,
+        source: &mut S,
+        rows: Column,
+    ) -> StreamPoll<M::Out, M::Fault>
         requires step { M.can_apply self.old.step }
         requires live { LiveAs (S.state source.old).live (self.old.feed).live }
         ensures live { LiveAs (S.state source.new).live (self.new.feed).live }
@@ -107,12 +113,41 @@ impl<M: MapStep + Drop> ScanStream<M> {
         ensures step { self.new.step ≡ self.old.step }
         ensures answer { Maps (M.answers self.old.step rows) self.old.feed self.new.feed result }
     {
-        match self.step.apply_step(rows) {
+        let Ok(array) = rows.to_array(alloc) else {
+            self.feed.end(source);
+            return StreamPoll::Fault(StreamFault::NoMemory);
+        };
+        match self.step.apply_step(array) {
             Ok(made) => StreamPoll::Item(made),
             Err(fault) => {
                 self.feed.end(source);
                 StreamPoll::Fault(StreamFault::Map(fault))
             }
+        }
+    }
+}
+
+impl<E: Drop> ScanStream<Identity<E>> {
+    /// The next array as a column, once that is there: what `poll_next` gives, but no value is made for it. A fault is given
+    /// by the poll that meets it. Before a fault and before the end it drops what is live, and from then on each poll gives
+    /// the end.
+    pub fn poll_column<S: SegmentSource>(
+        &mut self,
+        alloc: Global,
+        source: &mut S,
+    ) -> StreamPoll<Column, E>
+        requires live { LiveAs (S.state source.old).live (self.old.feed).live }
+        ensures live { LiveAs (S.state source.new).live (self.new.feed).live }
+        ensures source { SourceMoves (MayFeed (S.state source.old).holds self.old.feed)
+            (S.state source.old) (S.state source.new) }
+        ensures same { SameStream self.old self.new }
+        ensures answer { Answers gives_itself (S.state source.old) (S.state source.new) self.old self.new result }
+    {
+        match self.feed.next(alloc, source) {
+            FeedPoll::Pending => StreamPoll::Pending,
+            FeedPoll::Array(rows) => StreamPoll::Item(rows),
+            FeedPoll::End => StreamPoll::End,
+            FeedPoll::Halt(halt) => StreamPoll::Fault(fault_of(halt)),
         }
     }
 }

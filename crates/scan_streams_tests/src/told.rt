@@ -4,8 +4,9 @@ ghost use Rattle.scan_segments.specs.MemorySource.{source_state};
 ghost use Rattle.scan_streams.specs.Streams.{LiveAs};
 
 use crate::maps::UnlessOf;
+use scan_columns::Column;
 use scan_segments::MemorySource;
-use scan_streams::{ScanStream, StreamFault, StreamPoll};
+use scan_streams::{Identity, ScanStream, StreamFault, StreamPoll};
 use scan_values::{Array, Value};
 use std::alloc::Global;
 use std::test::Fail;
@@ -73,6 +74,37 @@ pub(crate) fn told(
     let mut text = String::new(alloc);
     for _ in 0..count {
         let poll = stream.poll_next(alloc, source);
+        push_poll(alloc, &poll, &mut text)?;
+    }
+    Ok(text)
+}
+
+/// The answer of a poll for a column, with the array of the column's values.
+fn with_values(
+    alloc: Global,
+    poll: StreamPoll<Column, usize>,
+) -> Result<StreamPoll<Array, usize>, Fail> {
+    match poll {
+        StreamPoll::Pending => Ok(StreamPoll::Pending),
+        StreamPoll::Item(column) => Ok(StreamPoll::Item(column.to_array(alloc)?)),
+        StreamPoll::End => Ok(StreamPoll::End),
+        StreamPoll::Fault(fault) => Ok(StreamPoll::Fault(fault)),
+    }
+}
+
+/// What so many polls for columns give.
+pub(crate) fn told_columns(
+    alloc: Global,
+    stream: &mut ScanStream<Identity<usize>>,
+    source: &mut MemorySource,
+    count: usize,
+) -> Result<String, Fail>
+    requires { LiveAs (source_state source.old).live (stream.old.feed).live }
+    ensures { LiveAs (source_state source.new).live (stream.new.feed).live }
+{
+    let mut text = String::new(alloc);
+    for _ in 0..count {
+        let poll = with_values(alloc, stream.poll_column(alloc, source))?;
         push_poll(alloc, &poll, &mut text)?;
     }
     Ok(text)

@@ -60,3 +60,66 @@ steps-preserved g c =
     let empty : c.is_empty.result ≡ true = search rules in
     step_continues c.args.self.now c.steps.self (state c.args.source.now) (state c.steps.source) c.steps.invariant c.in-Ok.step (step.Array c.in-Array.array) c.advance.new.self (state c.advance.new.source)
     c.in-Array.is (no_rows c.in-Array.array.items (sym c.is_empty.ensures ∙ empty)) c.in-Ok.ensures.advances c.advance.ensures.agree c.advance.ensures.ordered c.advance.ensures.source
+
+pub steps-preserved-else-not-is_empty : goal.steps-preserved-else-not-is_empty
+steps-preserved-else-not-is_empty g c =
+    let state = g.S.SegmentSource.state in
+    let empty : c.is_empty.result ≡ true = search rules in
+    step_continues c.args.self.now c.steps.self (state c.args.source.now) (state c.steps.source) c.steps.invariant c.in-Ok.step (step.Array c.in-Array.array) c.advance.new.self (state c.advance.new.source)
+    c.in-Array.is (no_rows c.in-Array.array.items (sym c.is_empty.ensures ∙ empty)) c.in-Ok.ensures.advances c.advance.ensures.agree c.advance.ensures.ordered c.advance.ensures.source
+
+pub steps-preserved-else-not-is_empty-2 : goal.steps-preserved-else-not-is_empty-2
+steps-preserved-else-not-is_empty-2 g c =
+    let state = g.S.SegmentSource.state in
+    let empty : c.is_empty.result ≡ true = search rules in
+    step_continues c.args.self.now c.steps.self (state c.args.source.now) (state c.steps.source) c.steps.invariant c.in-Ok.step (step.Array c.in-Array.array) c.advance.new.self (state c.advance.new.source)
+    c.in-Array.is (no_rows c.in-Array.array.items (sym c.is_empty.ensures ∙ empty)) c.in-Ok.ensures.advances c.advance.ensures.agree c.advance.ensures.ordered c.advance.ensures.source
+
+pub steps-preserved-else-not-is_empty-3 : goal.steps-preserved-else-not-is_empty-3
+steps-preserved-else-not-is_empty-3 g c =
+    let state = g.S.SegmentSource.state in
+    let empty : c.is_empty.result ≡ true = search rules in
+    step_continues c.args.self.now c.steps.self (state c.args.source.now) (state c.steps.source) c.steps.invariant c.in-Ok.step (step.Array c.in-Array.array) c.advance.new.self (state c.advance.new.source)
+    c.in-Array.is (no_rows c.in-Array.array.items (sym c.is_empty.ensures ∙ empty)) c.in-Ok.ensures.advances c.advance.ensures.agree c.advance.ensures.ordered c.advance.ensures.source
+
+pub steps-preserved-else-not-is_empty-4 : goal.steps-preserved-else-not-is_empty-4
+steps-preserved-else-not-is_empty-4 g c =
+    let state = g.S.SegmentSource.state in
+    let empty : c.is_empty.result ≡ true = search rules in
+    step_continues c.args.self.now c.steps.self (state c.args.source.now) (state c.steps.source) c.steps.invariant c.in-Ok.step (step.Array c.in-Array.array) c.advance.new.self (state c.advance.new.source)
+    c.in-Array.is (no_rows c.in-Array.array.items (sym c.is_empty.ensures ∙ empty)) c.in-Ok.ensures.advances c.advance.ensures.agree c.advance.ensures.ordered c.advance.ensures.source
+
+pub steps-preserved-else-not-is_empty-5 : goal.steps-preserved-else-not-is_empty-5
+steps-preserved-else-not-is_empty-5 g c =
+    let state = g.S.SegmentSource.state in
+    let empty : c.is_empty.result ≡ true = search rules in
+    step_continues c.args.self.now c.steps.self (state c.args.source.now) (state c.steps.source) c.steps.invariant c.in-Ok.step (step.Array c.in-Array.array) c.advance.new.self (state c.advance.new.source)
+    c.in-Array.is (no_rows c.in-Array.array.items (sym c.is_empty.ensures ∙ empty)) c.in-Ok.ensures.advances c.advance.ensures.agree c.advance.ensures.ordered c.advance.ensures.source
+
+pub steps-preserved-else-not-is_empty-6 : goal.steps-preserved-else-not-is_empty-6
+steps-preserved-else-not-is_empty-6 g c =
+    let state = g.S.SegmentSource.state in
+    let empty : c.is_empty.result ≡ true = search rules in
+    step_continues c.args.self.now c.steps.self (state c.args.source.now) (state c.steps.source) c.steps.invariant c.in-Ok.step (step.Array c.in-Array.array) c.advance.new.self (state c.advance.new.source)
+    c.in-Array.is (no_rows c.in-Array.array.items (sym c.is_empty.ensures ∙ empty)) c.in-Ok.ensures.advances c.advance.ensures.agree c.advance.ensures.ordered c.advance.ensures.source
+
+pub steps-preserved-else-not-is_empty-7 : goal.steps-preserved-else-not-is_empty-7
+steps-preserved-else-not-is_empty-7 g c =
+    let state = g.S.SegmentSource.state in
+    let empty : c.is_empty.result ≡ true = search rules in
+    step_continues c.args.self.now c.steps.self (state c.args.source.now) (state c.steps.source) c.steps.invariant c.in-Ok.step (step.Array c.in-Array.array) c.advance.new.self (state c.advance.new.source)
+    c.in-Array.is (no_rows c.in-Array.array.items (sym c.is_empty.ensures ∙ empty)) c.in-Ok.ensures.advances c.advance.ensures.agree c.advance.ensures.ordered c.advance.ensures.source
+
+pub steps-preserved-else-not-is_empty-8 : goal.steps-preserved-else-not-is_empty-8
+steps-preserved-else-not-is_empty-8 g c =
+    let state = g.S.SegmentSource.state in
+    let empty : c.is_empty.result ≡ true = search rules in
+    step_continues c.args.self.now c.steps.self (state c.args.source.now) (state c.steps.source) c.steps.invariant c.in-Ok.step (step.Array c.in-Array.array) c.advance.new.self (state c.advance.new.source)
+    c.in-Array.is (no_rows c.in-Array.array.items (sym c.is_empty.ensures ∙ empty)) c.in-Ok.ensures.advances c.advance.ensures.agree c.advance.ensures.ordered c.advance.ensures.source
+
+pub steps-preserved-else-not-is_empty-9 : goal.steps-preserved-else-not-is_empty-9
+steps-preserved-else-not-is_empty-9 g c =
+    let state = g.S.SegmentSource.state in
+    let empty : c.is_empty.result ≡ true = search rules in
+    step_continues c.args.self.now c.steps.self (state c.args.source.now) (state c.steps.source) c.steps.invariant c.in-Ok.step (step.Array c.in-Array.array) c.advance.new.self (state c.advance.new.source)
+    c.in-Array.is (no_rows c.in-Array.array.items (sym c.is_empty.ensures ∙ empty)) c.in-Ok.ensures.advances c.advance.ensures.agree c.advance.ensures.ordered c.advance.ensures.source
