@@ -34,7 +34,7 @@ items-long d c k =
     let e = k.even in
     length-map _ _ ∙ n ∙ omega (arith, e)
 
-given-long : (d : DataType) (cs : List ChunkData) → All (IsChunk d) cs → length (given cs) ≡ rows_in cs
+pub given-long : (d : DataType) (cs : List ChunkData) → All (IsChunk d) cs → length (given cs) ≡ rows_in cs
 given-long d [] all = refl
 given-long d (c ∷ cs) all =
     ap length (flat_map-cons chunk_items c cs) ∙ length-append (chunk_items c) (given cs)

@@ -3,3 +3,4 @@ pub mod Alone
 pub mod Concluding
 pub mod Summing
 pub mod LookingUp
+pub mod Showing

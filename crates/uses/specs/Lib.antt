@@ -1,4 +1,5 @@
 pub mod Lookup
 pub mod Own
+pub mod Shows
 pub mod Sums
 pub mod Uses

@@ -36,6 +36,10 @@ first_of e most = record {
   limit = Some most;
 }
 
+-- a request for all rows, in order
+abbrev pub all_of : Expr → ScanRequest
+all_of e = record (first_of e 0) { limit = None }
+
 -- the lines of an output that the manifest with these bytes admits
 pub record AreLinesOf (bytes lines : List ℕ) : Type 0 where
   pub manifest : Manifest
