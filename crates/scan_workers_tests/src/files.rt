@@ -34,7 +34,7 @@ pub(crate) const IN_ANY: Asked = Asked {
     limit: None,
 };
 
-fn number() -> DType {
+pub(crate) fn number() -> DType {
     DType::primitive(PType::U8, Nullability::NonNullable)
 }
 
@@ -44,7 +44,7 @@ fn is_from(alloc: Global, least: u8) -> Result<Expression, Fail> {
     Ok(Expression::gt_eq(alloc, Expression::root(), least)?)
 }
 
-fn request(alloc: Global, asked: Asked) -> Result<ScanRequest, Fail> {
+pub(crate) fn request(alloc: Global, asked: Asked) -> Result<ScanRequest, Fail> {
     let mut request = ScanRequest::new(Expression::root());
     request.ordered = asked.ordered;
     request.limit = asked.limit;
@@ -131,7 +131,7 @@ fn two_files(alloc: Global) -> Result<Vec<ScanFile<MemoryOpener, MemorySource>>,
 }
 
 /// A file of three rows. The polls of its source of these numbers fail, or are put off.
-fn one_file(
+pub(crate) fn one_file(
     alloc: Global,
     failing: &[u64],
     pending: &[u64],
@@ -185,7 +185,7 @@ pub(crate) fn of_three<R: Threads + Sync>(
 
 /// So many files of three rows. The polls of each one's source below a number are put off, and the first one's number is
 /// another.
-fn waiting_files(
+pub(crate) fn waiting_files(
     alloc: Global,
     files: usize,
     first: u64,

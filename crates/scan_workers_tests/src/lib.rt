@@ -12,6 +12,8 @@ mod limits;
 #[cfg(test)]
 mod phases;
 #[cfg(test)]
+mod sinks;
+#[cfg(test)]
 mod turns;
 #[cfg(test)]
 mod waits;

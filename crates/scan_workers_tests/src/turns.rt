@@ -10,6 +10,18 @@ fn the_second_file_does_not_wait_for_the_first(rt: HostRuntime) -> Result<(), Fa
     Ok(())
 }
 
+/// Six files, two at a time. The first one's source puts off sixty polls, and the others' none: each of these frees its place as
+/// it is finished, so that all five give their rows before the first one does.
+#[test]
+fn a_finished_file_frees_its_place(rt: HostRuntime) -> Result<(), Fail> {
+    let files = files_as_they_come(&rt, rt.alloc(), 2, 6, 60, 0)?;
+    assert!(rt; files.len() == 18);
+    for k in 0..15 {
+        assert!(rt; files[k] != 0);
+    }
+    Ok(())
+}
+
 /// Six files are read beside the first, two at a time. Each one's source puts off twelve polls, so it takes six rounds, and all
 /// of them take eighteen, as many as are three turns of two files. The first one's three rows come in the round after twenty,
 /// or after fourteen.
