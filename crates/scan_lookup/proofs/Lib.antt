@@ -1,0 +1,11 @@
+pub mod Listing
+pub mod Distinct
+pub mod Grouping
+pub mod Gathering
+pub mod Slotting
+pub mod Named
+pub mod Telling
+pub mod Answering
+pub mod Replying
+pub mod Refusing
+pub mod Sessions

@@ -1,0 +1,9 @@
+pub mod Faults
+pub mod Replies
+pub mod Session
+pub mod Asked
+pub mod Keyed
+pub mod Grouped
+pub mod Reading
+pub mod Causes
+pub mod Lookups
