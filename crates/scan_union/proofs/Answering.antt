@@ -1,8 +1,7 @@
 -- The answer of the files under a dtype is the answer of the union.
-use Rattle.std.proofs.Common.{◌≡◌, ℕ, zero, suc, ◌<◌, ◌≤◌, ◌+◌, ◌-◌, min, List, [], ◌∷◌, ◌++◌, filter, flat_map, map, take, arith, refl, sym, subst, ap, ◌∙◌, Bool, true, false, cond, Option, Some, None}
-use Rattle.std.specs.Prelude.{option_map, ◌&&◌, if◌then◌else◌}
+use Rattle.std.proofs.Common.{◌≡◌, ℕ, zero, suc, ◌<◌, ◌≤◌, ◌+◌, ◌-◌, min, List, [], ◌∷◌, ◌++◌, filter, flat_map, map, take, arith, refl, sym, ap, ◌∙◌, Bool, true, false, Option, Some, None}
+use Rattle.std.specs.Prelude.{option_map, if◌then◌else◌}
 use Rattle.std.specs.List.{range_with_len}
-use Rattle.std.specs.Option.{is_none}
 use Rattle.std.specs.declared.ops.Range.{Range}
 use Rattle.scan_values.specs.DataType.{DataType, depth_of}
 use Rattle.scan_values.specs.Val.{Val}
@@ -10,22 +9,19 @@ use Rattle.scan_values.specs.Selections.{picked_rows, selects}
 use Rattle.scan_values.specs.declared.selection.Selection.{Selection}
 use Rattle.scan_expr.specs.declared.request.ScanRequest.{ScanRequest}
 use Rattle.scan_segments.specs.Source.{Store}
-use Rattle.scan_layout.specs.Layout.{Layout, dtype_of, rows_of}
+use Rattle.scan_layout.specs.Layout.{Layout, rows_of}
 use Rattle.scan_layout.specs.Check.{first_fault}
-use Rattle.scan_layout.specs.Form.{HasForm}
 use Rattle.scan_layout.proofs.Forms.{no_fault}
 use Rattle.scan_opener.specs.Opener.{Given, skip, layout_of}
 use Rattle.scan_multi.specs.Answer.{ToldFile, Item, item_of, row_items, part_of, answer_from, answer, is_good, is_within}
 use Rattle.scan_multi.specs.Checks.{rows_given}
-use Rattle.scan_widen.specs.FitsUnder.{fits_under}
 use Rattle.scan_widen.specs.Under.{behind, under}
 use Rattle.scan_widened.specs.Faults.{given_fault, file_fault, is_within as is_within'}
 use Rattle.scan_widened.specs.Identity.{beside}
-use Rattle.scan_widened.specs.Laws.{IsWidened}
 use Rattle.scan_widened.specs.declared.fault.FileFault.{FileFault}
-use Rattle.scan_widened.proofs.Files.{IsSoundFile, sound_file, files_are_widened}
+use Rattle.scan_widened.proofs.Files.{sound_file, files_are_widened}
 use Rattle.scan_union.specs.Under.{behind_of, given_under, file_under, of_file, or_later, first_file_fault_from}
-use Rattle.scan_union.specs.UnionAnswer.{is_good_under, row_under, union_items, union_part, union_answer_from, union_answer}
+use Rattle.scan_union.specs.UnionAnswer.{is_good_under, union_items, union_part, union_answer_from, union_answer}
 use Rattle.scan_union.specs.declared.fault.UnionFault.{UnionFault}
 
 -- ---- rows that are picked

@@ -1,6 +1,6 @@
 -- The causes of the faults of a scan under a dtype, as those of a scan over a union.
-use Rattle.std.proofs.Common.{◌≡◌, ◌≢◌, ◌⊎◌, inl, inr, ℕ, zero, suc, ◌<◌, ◌≤◌, ◌+◌, ◌^◌, List, [], ◌∷◌, ◌++◌, length, map, take, arith, refl, sym, subst, ap, ◌∙◌, Bool, true, false, Option, Some, None, All, IfSome, IsSome, Contains, get_or}
-use Rattle.std.specs.Prelude.{option_and_then, unwrap_or, slice_get, ◌&&◌, nat_lt}
+use Rattle.std.proofs.Common.{◌≡◌, ◌≢◌, inl, inr, ℕ, ◌<◌, ◌≤◌, ◌+◌, ◌^◌, List, [], ◌∷◌, length, map, take, arith, refl, sym, subst, ap, ◌∙◌, Bool, true, false, Option, Some, None, All, IsSome, get_or}
+use Rattle.std.specs.Prelude.{option_and_then, slice_get, ◌&&◌, nat_lt}
 use Rattle.std.proofs.lemmas.List.Sums.{sum-map, sum_by-cons}
 use Rattle.std.proofs.lemmas.Bool.Decides.{nat_tests}
 use Rattle.std.proofs.lemmas.List.Elements.{All-nil, All-cons, All-get_or, All-weaker}
@@ -9,7 +9,6 @@ use Rattle.std.specs.Option.{is_none}
 use Rattle.scan_values.specs.DataType.{DataType, depth_of}
 use Rattle.scan_expr.specs.declared.request.ScanRequest.{ScanRequest}
 use Rattle.scan_segments.specs.Cache.{empty_cache}
-use Rattle.scan_segments.specs.Faults.{Rose}
 use Rattle.scan_segments.specs.Source.{SourceState}
 use Rattle.scan_segments.specs.Script.{ScriptState, has_number}
 use Rattle.scan_layout.specs.Check.{first_fault}
@@ -27,30 +26,26 @@ use Rattle.scan_multi.specs.Before.{GoesOn}
 use Rattle.scan_multi.specs.Causes.{HasCause, IsOfFile, IsSourceCause, IsCorruptCause, MayHaveCome, IfLawful, Stops, AreTooMany}
 use Rattle.scan_multi.specs.Checks.{rows_given, rows_in, IsGood, IsOfOtherType, IsIllFormed, EndsPast}
 use Rattle.scan_multi.specs.Damaged.{IsDamaged}
-use Rattle.scan_multi.specs.Lawful.{told, told_file, Tells, IsIdle, IsLawful, AllGive}
-use Rattle.scan_multi.specs.Moves.{EachMoves, FileMoves}
+use Rattle.scan_multi.specs.Lawful.{told, told_file, Tells, IsLawful, AllGive}
 use Rattle.scan_multi.specs.Overflow.{OverflowsIn}
 use Rattle.scan_multi.specs.Request.{first_request_fault}
 use Rattle.scan_multi.specs.declared.scan.fault.RangeFault.TheVariants.{Reversed, Past}
 use Rattle.scan_multi.specs.declared.scan.fault.ScanFault.{ScanFault}
 use Rattle.scan_multi.specs.declared.scan.fault.ScanFault.TheVariants as scan
 use Rattle.scan_multi.proofs.Complete.{counted-rows}
-use Rattle.scan_widen.specs.Under.{behind, under}
 use Rattle.scan_widen.proofs.RowsAll.{rows_under, own_form, both}
-use Rattle.scan_widened.specs.Faults.{given_fault, has_room}
+use Rattle.scan_widened.specs.Faults.{given_fault}
 use Rattle.scan_widened.specs.Identity.{inner_of}
-use Rattle.scan_widened.specs.Sources.{UnionState, state_of, parts_of, fresh, Follow}
-use Rattle.scan_widened.proofs.Files.{sound_file, files_are_widened}
+use Rattle.scan_widened.specs.Sources.{UnionState, state_of, parts_of, fresh}
+use Rattle.scan_widened.proofs.Files.{sound_file}
 use Rattle.scan_widened.proofs.Inner.{stands_same}
 pub use Rattle.scan_union.specs.Made.{inner_in}
-use Rattle.scan_union.specs.Seats.{AreSeated, IsSeat, make_file, make_all, rest_of, rows_all, back_file, back_all}
+use Rattle.scan_union.specs.Seats.{AreSeated, make_file, make_all}
 use Rattle.scan_union.specs.Under.{behind_of, given_under, file_under, fault_over, read_inner, first_file_fault}
-use Rattle.scan_union.specs.UnionAnswer.{union_answer}
-use Rattle.scan_union.specs.UnionCauses.{HasUnionCause, IsOfUnionFile, IsReadCause, IsUnionSource, IsUnionCorrupt, IsDamagedBehind, OverflowsUnder}
-use Rattle.scan_union.specs.declared.fault.UnionFault.{UnionFault}
+use Rattle.scan_union.specs.UnionCauses.{HasUnionCause, IsReadCause, IsUnionSource, IsUnionCorrupt, IsDamagedBehind, OverflowsUnder}
 use Rattle.scan_union.specs.declared.fault.UnionFault.TheVariants as fault
 use Rattle.scan_union.specs.declared.seat.Seat.{Seat}
-use Rattle.scan_union.proofs.Answering.{good_layout, first_answers, same_within}
+use Rattle.scan_union.proofs.Answering.{good_layout, first_answers}
 use Rattle.scan_union.proofs.Scanned.{Trip, file_moved, steps, inner_steps, inner_asked, same_place}
 use Rattle.scan_union.proofs.Spots.{Spot, memory, told_made, given_told}
 

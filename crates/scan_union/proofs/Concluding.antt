@@ -1,8 +1,8 @@
 -- What a scan over a union answers, by what the scan of the files under the dtype does.
-use Rattle.std.proofs.Common.{◌≡◌, ◌≢◌, ℕ, zero, suc, ◌<◌, ◌≤◌, ◌+◌, ◌^◌, List, [], ◌∷◌, ◌++◌, length, map, take, arith, refl, sym, subst, ap, ◌∙◌, Bool, true, false, Option, Some, None, All, IfSome, IsSome, Contains, get_or, leb}
+use Rattle.std.proofs.Common.{◌≡◌, ◌≢◌, ℕ, ◌<◌, ◌≤◌, ◌+◌, ◌^◌, List, [], ◌∷◌, length, map, arith, refl, sym, subst, ap, ◌∙◌, Bool, true, false, Option, Some, None, All, IfSome, IsSome, Contains, leb}
 use Rattle.std.specs.Prelude.{nat_lt}
 use Rattle.std.proofs.lemmas.Bool.Decides.{nat_tests}
-use Rattle.std.proofs.lemmas.List.{nil_from_length, append-nil}
+use Rattle.std.proofs.lemmas.List.{append-nil}
 use Rattle.std.proofs.lemmas.List.Elements.{All-nil, All-weaker}
 use Rattle.scan_values.specs.DataType.{DataType, depth_of}
 use Rattle.scan_expr.specs.Typing.{Fault, request_fault, bind_fault, filter_fault, depth_fault, or_fault}
@@ -17,7 +17,6 @@ use Rattle.scan_multi.specs.Answer.{Item, answer}
 use Rattle.scan_multi.specs.Causes.{HasCause}
 use Rattle.scan_multi.specs.Checks.{rows_in}
 use Rattle.scan_multi.specs.Lawful.{told, Tells, IsIdle, IsLawful, Agrees, AllGive}
-use Rattle.scan_multi.specs.Moves.{EachMoves, EachAsksNamed}
 use Rattle.scan_multi.specs.Output.{OutputData, ChunkData, Admits, IsChoice, IsGiven, given}
 use Rattle.scan_multi.specs.Request.{first_plain_fault, first_request_fault, or_else, unless, of_bind, has_no_partitions, is_forward}
 use Rattle.scan_multi.specs.Scans.{IsScan, IsRefusedFor, ScanMoves}
@@ -25,18 +24,17 @@ use Rattle.scan_multi.specs.declared.scan.fault.RangeFault.TheVariants.{Reversed
 use Rattle.scan_multi.specs.declared.scan.fault.ScanFault.{ScanFault}
 use Rattle.scan_multi.specs.declared.scan.fault.ScanFault.TheVariants as scan
 use Rattle.scan_widened.specs.Sources.{UnionState, state_of, Follow}
-use Rattle.scan_union.specs.Seats.{Pairs, AreSeated, Seated, OpensFront, IsOpenFault, make_all, rest_of, back_all}
-use Rattle.scan_union.specs.Under.{file_under, fault_over, of_scan, first_file_fault}
+use Rattle.scan_union.specs.Seats.{AreSeated, OpensFront, make_all, rest_of, back_all}
+use Rattle.scan_union.specs.Under.{fault_over, of_scan, first_file_fault}
 use Rattle.scan_union.specs.UnionAnswer.{union_answer}
 use Rattle.scan_union.specs.UnionCauses.{HasUnionCause}
 use Rattle.scan_union.specs.UnionScans.{IsUnionScan, IsUnionRefusedFor, UnionMoves}
-use Rattle.scan_union.specs.declared.fault.UnionFault.{UnionFault}
 use Rattle.scan_union.specs.declared.fault.UnionFault.TheVariants as fault
 use Rattle.scan_union.specs.declared.seat.Seat.{Seat}
 use Rattle.scan_union.proofs.Answering.{answers}
 use Rattle.scan_union.proofs.Causing.{caused, inner_in, room_all}
 use Rattle.scan_union.proofs.Judging.{judged, judged_late}
-use Rattle.scan_union.proofs.Moved.{SourceGoes, moved, moved_opened}
+use Rattle.scan_union.proofs.Moved.{moved, moved_opened}
 use Rattle.scan_union.proofs.Scanned.{Trip, trip_of, all_go, asks_behind, lawful_made}
 use Rattle.scan_union.proofs.Spots.{memory, told_all, tells_made, polled_pairs, sound_all}
 

@@ -1,12 +1,12 @@
 -- How a scan of opened files ends, by what each of its steps did.
-use Rattle.std.proofs.Common.{◌≡◌, ◌≢◌, ℕ, suc, ◌<◌, ◌^◌, List, [], ◌∷◌, length, map, arith, refl, sym, subst, ap, ◌∙◌, Option, Some, None, All}
+use Rattle.std.proofs.Common.{◌≡◌, ℕ, suc, ◌<◌, ◌^◌, List, [], ◌∷◌, length, map, arith, refl, sym, subst, ap, ◌∙◌, None, All}
 use Rattle.std.proofs.lemmas.List.Elements.{All-nil, All-cons}
 use Rattle.scan_values.specs.DataType.{DataType}
 use Rattle.scan_expr.specs.declared.request.ScanRequest.{ScanRequest}
 use Rattle.scan_segments.specs.Cache.{CacheState, empty_cache}
 use Rattle.scan_segments.specs.Source.{SourceState}
 use Rattle.scan_segments.specs.declared.segment.SegmentKey.{SegmentKey}
-use Rattle.scan_opener.specs.Opener.{Given, OpenerState}
+use Rattle.scan_opener.specs.Opener.{OpenerState}
 use Rattle.scan_opener.specs.declared.opener.MemoryOpener.{MemoryOpener}
 use Rattle.scan_drive.specs.declared.files.ScanFile.{ScanFile}
 use Rattle.scan_multi.specs.Lawful.{IsIdle}
@@ -16,7 +16,7 @@ use Rattle.scan_multi.specs.Scans.{IsScan, IsRefusedFor, ScanMoves}
 use Rattle.scan_multi.specs.declared.scan.fault.ScanFault.{ScanFault}
 use Rattle.scan_widen.specs.Parts.{IsReadable}
 use Rattle.scan_widened.specs.Sources.{UnionState, state_of, Follow}
-use Rattle.scan_union.specs.Seats.{IsOpen, IsOpenFault, OpensFront, Seated, make_file, make_all, rest_of, back_all}
+use Rattle.scan_union.specs.Seats.{IsOpen, Seated, make_file, make_all, rest_of, back_all}
 use Rattle.scan_union.specs.Under.{fault_over}
 use Rattle.scan_union.specs.UnionScans.{IsUnionScan, IsUnionRefusedFor, UnionMoves}
 use Rattle.scan_union.specs.declared.fault.UnionFault.{UnionFault}
@@ -24,9 +24,8 @@ use Rattle.scan_union.specs.declared.fault.UnionFault.TheVariants as fault
 use Rattle.scan_union.specs.declared.seat.Rest.{Rest}
 use Rattle.scan_union.specs.declared.seat.Seat.{Seat}
 use Rattle.scan_union.proofs.Causing.{inner_in}
-use Rattle.scan_union.proofs.Concluding.{opened_moves, opened_short, scanned_moves, scanned_ok, scanned_err}
+use Rattle.scan_union.proofs.Concluding.{opened_moves, scanned_moves, scanned_ok, scanned_err}
 use Rattle.scan_union.proofs.Judging.{judged_late}
-use Rattle.scan_union.proofs.Moved.{moved_opened}
 use Rattle.scan_union.proofs.Spots.{memory, made_count, idle_mid}
 use Rattle.scan_union.proofs.Stopping.{readable_all}
 

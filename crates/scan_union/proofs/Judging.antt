@@ -1,5 +1,5 @@
 -- What follows of a fault from its cause.
-use Rattle.std.proofs.Common.{◌≡◌, ◌≢◌, ℕ, zero, suc, ◌<◌, ◌+◌, List, [], ◌∷◌, map, take, length, arith, refl, sym, subst, ap, ◌∙◌, Bool, true, false, Option, Some, None, All, IfSome, IsSome, get_or}
+use Rattle.std.proofs.Common.{◌≡◌, ◌≢◌, ℕ, zero, suc, ◌<◌, ◌+◌, List, [], ◌∷◌, take, length, arith, refl, sym, subst, ◌∙◌, Option, Some, None, All, IfSome, IsSome, get_or}
 use Rattle.std.specs.Prelude.{option_map}
 use Rattle.std.proofs.lemmas.List.Elements.{All-take, All-get_or, All-weaker}
 use Rattle.std.proofs.lemmas.List.{length-map, get_or-map}
@@ -19,7 +19,7 @@ use Rattle.scan_multi.specs.declared.scan.fault.ScanFault.{ScanFault}
 use Rattle.scan_multi.specs.declared.scan.fault.ScanFault.TheVariants as scan
 use Rattle.scan_widened.specs.Faults.{given_fault}
 use Rattle.scan_union.specs.Under.{first_file_fault, first_file_fault_from, of_file, or_later}
-use Rattle.scan_union.specs.UnionCauses.{HasUnionCause, IsOfUnionFile, IsOpenerCause, IsUnreadCause, IsReadCause, IsUnionSource, IsUnionCorrupt}
+use Rattle.scan_union.specs.UnionCauses.{HasUnionCause, IsOpenerCause, IsUnreadCause}
 use Rattle.scan_union.specs.UnionScans.{IsUnionRefusedFor, IsValidUnder, IsSoundUnder, NeverOverflowsUnder, NoOpenerFailed}
 use Rattle.scan_union.specs.declared.fault.UnionFault.{UnionFault}
 use Rattle.scan_union.specs.declared.fault.UnionFault.TheVariants as fault

@@ -1,5 +1,5 @@
 -- What a scan over a union does to its files, by what was done to their openers and to their sources.
-use Rattle.std.proofs.Common.{◌≡◌, ◌≢◌, ℕ, zero, suc, ◌<◌, ◌≤◌, ◌+◌, ◌^◌, ◌-◌, min, List, [], ◌∷◌, ◌++◌, length, drop, arith, refl, sym, subst, ap, ◌∙◌, Option, Some, None, All, IfSome, Contains, get_or, length-append}
+use Rattle.std.proofs.Common.{◌≡◌, ◌≢◌, ℕ, zero, suc, ◌<◌, ◌≤◌, ◌+◌, List, [], ◌∷◌, ◌++◌, length, drop, arith, refl, sym, subst, ap, ◌∙◌, Option, Some, None, All, IfSome, Contains, get_or}
 use Rattle.std.proofs.lemmas.List.{drop_all}
 use Rattle.std.proofs.lemmas.List.Elements.{All-nil, All-cons, All-head, All-tail}
 use Rattle.scan_values.specs.DataType.{DataType}
@@ -13,7 +13,6 @@ use Rattle.scan_multi.specs.Lawful.{told_file, Tells, IsIdle}
 use Rattle.scan_multi.specs.Moves.{EachMoves, FileMoves, NoneAsked}
 use Rattle.scan_multi.specs.Request.{first_request_fault}
 use Rattle.scan_multi.specs.declared.scan.fault.ScanFault.{ScanFault}
-use Rattle.scan_widened.specs.Faults.{PolledToEnd}
 use Rattle.scan_union.specs.Seats.{Pairs, IsPolledFile, OpensFront}
 use Rattle.scan_union.specs.UnionCauses.{named_behind}
 use Rattle.scan_union.specs.UnionScans.{UnionMoves}

@@ -1,13 +1,13 @@
 -- Files that are taken apart and put together again, one after another.
-use Rattle.std.proofs.Common.{◌≡◌, ◌⊎◌, inl, inr, ℕ, suc, ◌+◌, List, [], ◌∷◌, ◌++◌, length, map, arith, refl, sym, subst, ap, ◌∙◌, Option, Some, None, All, append_assoc}
+use Rattle.std.proofs.Common.{◌≡◌, ◌⊎◌, inl, inr, suc, List, [], ◌∷◌, ◌++◌, length, map, arith, refl, sym, subst, ap, ◌∙◌, None, All, append_assoc}
 use Rattle.std.proofs.lemmas.List.{append-nil}
-use Rattle.std.proofs.lemmas.List.Elements.{All-nil, All-cons, All-head, All-tail}
+use Rattle.std.proofs.lemmas.List.Elements.{All-head, All-tail}
 use Rattle.std.specs.Vec.Iter.{into_iter_items, into_iter_len, into_iter_steps}
 use Rattle.std.specs.declared.vec.IntoIter.{IntoIter}
 use Rattle.scan_segments.specs.Source.{SourceState}
 use Rattle.scan_opener.specs.declared.opener.MemoryOpener.{MemoryOpener}
 use Rattle.scan_drive.specs.declared.files.ScanFile.{ScanFile}
-use Rattle.scan_widened.specs.Sources.{UnionState, Follow, fresh}
+use Rattle.scan_widened.specs.Sources.{UnionState}
 use Rattle.scan_union.specs.Seats.{make_file, make_all, rest_of, back_file, back_all}
 use Rattle.scan_union.specs.declared.seat.Rest.{Rest}
 use Rattle.scan_union.specs.declared.seat.Seat.{Seat}

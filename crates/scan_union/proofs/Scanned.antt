@@ -1,48 +1,35 @@
 -- What a scan of files under another dtype says of the files themselves.
-use Rattle.std.proofs.Common.{◌≡◌, ◌≢◌, ◌⊎◌, inl, inr, ℕ, zero, suc, ◌<◌, ◌≤◌, ◌+◌, ◌^◌, ◌-◌, min, List, [], ◌∷◌, ◌++◌, length, map, take, drop, arith, refl, sym, subst, ap, ◌∙◌, Bool, true, false, Option, Some, None, All, IfSome, IsSome, Contains, get_or, append_assoc}
-use Rattle.std.specs.Prelude.{option_map, option_and_then, unwrap_or, slice_get, filter_map, nat_lt, ◌&&◌}
+use Rattle.std.proofs.Common.{◌≡◌, ℕ, zero, suc, ◌<◌, ◌≤◌, ◌+◌, ◌^◌, List, [], ◌∷◌, ◌++◌, length, map, drop, arith, refl, sym, subst, ap, ◌∙◌, Bool, true, false, Option, Some, None, All, IfSome, Contains, get_or}
+use Rattle.std.specs.Prelude.{nat_lt}
 use Rattle.std.specs.Fmt.{decimal}
 use Rattle.std.proofs.Math.Seq.{drop-append_seam}
 use Rattle.std.proofs.lemmas.Bool.Decides.{nat_tests}
 use Rattle.std.proofs.lemmas.Fmt.{decimal_injective}
 use Rattle.std.proofs.lemmas.List.{append_cancel_left, length-map}
-use Rattle.std.proofs.lemmas.List.Sums.{sum-map, sum_by-cons}
 use Rattle.std.proofs.lemmas.List.Elements.{All-nil, All-cons, All-contains, All-get_or, All-weaker}
-use Rattle.std.proofs.lemmas.Option.{slice_get-get_or}
-use Rattle.scan_values.specs.DataType.{DataType, depth_of}
+use Rattle.scan_values.specs.DataType.{DataType}
 use Rattle.scan_expr.specs.declared.request.ScanRequest.{ScanRequest}
-use Rattle.scan_segments.specs.Cache.{CacheState, empty_cache}
-use Rattle.scan_segments.specs.Faults.{Rose}
+use Rattle.scan_segments.specs.Cache.{empty_cache}
 use Rattle.scan_segments.specs.Source.{SourceState, Store, none_live}
-use Rattle.scan_segments.specs.declared.segment.SegmentKey.{SegmentKey}
-use Rattle.scan_layout.specs.Layout.{Layout, dtype_of, rows_of}
-use Rattle.scan_opener.specs.Opener.{Given, skip, layout_of, OpenerState}
-use Rattle.scan_opener.specs.OpenerMemory.{given_of}
+use Rattle.scan_opener.specs.Opener.{Given, OpenerState}
 use Rattle.scan_opener.specs.declared.opener.MemoryOpener.{MemoryOpener}
 use Rattle.scan_drive.specs.Traffic.{WasAsked, asked_since}
 use Rattle.scan_drive.specs.declared.files.ScanFile.{ScanFile}
 use Rattle.scan_multi.specs.Answer.{ToldFile}
-use Rattle.scan_multi.specs.Checks.{rows_given, rows_in}
-use Rattle.scan_multi.specs.Lawful.{told, told_file, Tells, IsIdle, IsLawful, Agrees}
+use Rattle.scan_multi.specs.Lawful.{told_file, Tells, IsIdle, IsLawful, Agrees}
 use Rattle.scan_multi.specs.Moves.{EachMoves, FileMoves, AsksNamed, EachAsksNamed}
 use Rattle.scan_multi.specs.Named.{named}
 use Rattle.scan_splits.proofs.Numbers.{filter_map_to}
-use Rattle.scan_widen.specs.Under.{behind, under}
-use Rattle.scan_widen.specs.declared.behind.Behind.{Behind}
-use Rattle.scan_widen.proofs.RowsAll.{rows_under}
-use Rattle.scan_widened.specs.Faults.{given_fault, has_room}
 use Rattle.scan_widened.specs.Follows.{Moves, Follows, StandsBehind, HasInner}
-use Rattle.scan_widened.specs.Identity.{beside, inner_of}
-use Rattle.scan_widened.specs.Sources.{UnionState, state_of, parts_of, fresh, Follow}
-use Rattle.scan_widened.proofs.Files.{sound_file}
-use Rattle.scan_widened.proofs.Inner.{stands_same}
-use Rattle.scan_union.specs.Seats.{Pairs, IsSeat, AreSeated, make_file, make_all, rest_of, rows_all, back_file, back_all}
-use Rattle.scan_union.specs.Under.{behind_of, given_under, file_under}
+use Rattle.scan_widened.specs.Identity.{inner_of}
+use Rattle.scan_widened.specs.Sources.{UnionState, state_of, fresh, Follow}
+use Rattle.scan_union.specs.Seats.{Pairs, AreSeated, make_file, make_all, rest_of, back_file, back_all}
+use Rattle.scan_union.specs.Under.{behind_of, file_under}
 use Rattle.scan_union.specs.UnionCauses.{named_behind}
 use Rattle.scan_union.specs.declared.seat.Rest.{Rest}
 use Rattle.scan_union.specs.declared.seat.Seat.{Seat}
 use Rattle.scan_union.proofs.Moved.{SourceGoes, none_since, pairs_from}
-use Rattle.scan_union.proofs.Spots.{Spot, spot, memory, told_made, told_all, tells_made, made_count, given_told}
+use Rattle.scan_union.proofs.Spots.{Spot, spot, memory, told_made, made_count, given_told}
 
 -- past the end of a list is what is given instead
 get_past : {A : Type 0} (xs : List A) (k : ℕ) (x : A) → length xs ≤ k → get_or xs k x ≡ x

@@ -1,5 +1,5 @@
 -- The seat of a file, by what its opener gave, and lists that are empty.
-use Rattle.std.proofs.Common.{◌≡◌, ◌⊎◌, inl, inr, ℕ, ◌<◌, ◌+◌, ◌^◌, List, [], ◌∷◌, length, arith, refl, sym, subst, ap, ◌∙◌, Bool, true, false, Option, Some, None, All}
+use Rattle.std.proofs.Common.{◌≡◌, inl, inr, ℕ, ◌<◌, ◌+◌, ◌^◌, List, [], ◌∷◌, length, arith, refl, sym, subst, ap, ◌∙◌, Bool, true, false, Option, Some, None, All}
 use Rattle.std.specs.Prelude.{nat_lt, ◌&&◌}
 use Rattle.std.proofs.lemmas.Bool.Decides.{nat_tests}
 use Rattle.std.proofs.lemmas.List.Elements.{All-nil}
@@ -10,7 +10,6 @@ use Rattle.scan_layout.specs.Layout.{Layout, rows_of}
 use Rattle.scan_opener.specs.Opener.{Given, skip, layout_of, OpenerState}
 use Rattle.scan_widen.specs.Countable.{is_countable}
 use Rattle.scan_widen.specs.Parts.{IsReadable}
-use Rattle.scan_widen.specs.declared.behind.Behind.{Behind}
 use Rattle.scan_widen.specs.declared.under.UnionLayout.{UnionLayout}
 use Rattle.scan_widen.proofs.RowsAll.{rows_under as same_rows}
 use Rattle.scan_widened.specs.Faults.{Gave, IsGivenUnder, IsFileFault}

@@ -1,29 +1,25 @@
 -- Each file of a scan over a union: as it was, opened, under the other dtype, and put back.
-use Rattle.std.proofs.Common.{◌≡◌, ℕ, zero, suc, ◌<◌, ◌≤◌, ◌+◌, ◌^◌, ◌-◌, min, List, [], ◌∷◌, ◌++◌, length, map, drop, arith, refl, sym, subst, ap, ◌∙◌, Bool, true, false, Option, Some, None, All, IfSome, IsSome, Contains, get_or, length-append}
+use Rattle.std.proofs.Common.{◌≡◌, ℕ, zero, suc, ◌<◌, ◌+◌, List, [], ◌∷◌, length, map, arith, refl, sym, subst, ap, ◌∙◌, Option, Some, None, All, IfSome, IsSome, get_or}
 use Rattle.std.specs.Prelude.{option_map, unwrap_or}
-use Rattle.std.proofs.lemmas.List.Elements.{All-nil, All-cons, All-head, All-tail, All-weaker}
+use Rattle.std.proofs.lemmas.List.Elements.{All-nil, All-cons, All-head, All-tail}
 use Rattle.std.specs.declared.ops.Range.{Range}
 use Rattle.scan_values.specs.DataType.{DataType}
 use Rattle.scan_expr.specs.declared.request.ScanRequest.{ScanRequest}
-use Rattle.scan_segments.specs.Source.{SourceState, Store, none_live}
+use Rattle.scan_segments.specs.Source.{SourceState, Store}
 use Rattle.scan_opener.specs.Opener.{Given, skip, OpenerState}
 use Rattle.scan_opener.specs.OpenerMemory.{given_of}
 use Rattle.scan_opener.specs.declared.opener.MemoryOpener.{MemoryOpener}
 use Rattle.scan_drive.specs.declared.files.ScanFile.{ScanFile}
-use Rattle.scan_multi.specs.Answer.{ToldFile}
 use Rattle.scan_multi.specs.Checks.{rows_given}
 use Rattle.scan_multi.specs.Lawful.{told, told_file, Tells, IsIdle, AllGive}
-use Rattle.scan_multi.specs.Moves.{EachMoves, FileMoves}
 use Rattle.scan_widen.specs.declared.behind.Behind.{Behind}
 use Rattle.scan_widened.specs.Faults.{given_fault}
-use Rattle.scan_widened.specs.Follows.{Moves, Follows}
 use Rattle.scan_widened.specs.Identity.{beside}
-use Rattle.scan_widened.specs.Sources.{UnionState, state_of, fresh, Follow}
+use Rattle.scan_widened.specs.Sources.{UnionState, state_of, Follow}
 pub use Rattle.scan_union.specs.Made.{memory}
-use Rattle.scan_union.specs.Seats.{Pairs, IsSeat, IsGivingOpener, IsPolledFile, IsOpenedFile, AreSeated, make_file, make_all, rest_of, back_file, back_all}
+use Rattle.scan_union.specs.Seats.{Pairs, IsSeat, IsPolledFile, IsOpenedFile, AreSeated, make_file, make_all, rest_of, back_file, back_all}
 use Rattle.scan_union.specs.Under.{behind_of, given_under, file_under, of_file, or_later, first_file_fault_from}
 use Rattle.scan_union.specs.declared.seat.Seat.{Seat}
-use Rattle.scan_union.proofs.Moved.{SourceGoes}
 
 module _ {O S : Type 0} (opener : O → OpenerState) (source : S → SourceState) (d : DataType) (range : Option (Range ℕ)) where
   -- one file, by its place

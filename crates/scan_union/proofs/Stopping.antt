@@ -1,16 +1,15 @@
 -- Why a scan over a union is refused where a file is not opened or can't be read.
-use Rattle.std.proofs.Common.{◌≡◌, ◌≢◌, ◌⊎◌, inl, inr, ℕ, zero, suc, ◌<◌, ◌≤◌, ◌+◌, ◌^◌, List, [], ◌∷◌, ◌++◌, length, map, take, arith, refl, sym, subst, ap, ◌∙◌, Option, Some, None, All, IfSome, IsSome, get_or, append_assoc, length-append}
+use Rattle.std.proofs.Common.{◌≡◌, ◌≢◌, inl, inr, ℕ, suc, ◌<◌, ◌+◌, List, [], ◌∷◌, ◌++◌, length, take, arith, refl, sym, subst, ap, ◌∙◌, Some, None, All, IsSome, get_or, append_assoc, length-append}
 use Rattle.std.specs.Prelude.{option_map, unwrap_or}
 use Rattle.std.proofs.Math.Seq.{take-append_seam}
 use Rattle.std.proofs.lemmas.List.Elements.{All-nil, All-cons, All-head, All-tail}
 use Rattle.scan_values.specs.DataType.{DataType}
 use Rattle.scan_expr.specs.declared.request.ScanRequest.{ScanRequest}
 use Rattle.scan_segments.specs.Source.{SourceState}
-use Rattle.scan_opener.specs.Opener.{Given, skip, layout_of, OpenerState, OpenerFailed}
+use Rattle.scan_opener.specs.Opener.{Given, skip, OpenerState, OpenerFailed}
 use Rattle.scan_drive.specs.declared.files.ScanFile.{ScanFile}
 use Rattle.scan_multi.specs.Checks.{rows_given}
-use Rattle.scan_multi.specs.Lawful.{told, told_file, AllGive, IsIdle}
-use Rattle.scan_multi.specs.Moves.{NoneAsked}
+use Rattle.scan_multi.specs.Lawful.{told, AllGive}
 use Rattle.scan_multi.specs.Request.{first_request_fault}
 use Rattle.scan_widen.specs.Parts.{IsReadable}
 use Rattle.scan_widened.specs.Faults.{given_fault, Gave, IsFileFault}
@@ -21,7 +20,6 @@ use Rattle.scan_union.specs.Under.{first_file_fault, first_file_fault_from, of_f
 use Rattle.scan_union.specs.UnionCauses.{HasUnionCause, IsOfUnionFile, IsOpenerCause, IsUnreadCause}
 use Rattle.scan_union.specs.UnionScans.{IsUnionRefusedFor}
 use Rattle.scan_union.specs.declared.fault.UnionFault.{UnionFault}
-use Rattle.scan_union.specs.declared.fault.UnionFault.TheVariants as fault
 use Rattle.scan_union.specs.declared.seat.Seat.{Seat}
 use Rattle.scan_union.proofs.Judging.{judged_late}
 use Rattle.scan_union.proofs.Moved.{none_asked}

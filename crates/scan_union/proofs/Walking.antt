@@ -1,5 +1,5 @@
 -- The opening of the files, one after another.
-use Rattle.std.proofs.Common.{◌≡◌, ◌⊎◌, inl, inr, ℕ, zero, suc, ◌<◌, ◌≤◌, ◌+◌, ◌^◌, List, [], ◌∷◌, ◌++◌, length, set, arith, refl, sym, subst, ap, ◌∙◌, Option, Some, None, IfSome, get_or, append_assoc, length-append}
+use Rattle.std.proofs.Common.{◌≡◌, inl, inr, ℕ, suc, ◌<◌, ◌≤◌, ◌+◌, List, [], ◌∷◌, ◌++◌, length, set, arith, refl, sym, subst, ap, ◌∙◌, Option, None, get_or, append_assoc, length-append}
 use Rattle.std.proofs.lemmas.List.{append-nil}
 use Rattle.std.specs.declared.ops.Range.{Range}
 use Rattle.scan_values.specs.DataType.{DataType}
@@ -7,13 +7,11 @@ use Rattle.scan_segments.specs.Source.{SourceState}
 use Rattle.scan_opener.specs.Opener.{Given, OpenerState}
 use Rattle.scan_drive.specs.declared.files.ScanFile.{ScanFile}
 use Rattle.scan_multi.specs.Checks.{rows_given}
-use Rattle.scan_widened.specs.Faults.{given_fault, Gave, PolledToEnd, IsFileFault}
-use Rattle.scan_widened.specs.declared.fault.FileFault.{FileFault}
-use Rattle.scan_union.specs.Opens.{IsSeatedWith, OpensFile, IsFileStop}
-use Rattle.scan_union.specs.Seats.{IsSeat, Pairs, IsPolledFile, IsOpenedFile, OpensFront, AreSeated, Seated, StopsAt, IsOpenFault, rows_all}
+use Rattle.scan_widened.specs.Faults.{given_fault, PolledToEnd, IsFileFault}
+use Rattle.scan_union.specs.Opens.{OpensFile, IsFileStop}
+use Rattle.scan_union.specs.Seats.{IsSeat, Pairs, IsPolledFile, IsOpenedFile, OpensFront, AreSeated, Seated, IsOpenFault, rows_all}
 use Rattle.scan_union.specs.Under.{of_file}
 use Rattle.scan_union.specs.declared.fault.UnionFault.{UnionFault}
-use Rattle.scan_union.specs.declared.fault.UnionFault.TheVariants as fault
 use Rattle.scan_union.specs.declared.seat.Seat.{Seat}
 
 -- ---- lists at a seam

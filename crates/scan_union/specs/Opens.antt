@@ -1,5 +1,5 @@
 -- The opening of one file.
-use Rattle.std.specs.Prelude.{◌≡◌, ◌⊎◌, ℕ, ◌+◌, ◌<◌, ◌^◌, Option, None, Some}
+use Rattle.std.specs.Prelude.{◌≡◌, ◌⊎◌, ℕ, ◌+◌, Option, None, Some}
 use Rattle.std.specs.declared.ops.Range.{Range}
 use Rattle.scan_values.specs.DataType.{DataType}
 use Rattle.scan_layout.specs.Layout.{rows_of}

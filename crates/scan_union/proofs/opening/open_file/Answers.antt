@@ -1,6 +1,6 @@
-use Rattle.std.proofs.Common.{rules, ◌≡◌, ◌<◌, ◌^◌, inl, arith, refl}
+use Rattle.std.proofs.Common.{rules, ◌<◌, ◌^◌, inl, arith, refl}
 use Rattle.std.proofs.lemmas.Result.{err_from_is_err_and}
-use Rattle.scan_union.proofs.Seating.{opens_file, room_of, stops_at, stops_short}
+use Rattle.scan_union.proofs.Seating.{opens_file, room_of, stops_at}
 use Rattle.scan_union.proofs.opening.open_file.Goals as goal
 
 pub overflow_add-rows : goal.overflow_add-rows

@@ -1,4 +1,4 @@
-use Rattle.std.proofs.Common.{rules, ◌≡◌, [], All, IfErr, IfOk, List, length, sym, subst, ap, ◌∙◌}
+use Rattle.std.proofs.Common.{◌≡◌, [], All, IfErr, IfOk, List, length, sym, subst, ap, ◌∙◌}
 use Rattle.std.proofs.lemmas.List.Elements.{All-nil}
 use Rattle.scan_segments.specs.Cache.{empty_cache}
 use Rattle.scan_drive.specs.declared.files.ScanFile.{ScanFile}

@@ -1,8 +1,7 @@
-use Rattle.std.proofs.Common.{rules, ◌≡◌, ◌<◌, ◌≤◌, ◌+◌, ◌^◌, [], ◌∷◌, ◌++◌, All, List, length, map, vec_len, vec_capacity, arith, refl, sym, subst, ap, ◌∙◌}
+use Rattle.std.proofs.Common.{rules, ◌≡◌, ◌<◌, ◌^◌, [], ◌++◌, All, List, length, map, vec_len, vec_capacity, arith, refl, sym, subst, ap, ◌∙◌}
 use Rattle.std.proofs.lemmas.List.{length-map}
 use Rattle.std.proofs.lemmas.Result.{err_from_is_err_and, IfOk-weaker, IfErr-weaker}
 use Rattle.scan_caches.specs.Bounded.{keyed_state}
-use Rattle.scan_segments.specs.Cache.{empty_cache}
 use Rattle.scan_segments.specs.Source.{none_live}
 use Rattle.scan_drive.specs.declared.files.ScanFile.{ScanFile}
 use Rattle.scan_multi.specs.Lawful.{IsIdle}
@@ -11,7 +10,6 @@ use Rattle.scan_widened.specs.Sources.{UnionState, state_of}
 use Rattle.scan_union.specs.Made.{memory}
 use Rattle.scan_union.specs.Seats.{make_all, rest_of, back_all}
 use Rattle.scan_union.specs.declared.fault.UnionFault.TheVariants as fault
-use Rattle.scan_union.specs.declared.seat.Rest.{Rest}
 use Rattle.scan_union.specs.declared.seat.Seat.{Seat}
 use Rattle.scan_union.proofs.Ending.{Ends, short_moves, short_err, idle_made, make_count, ends_moves, ends_ok, ends_err}
 use Rattle.scan_union.proofs.scan.scan_seated.Goals as goal
@@ -158,7 +156,11 @@ returns-clause-ok g c =
       moves = c.scan_made-answer.ensures.moves;
       most = most;
     } in
-    IfOk-weaker c.scan_made-answer.result _ _ (λ out h old seated begun. ends_ok opener source c.args.workers c.args.dtype.now c.args.request.now old mid c.put_back.new.files.items ss c.take_apart.new.rests.items c.take_apart.new.made.items c.scan_made-answer.new.made.items (keyed_state c.in_ok-cache.cache) (keyed_state c.scan_made-answer.new.cache) ends seated begun out h) c.scan_made-answer.ensures.ok
+    IfOk-weaker c.scan_made-answer.result _ _
+    (λ out h old seated begun. ends_ok opener source c.args.workers c.args.dtype.now c.args.request.now old mid c.put_back.new.files.items ss
+    c.take_apart.new.rests.items c.take_apart.new.made.items c.scan_made-answer.new.made.items
+    (keyed_state c.in_ok-cache.cache) (keyed_state c.scan_made-answer.new.cache) ends seated begun out h)
+    c.scan_made-answer.ensures.ok
 
 pub returns-clause-err : goal.returns-clause-err
 returns-clause-err g c =
@@ -180,7 +182,11 @@ returns-clause-err g c =
       moves = c.scan_made-answer.ensures.moves;
       most = most;
     } in
-    IfErr-weaker c.scan_made-answer.result _ _ (λ e h old seated begun. ends_err opener source c.args.workers c.args.dtype.now c.args.request.now old mid c.put_back.new.files.items ss c.take_apart.new.rests.items c.take_apart.new.made.items c.scan_made-answer.new.made.items (keyed_state c.in_ok-cache.cache) (keyed_state c.scan_made-answer.new.cache) ends seated begun h.why e h.refused h.is) c.scan_made-answer.ensures.err
+    IfErr-weaker c.scan_made-answer.result _ _
+    (λ e h old seated begun. ends_err opener source c.args.workers c.args.dtype.now c.args.request.now old mid c.put_back.new.files.items ss
+    c.take_apart.new.rests.items c.take_apart.new.made.items c.scan_made-answer.new.made.items
+    (keyed_state c.in_ok-cache.cache) (keyed_state c.scan_made-answer.new.cache) ends seated begun h.why e h.refused h.is)
+    c.scan_made-answer.ensures.err
 
 pub returns-clause-moves : goal.returns-clause-moves
 returns-clause-moves g c =
@@ -202,4 +208,6 @@ returns-clause-moves g c =
       moves = c.scan_made-answer.ensures.moves;
       most = most;
     } in
-    λ old seated begun. ends_moves opener source c.args.workers c.args.dtype.now c.args.request.now old mid c.put_back.new.files.items ss c.take_apart.new.rests.items c.take_apart.new.made.items c.scan_made-answer.new.made.items (keyed_state c.in_ok-cache.cache) (keyed_state c.scan_made-answer.new.cache) ends seated begun
+    λ old seated begun. ends_moves opener source c.args.workers c.args.dtype.now c.args.request.now old mid c.put_back.new.files.items ss
+    c.take_apart.new.rests.items c.take_apart.new.made.items c.scan_made-answer.new.made.items
+    (keyed_state c.in_ok-cache.cache) (keyed_state c.scan_made-answer.new.cache) ends seated begun

@@ -1,9 +1,6 @@
-use Rattle.std.proofs.Common.{rules, ◌≡◌, ◌≢◌, All, IfErr, List, None, Some, length, refl, sym, subst, ap, ◌∙◌}
+use Rattle.std.proofs.Common.{rules, ◌≡◌, ◌≢◌, Some}
 use Rattle.std.proofs.lemmas.Result.{err_from_is_err_and, IfOk-weaker, IfErr-weaker}
-use Rattle.scan_drive.specs.declared.files.ScanFile.{ScanFile}
-use Rattle.scan_multi.specs.Lawful.{IsIdle}
-use Rattle.scan_union.specs.Seats.{IsOpen, Seated}
-use Rattle.scan_union.specs.declared.seat.Seat.{Seat}
+use Rattle.scan_union.specs.Seats.{IsOpen}
 use Rattle.scan_union.proofs.Concluding.{request_refused, nothing_wanted}
 use Rattle.scan_union.proofs.Ending.{seated_count, seated_idle, seated_readable}
 use Rattle.scan_union.proofs.Moved.{moved_opened, unmoved}
