@@ -14,8 +14,8 @@ ghost use Rattle.scan_plans.specs.Meaning.{Within, plan_dtype};
 use scan_expr::{BoundExpression, Expression};
 use scan_layout::{LeafSegments, Spelling};
 use scan_plans::{ArrayFuture, MaskFuture, Plan, PlanNode};
-use scan_segments::{ByteBuffer, SegmentId};
-use scan_splits::{Arrival, Inbox, Poll, SegmentRuns};
+use scan_segments::SegmentId;
+use scan_splits::SegmentRuns;
 use scan_values::{Array, DType, Mask, Nullability, PType, Value};
 use std::alloc::Global;
 use std::sync::Arc;
@@ -161,6 +161,14 @@ pub(crate) fn plan_of_one(alloc: Global) -> Result<Arc<Plan>, Fail>
     Ok(Arc::new(alloc, Plan::new(bound, node))?)
 }
 
+/// Three bits by their letters.
+pub(crate) fn bits_of(letters: &str) -> Result<[bool; 3], Fail> {
+    match letters.as_bytes() {
+        [a, b, c] => Ok([*a == b'1', *b == b'1', *c == b'1']),
+        _ => Err(Fail::from("not three letters")),
+    }
+}
+
 /// A mask that is known.
 pub(crate) fn known(alloc: Global, bits: &[bool]) -> Result<MaskFuture, Fail>
     ensures { IfOk result (λ m. length m.known ≡ length bits.now) }
@@ -193,14 +201,6 @@ pub(crate) fn project_under(plan: &Arc<Plan>, mask: MaskFuture) -> Result<ArrayF
     Ok(Plan::project(plan, &(0..3), mask)?)
 }
 
-/// Whether the rows whose values a future gave are these.
-pub(crate) fn are_rows(alloc: Global, future: &ArrayFuture, numbers: &[u64]) -> bool {
-    match future.rows(alloc) {
-        Ok(rows) => rows.as_slice() == numbers,
-        Err(_) => false,
-    }
-}
-
 /// The first three rows of a plan, under a mask, that are true.
 pub(crate) fn filter(alloc: Global, plan: &Arc<Plan>, bits: [bool; 3]) -> Result<MaskFuture, Fail>
     requires rows { Within (plan.now.value).tree 3 }
@@ -218,131 +218,4 @@ pub(crate) fn prune(alloc: Global, plan: &Arc<Plan>, bits: [bool; 3]) -> Result<
 {
     let bits = Vec::from_slice(alloc, &bits)?;
     Ok(Plan::prune(alloc, plan, &(0..3), Mask::from_bools(bits))?)
-}
-
-/// What came of a segment.
-fn arrive(inbox: &mut Inbox, id: u32, arrival: Arrival) -> Result<(), Fail> {
-    let id = SegmentId::from(id);
-    if inbox.has(id) {
-        return Err(Fail::from("arrived before"));
-    }
-    Ok(inbox.deliver(id, arrival)?)
-}
-
-/// The bytes of a segment.
-pub(crate) fn deliver(alloc: Global, inbox: &mut Inbox, id: u32, bytes: &[u8]) -> Result<(), Fail> {
-    let bytes = ByteBuffer::new(alloc, Vec::from_slice(alloc, bytes)?)?;
-    arrive(inbox, id, Arrival::Bytes(bytes))
-}
-
-/// That a segment is missing.
-pub(crate) fn miss(inbox: &mut Inbox, id: u32) -> Result<(), Fail> {
-    arrive(inbox, id, Arrival::Missing)
-}
-
-fn is_alone(ids: &[SegmentId], id: u32) -> bool {
-    match ids {
-        [only] => *only == SegmentId::from(id),
-        _ => false,
-    }
-}
-
-/// Whether a poll wants one segment and no other.
-pub(crate) fn wants<T: Drop>(poll: &Poll<T>, id: u32) -> bool {
-    match poll {
-        Poll::Pending(ids) => is_alone(ids.as_slice(), id),
-        _ => false,
-    }
-}
-
-fn are_ids(found: &[SegmentId], ids: &[u32]) -> bool {
-    if found.len() != ids.len() {
-        return false;
-    }
-    for (i, id) in found.iter().enumerate() {
-        if *id != SegmentId::from(ids[i]) {
-            return false;
-        }
-    }
-    true
-}
-
-/// Whether a poll wants these segments and no other, in this order.
-pub(crate) fn wants_all<T: Drop>(poll: &Poll<T>, ids: &[u32]) -> bool {
-    match poll {
-        Poll::Pending(found) => are_ids(found.as_slice(), ids),
-        _ => false,
-    }
-}
-
-/// Whether a poll finds a segment no good.
-pub(crate) fn spoils<T: Drop>(poll: &Poll<T>, id: u32) -> bool {
-    match poll {
-        Poll::Corrupt(found) => *found == SegmentId::from(id),
-        _ => false,
-    }
-}
-
-fn is_number(value: &Value, number: i128) -> bool {
-    match value {
-        Value::Int(found) => *found == number,
-        _ => false,
-    }
-}
-
-/// Whether values are these numbers.
-pub(crate) fn are_numbers(values: &[Value], numbers: &[i128]) -> bool {
-    if values.len() != numbers.len() {
-        return false;
-    }
-    for (i, value) in values.iter().enumerate() {
-        if !is_number(value, numbers[i]) {
-            return false;
-        }
-    }
-    true
-}
-
-/// Whether a poll gives these numbers.
-pub(crate) fn gives_numbers(poll: &Poll<Array>, numbers: &[i128]) -> bool {
-    match poll {
-        Poll::Ready(array) => are_numbers(array.as_slice(), numbers),
-        _ => false,
-    }
-}
-
-fn is_value(value: &Value, number: Option<i128>) -> bool {
-    match (value, number) {
-        (Value::Int(found), Some(number)) => *found == number,
-        (Value::Null, None) => true,
-        _ => false,
-    }
-}
-
-fn are_values(values: &[Value], wanted: &[Option<i128>]) -> bool {
-    if values.len() != wanted.len() {
-        return false;
-    }
-    for (i, value) in values.iter().enumerate() {
-        if !is_value(value, wanted[i]) {
-            return false;
-        }
-    }
-    true
-}
-
-/// Whether a poll gives these values, some of which are null.
-pub(crate) fn gives_values(poll: &Poll<Array>, wanted: &[Option<i128>]) -> bool {
-    match poll {
-        Poll::Ready(array) => are_values(array.as_slice(), wanted),
-        _ => false,
-    }
-}
-
-/// Whether a poll gives a mask.
-pub(crate) fn gives_mask(poll: &Poll<Mask>, bits: &[bool]) -> bool {
-    match poll {
-        Poll::Ready(mask) => mask.as_slice() == bits,
-        _ => false,
-    }
 }

@@ -10,4 +10,6 @@ mod masked;
 #[cfg(test)]
 mod plans;
 #[cfg(test)]
+mod stories;
+#[cfg(test)]
 mod texts;

@@ -1,26 +1,16 @@
 //! Arrays that are there, arrays under masks, pruned masks, and futures that are polled by threads.
 use crate::fixtures::{
-    are_rows, deliver, filter, gives_mask, gives_values, known, numbers, plan_above_one,
-    plan_of_leaf, project_all, project_under, prune, wants,
+    bits_of, filter, known, numbers, plan_above_one, plan_of_leaf, project_all, project_under,
+    prune,
 };
-use scan_plans::{ArrayFuture, MaskFuture};
-use scan_splits::Inbox;
+use crate::stories::{deliver, told, told_mask};
+use scan_plans::ArrayFuture;
+use scan_splits::{Inbox, Poll};
+use scan_values::{Array, Value};
 use std::alloc::Global;
 use std::test::Fail;
 use std::thread;
 use std::thread::Threads;
-
-/// Whether the next poll of an array gives these values.
-fn gives(alloc: Global, future: &mut ArrayFuture, inbox: &Inbox, values: &[Option<i128>]) -> bool {
-    let poll = future.poll(alloc, inbox);
-    gives_values(&poll, values)
-}
-
-/// Whether it wants one segment and no other.
-fn waits(alloc: Global, future: &mut ArrayFuture, inbox: &Inbox, id: u32) -> bool {
-    let poll = future.poll(alloc, inbox);
-    wants(&poll, id)
-}
 
 /// The numbers 1, 2 and 3.
 fn ready(alloc: Global) -> Result<ArrayFuture, Fail> {
@@ -28,18 +18,28 @@ fn ready(alloc: Global) -> Result<ArrayFuture, Fail> {
 }
 
 /// The same, outside a mask null.
-fn masked(alloc: Global, bits: &[bool]) -> Result<ArrayFuture, Fail> {
-    let mask = known(alloc, bits)?;
+fn masked(alloc: Global, letters: &str) -> Result<ArrayFuture, Fail> {
+    let mask = known(alloc, &bits_of(letters)?)?;
     Ok(ready(alloc)?.masked(mask)?)
 }
 
+/// The same, outside each of two masks null.
+fn masked_twice(alloc: Global, first: &str, second: &str) -> Result<ArrayFuture, Fail> {
+    let second = known(alloc, &bits_of(second)?)?;
+    Ok(masked(alloc, first)?.masked(second)?)
+}
+
 #[test]
-fn an_array_that_is_there_is_given_at_once_and_again(rt: HostRuntime) -> Result<(), Fail> {
+fn an_array_that_is_there_is_given_at_once_and_under_masks(rt: HostRuntime) -> Result<(), Fail> {
     let alloc = rt.alloc();
-    let inbox = Inbox::new(alloc);
-    let mut future = ready(alloc)?;
-    assert!(rt; gives(alloc, &mut future, &inbox, &[Some(1), Some(2), Some(3)]));
-    assert!(rt; gives(alloc, &mut future, &inbox, &[Some(1), Some(2), Some(3)]));
+    let again = told(alloc, ready(alloc)?, "poll poll")?;
+    assert_eq!(rt; again.as_str(), "gives 1 2 3; gives 1 2 3");
+    assert_eq!(rt;
+        told(alloc, masked(alloc, "001")?, "poll")?.as_str(),
+        "gives null null 3"
+    );
+    let twice = masked_twice(alloc, "110", "011")?;
+    assert_eq!(rt; told(alloc, twice, "poll")?.as_str(), "gives null 2 null");
     Ok(())
 }
 
@@ -56,36 +56,8 @@ fn the_rows_that_a_filter_drops_are_not_among_those_that_are_given(
     rt: HostRuntime,
 ) -> Result<(), Fail> {
     let alloc = rt.alloc();
-    let mut inbox = Inbox::new(alloc);
-    let mut future = above_one(alloc)?;
-    deliver(alloc, &mut inbox, 0, &[1, 0, 0, 0, 2, 0, 0, 0])?;
-    deliver(alloc, &mut inbox, 1, &[3, 0, 0, 0])?;
-    assert!(rt; gives(alloc, &mut future, &inbox, &[Some(2), Some(3)]));
-    assert!(rt; are_rows(alloc, &future, &[1, 2]));
-    Ok(())
-}
-
-#[test]
-fn an_item_outside_a_mask_is_null(rt: HostRuntime) -> Result<(), Fail> {
-    let alloc = rt.alloc();
-    let inbox = Inbox::new(alloc);
-    let mut future = masked(alloc, &[false, false, true])?;
-    assert!(rt; gives(alloc, &mut future, &inbox, &[None, None, Some(3)]));
-    Ok(())
-}
-
-/// The numbers, outside each of two masks null.
-fn masked_twice(alloc: Global) -> Result<ArrayFuture, Fail> {
-    let second = known(alloc, &[false, true, true])?;
-    Ok(masked(alloc, &[true, true, false])?.masked(second)?)
-}
-
-#[test]
-fn masks_are_put_on_more_than_once(rt: HostRuntime) -> Result<(), Fail> {
-    let alloc = rt.alloc();
-    let inbox = Inbox::new(alloc);
-    let mut future = masked_twice(alloc)?;
-    assert!(rt; gives(alloc, &mut future, &inbox, &[None, Some(2), None]));
+    let text = told(alloc, above_one(alloc)?, "0=1,2 1=3 poll rows")?;
+    assert_eq!(rt; text.as_str(), "gives 2 3; rows 1 2");
     Ok(())
 }
 
@@ -100,30 +72,29 @@ fn leaf_above_one(alloc: Global) -> Result<ArrayFuture, Fail> {
 #[test]
 fn a_projection_waits_for_its_masks_first(rt: HostRuntime) -> Result<(), Fail> {
     let alloc = rt.alloc();
-    let mut inbox = Inbox::new(alloc);
-    let mut future = leaf_above_one(alloc)?;
-    assert!(rt; waits(alloc, &mut future, &inbox, 0));
-    deliver(alloc, &mut inbox, 0, &[1, 0, 0, 0, 2, 0, 0, 0])?;
-    assert!(rt; waits(alloc, &mut future, &inbox, 1));
-    deliver(alloc, &mut inbox, 1, &[3, 0, 0, 0])?;
-    assert!(rt; gives(alloc, &mut future, &inbox, &[None, Some(2), None]));
+    let text = told(alloc, leaf_above_one(alloc)?, "poll 0=1,2 poll 1=3 poll")?;
+    assert_eq!(rt; text.as_str(), "wants 0; wants 1; gives null 2 null");
     Ok(())
-}
-
-/// Whether the next poll of a mask gives these bits.
-fn is_mask(alloc: Global, mask: &mut MaskFuture, inbox: &Inbox, bits: &[bool]) -> bool {
-    let poll = mask.poll(alloc, inbox);
-    gives_mask(&poll, bits)
 }
 
 #[test]
 fn pruning_keeps_the_mask_and_wants_nothing(rt: HostRuntime) -> Result<(), Fail> {
     let alloc = rt.alloc();
-    let inbox = Inbox::new(alloc);
     let plan = plan_above_one(alloc)?;
-    let mut mask = prune(alloc, &plan, [true, false, true])?;
-    assert!(rt; is_mask(alloc, &mut mask, &inbox, &[true, false, true]));
+    let mask = prune(alloc, &plan, [true, false, true])?;
+    assert_eq!(rt; told_mask(alloc, mask, "poll")?.as_str(), "gives 101");
     Ok(())
+}
+
+// ---- threads
+/// Whether a poll gives null, 2 and null.
+fn gives_two(poll: &Poll<Array>) -> bool {
+    match poll {
+        Poll::Ready(array) => {
+            matches!(array.as_slice(), [Value::Null, Value::Int(2), Value::Null])
+        }
+        _ => false,
+    }
 }
 
 /// A future, and whether its last poll gave what was wanted of it.
@@ -135,7 +106,7 @@ struct Asked {
 
 impl Asked {
     fn ask(&mut self, alloc: Global, inbox: &Inbox) {
-        let gave = gives(alloc, &mut self.future, inbox, &[None, Some(2), None]);
+        let gave = gives_two(&self.future.poll(alloc, inbox));
         self.gave = gave;
     }
 }
@@ -170,8 +141,8 @@ fn threads_poll_futures_over_one_inbox(rt: HostRuntime) -> Result<(), Fail> {
     let mut asked = three(alloc)?;
     ask_each(&rt, alloc, &mut asked, &inbox);
     assert_eq!(rt; count(&asked), 0);
-    deliver(alloc, &mut inbox, 0, &[1, 0, 0, 0, 2, 0, 0, 0])?;
-    deliver(alloc, &mut inbox, 1, &[3, 0, 0, 0])?;
+    deliver(alloc, &mut inbox, "0=1,2")?;
+    deliver(alloc, &mut inbox, "1=3")?;
     ask_each(&rt, alloc, &mut asked, &inbox);
     assert_eq!(rt; count(&asked), 3);
     Ok(())

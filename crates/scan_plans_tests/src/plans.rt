@@ -1,131 +1,101 @@
-//! Projections and filters of plans, polled before and after segments arrive.
+//! Projections and filters of plans, polled before and after segments arrive. The leaf has the rows 1 and 2 in the
+//! segment 0 and 3 in the segment 1.
+ghost use Rattle.std.specs.Prelude.{IfOk};
 ghost use Rattle.scan_plans.specs.Meaning.{Within};
 
 use crate::fixtures::{
-    deliver, filter, gives_mask, gives_numbers, miss, plan_above_one, plan_above_one_in,
-    plan_of_leaf, plan_of_numbers, plan_of_one, project, project_all, spoils, wants,
+    bits_of, filter, plan_above_one, plan_above_one_in, plan_of_leaf, plan_of_numbers, plan_of_one,
+    project, project_all,
 };
+use crate::lists::{plan_of_lengths, plan_of_lists};
+use crate::stories::{told, told_mask};
 use scan_plans::{ArrayFuture, MaskFuture, Plan};
-use scan_splits::Inbox;
 use std::alloc::Global;
 use std::sync::Arc;
 use std::test::Fail;
 
-/// Whether the next poll of a projection wants one segment and no other.
-fn waits(alloc: Global, future: &mut ArrayFuture, inbox: &Inbox, id: u32) -> bool {
-    let poll = future.poll(alloc, inbox);
-    wants(&poll, id)
+/// The two sides of a mark.
+fn sides<'a>(line: &'a str, mark: &str) -> Result<(&'a str, &'a str), Fail> {
+    match line.split_once(mark) {
+        Some(sides) => Ok(sides),
+        None => Err(Fail::from("half a line")),
+    }
 }
 
-/// Whether it gives these numbers.
-fn gives(alloc: Global, future: &mut ArrayFuture, inbox: &Inbox, numbers: &[i128]) -> bool {
-    let poll = future.poll(alloc, inbox);
-    gives_numbers(&poll, numbers)
+/// The plan of `$` over the leaf, numbers in memory, lists or lengths, or of 1.
+fn plan_of(alloc: Global, name: &str) -> Result<Arc<Plan>, Fail>
+    ensures { IfOk result (λ p. Within (p.value).tree 3) }
+{
+    match name {
+        "leaf" => plan_of_leaf(alloc),
+        "numbers" => plan_of_numbers(alloc),
+        "lists" => plan_of_lists(alloc),
+        "lengths" => plan_of_lengths(alloc),
+        _ => plan_of_one(alloc),
+    }
 }
 
-/// Whether it finds a segment no good.
-fn refuses(alloc: Global, future: &mut ArrayFuture, inbox: &Inbox, id: u32) -> bool {
-    let poll = future.poll(alloc, inbox);
-    spoils(&poll, id)
+/// The projection of a plan's rows: `leaf 001`, or `leaf all`, which knows that all are wanted.
+fn future_of(alloc: Global, name: &str, rows: &str) -> Result<ArrayFuture, Fail> {
+    let plan = plan_of(alloc, name)?;
+    if rows == "all" {
+        return project_all(alloc, &plan);
+    }
+    project(alloc, &plan, bits_of(rows)?)
 }
 
-/// The last row of the leaf, which stands in the segment 1.
-fn last_row(alloc: Global) -> Result<ArrayFuture, Fail> {
-    let plan = plan_of_leaf(alloc)?;
-    project(alloc, &plan, [false, false, true])
-}
-
-#[test]
-fn a_row_waits_for_its_segment_alone(rt: HostRuntime) -> Result<(), Fail> {
-    let alloc = rt.alloc();
-    let mut inbox = Inbox::new(alloc);
-    let mut future = last_row(alloc)?;
-    assert!(rt; waits(alloc, &mut future, &inbox, 1));
-    deliver(alloc, &mut inbox, 1, &[3, 0, 0, 0])?;
-    assert!(rt; gives(alloc, &mut future, &inbox, &[3]));
-    Ok(())
-}
-
-#[test]
-fn a_missing_segment_is_no_good(rt: HostRuntime) -> Result<(), Fail> {
-    let alloc = rt.alloc();
-    let mut inbox = Inbox::new(alloc);
-    let mut future = last_row(alloc)?;
-    miss(&mut inbox, 1)?;
-    assert!(rt; refuses(alloc, &mut future, &inbox, 1));
-    Ok(())
-}
-
-/// All rows of the leaf, which stand in the segments 0 and 1.
-fn all_rows(alloc: Global) -> Result<ArrayFuture, Fail> {
-    let plan = plan_of_leaf(alloc)?;
-    project_all(alloc, &plan)
+/// Whether `PLAN ROWS | SCRIPT -> TEXT` holds.
+fn holds(alloc: Global, line: &str) -> Result<bool, Fail> {
+    let (case, wanted) = sides(line, " -> ")?;
+    let (case, script) = sides(case, " | ")?;
+    let (name, rows) = sides(case, " ")?;
+    let future = future_of(alloc, name, rows)?;
+    Ok(told(alloc, future, script)?.as_str() == wanted)
 }
 
 #[test]
-fn a_first_segment_that_is_no_good_is_told_before_the_second_has_come(
+fn rows_wait_for_their_segments_alone_and_tell_what_is_no_good(
     rt: HostRuntime,
 ) -> Result<(), Fail> {
-    let alloc = rt.alloc();
-    let mut inbox = Inbox::new(alloc);
-    let mut future = all_rows(alloc)?;
-    deliver(alloc, &mut inbox, 0, &[1, 0, 0])?;
-    assert!(rt; refuses(alloc, &mut future, &inbox, 0));
+    for line in "leaf 001 | poll 1=3 poll -> wants 1; gives 3
+leaf 001 | 1! poll -> 1 is no good
+leaf all | 0:1,0,0 poll -> 0 is no good
+leaf all | 1:3 poll -> 1 is no good
+leaf all | 0=1,2 poll 1=3 poll -> wants 1; gives 1 2 3
+numbers all | poll -> gives 1 2 3
+one all | poll -> gives 1 1 1"
+        .lines()
+    {
+        assert!(rt; holds(rt.alloc(), line)?, "at {line}");
+    }
     Ok(())
 }
 
+// Three lists of the elements of the leaf. Their four offsets are in the segment 2.
 #[test]
-fn a_second_segment_that_is_no_good_is_told_before_the_first_has_come(
-    rt: HostRuntime,
-) -> Result<(), Fail> {
-    let alloc = rt.alloc();
-    let mut inbox = Inbox::new(alloc);
-    let mut future = all_rows(alloc)?;
-    deliver(alloc, &mut inbox, 1, &[3])?;
-    assert!(rt; refuses(alloc, &mut future, &inbox, 1));
+fn lists_want_offsets_first_and_lengths_want_them_alone(rt: HostRuntime) -> Result<(), Fail> {
+    for line in "lists 001 | poll 2=0,2,2,3 poll 1=3 poll -> wants 2; wants 1; gives [ 3 ]
+lists 010 | 2=0,2,2,3 poll -> gives [ ]
+lists all | poll 1=3 poll 2=0,2,2,3 poll 0=1,2 poll -> wants 2 0 1; wants 2 0; wants 0; gives [ 1 2 ] [ ] [ 3 ]
+lists all | 0=1,2 1=3 2=1,2,2,2 poll -> gives [ 2 ] [ ] [ ]
+lists 100 | 2=0,2,2,2 0=1,2 poll -> gives [ 1 2 ]
+lists all | 2=0,2,2,2 0=1,2 poll 1! poll -> wants 1; 1 is no good
+lists 000 | poll -> gives
+lists 001 | 2=0,2,2,1 poll -> 2 is no good
+lengths all | poll 2=0,2,2,3 poll -> wants 2; gives 2 0 1
+lengths all | 2=0,2,2,4 poll -> 2 is no good"
+        .lines()
+    {
+        assert!(rt; holds(rt.alloc(), line)?, "at {line}");
+    }
     Ok(())
 }
 
-#[test]
-fn a_good_segment_waits_for_the_other(rt: HostRuntime) -> Result<(), Fail> {
-    let alloc = rt.alloc();
-    let mut inbox = Inbox::new(alloc);
-    let mut future = all_rows(alloc)?;
-    deliver(alloc, &mut inbox, 0, &[1, 0, 0, 0, 2, 0, 0, 0])?;
-    assert!(rt; waits(alloc, &mut future, &inbox, 1));
-    deliver(alloc, &mut inbox, 1, &[3, 0, 0, 0])?;
-    assert!(rt; gives(alloc, &mut future, &inbox, &[1, 2, 3]));
-    Ok(())
-}
-
-/// Which of the first two rows of the leaf are above 1.
-fn above_one(alloc: Global) -> Result<MaskFuture, Fail> {
+/// Whether a filter for what is above 1 in the leaf has this story, beginning from these rows.
+fn filters(alloc: Global, rows: &str, script: &str, wanted: &str) -> Result<bool, Fail> {
     let plan = plan_above_one(alloc)?;
-    filter(alloc, &plan, [true, true, false])
-}
-
-/// Whether the next poll of a mask wants one segment and no other.
-fn holds_back(alloc: Global, mask: &mut MaskFuture, inbox: &Inbox, id: u32) -> bool {
-    let poll = mask.poll(alloc, inbox);
-    wants(&poll, id)
-}
-
-/// Whether the next poll of a mask gives these bits.
-fn is_mask(alloc: Global, mask: &mut MaskFuture, inbox: &Inbox, bits: &[bool]) -> bool {
-    let poll = mask.poll(alloc, inbox);
-    gives_mask(&poll, bits)
-}
-
-#[test]
-fn a_filter_keeps_the_true_rows_above_one(rt: HostRuntime) -> Result<(), Fail> {
-    let alloc = rt.alloc();
-    let mut inbox = Inbox::new(alloc);
-    let mut mask = above_one(alloc)?;
-    assert!(rt; holds_back(alloc, &mut mask, &inbox, 0));
-    deliver(alloc, &mut inbox, 0, &[1, 0, 0, 0, 2, 0, 0, 0])?;
-    deliver(alloc, &mut inbox, 1, &[3, 0, 0, 0])?;
-    assert!(rt; is_mask(alloc, &mut mask, &inbox, &[false, true, false]));
-    Ok(())
+    let mask = filter(alloc, &plan, bits_of(rows)?)?;
+    Ok(told_mask(alloc, mask, script)?.as_str() == wanted)
 }
 
 /// The rows that are above 1 in the leaf and in that of segment 2.
@@ -137,53 +107,18 @@ fn above_one_in_both(alloc: Global) -> Result<MaskFuture, Fail> {
 }
 
 #[test]
+fn filters_keep_the_true_rows_above_one(rt: HostRuntime) -> Result<(), Fail> {
+    let alloc = rt.alloc();
+    assert!(rt; filters(alloc, "110", "poll 0=1,2 1=3 poll", "wants 0; gives 010")?);
+    assert!(rt; filters(alloc, "111", "0:1,0,0 poll", "0 is no good")?);
+    Ok(())
+}
+
+#[test]
 fn a_filter_that_ran_wants_nothing_more(rt: HostRuntime) -> Result<(), Fail> {
     let alloc = rt.alloc();
-    let mut first = Inbox::new(alloc);
-    let mut mask = above_one_in_both(alloc)?;
-    deliver(alloc, &mut first, 0, &[1, 0, 0, 0, 2, 0, 0, 0])?;
-    deliver(alloc, &mut first, 1, &[3, 0, 0, 0])?;
-    assert!(rt; holds_back(alloc, &mut mask, &first, 2));
-    let mut second = Inbox::new(alloc);
-    deliver(alloc, &mut second, 2, &[5, 0, 0, 0, 1, 0, 0, 0, 7, 0, 0, 0])?;
-    assert!(rt; is_mask(alloc, &mut mask, &second, &[false, false, true]));
-    Ok(())
-}
-
-/// Whether the next poll of a mask finds a segment no good.
-fn refuses_mask(alloc: Global, mask: &mut MaskFuture, inbox: &Inbox, id: u32) -> bool {
-    let poll = mask.poll(alloc, inbox);
-    spoils(&poll, id)
-}
-
-#[test]
-fn a_filter_tells_a_segment_that_is_no_good_before_the_other_has_come(
-    rt: HostRuntime,
-) -> Result<(), Fail> {
-    let alloc = rt.alloc();
-    let mut inbox = Inbox::new(alloc);
-    let plan = plan_above_one(alloc)?;
-    let mut mask = filter(alloc, &plan, [true, true, true])?;
-    deliver(alloc, &mut inbox, 0, &[1, 0, 0])?;
-    assert!(rt; refuses_mask(alloc, &mut mask, &inbox, 0));
-    Ok(())
-}
-
-/// Whether a plan gives these numbers before anything has arrived.
-fn gives_at_once(alloc: Global, plan: &Arc<Plan>, numbers: &[i128]) -> Result<bool, Fail>
-    requires { Within (plan.now.value).tree 3 }
-{
-    let inbox = Inbox::new(alloc);
-    let mut future = project_all(alloc, plan)?;
-    Ok(gives(alloc, &mut future, &inbox, numbers))
-}
-
-#[test]
-fn rows_in_memory_and_constants_wait_for_nothing(rt: HostRuntime) -> Result<(), Fail> {
-    let alloc = rt.alloc();
-    let rows = plan_of_numbers(alloc)?;
-    assert!(rt; gives_at_once(alloc, &rows, &[1, 2, 3])?);
-    let ones = plan_of_one(alloc)?;
-    assert!(rt; gives_at_once(alloc, &ones, &[1, 1, 1])?);
+    let mask = above_one_in_both(alloc)?;
+    let text = told_mask(alloc, mask, "0=1,2 1=3 poll anew 2=5,1,7 poll")?;
+    assert_eq!(rt; text.as_str(), "wants 2; gives 001");
     Ok(())
 }
