@@ -1,40 +1,17 @@
 //! A masked field of a nullable struct, joined of its items.
 ghost use Rattle.std.specs.Prelude.{◌≡◌, IfOk, length};
 ghost use Rattle.scan_expr.specs.Infer.{infer};
-ghost use Rattle.scan_partition.specs.Conditions.{IsStruct};
-ghost use Rattle.scan_partition.specs.Partable.{CanPart};
 
-use crate::fixtures::{int, name};
-use scan_expr::{BoundExpression, Expression};
-use scan_partition::{PartitionedExpr, expand_struct_root, partition};
-use scan_values::{Array, DType, Nullability, StructFields, Value};
+use crate::parting::expanded;
+use scan_expr::BoundExpression;
+use scan_partition::{PartitionedExpr, partition};
+use scan_values::{Array, Value};
 use std::alloc::Global;
 use std::test::Fail;
 
-/// The nullable struct of the number `a`.
-fn nullable(alloc: Global) -> Result<DType, Fail>
-    ensures { IfOk result (λ d. IsStruct d) }
-{
-    let mut names = Vec::new(alloc);
-    names.push(name(alloc, "a")?)?;
-    let mut dtypes = Vec::new(alloc);
-    dtypes.push(int())?;
-    Ok(DType::struct_(StructFields::new(names, dtypes), Nullability::Nullable)?)
-}
-
-/// `$.a`, expanded: `mask($.a, is_not_null($))`.
-fn masked_field(alloc: Global) -> Result<BoundExpression, Fail>
-    ensures { IfOk result (λ b. CanPart b) }
-{
-    let scope = nullable(alloc)?;
-    let field = Expression::get_item(alloc, name(alloc, "a")?, Expression::root())?;
-    let bound = field.bind(alloc, &scope)?;
-    Ok(expand_struct_root(alloc, &bound)?)
-}
-
-/// The masked field, by its items.
+/// `$.a` of a nullable struct, which is `mask($.a, is_not_null($))` there, by its items.
 fn masked_parts(alloc: Global) -> Result<PartitionedExpr, Fail> {
-    let expanded = masked_field(alloc)?;
+    let expanded = expanded(alloc, "i32 struct:a ? | $ get:a")?;
     Ok(partition(alloc, &expanded)?)
 }
 

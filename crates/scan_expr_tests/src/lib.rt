@@ -1,23 +1,28 @@
-//! Worked examples over public calls: values, expressions, and expressions taken apart by what they read.
+//! Worked examples over public calls: values, expressions, expressions taken apart by what they read, and columns. Most
+//! are lines of a text, each read and held to what it says.
 #![tactic(auto)]
 
 #[cfg(test)]
-mod closing;
+mod binding;
 #[cfg(test)]
-mod expressions;
+mod columns;
+#[cfg(test)]
+mod copies;
 #[cfg(test)]
 mod fixtures;
 #[cfg(test)]
 mod joins;
 #[cfg(test)]
+mod leaves;
+#[cfg(test)]
 mod masks;
 #[cfg(test)]
-mod row_numbers;
+mod parting;
 #[cfg(test)]
-mod stepping;
+mod reading;
 #[cfg(test)]
-mod structs;
-#[cfg(test)]
-mod sums;
+mod tables;
 #[cfg(test)]
 mod values;
+#[cfg(test)]
+mod words;

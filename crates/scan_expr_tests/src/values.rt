@@ -1,73 +1,18 @@
-//! Dtypes, values and arrays.
-use crate::fixtures::{int, name};
+//! Dtypes, values and arrays. An array is said as `DTYPE @ VALUES`.
+use crate::binding::sides;
+use crate::words::{dtype, names, value, values};
 use scan_values::{
-    Array, ArrayFault, DType, DTypeFault, FieldName, Mask, NameFault, Names, Nullability, PType,
-    StructFields, Text, Value, Values, names_fault,
+    Array, ArrayFault, DType, DTypeFault, Mask, NameFault, Names, Nullability, Value, names_fault,
 };
 use std::alloc::Global;
-use std::string::String;
 use std::test::Fail;
 use std::thread::join;
-
-fn integers(alloc: Global, numbers: &[i128]) -> Result<Vec<Value>, Fail> {
-    let mut items = Vec::with_capacity(alloc, numbers.len())?;
-    for number in numbers {
-        items.push(Value::Int(*number))?;
-    }
-    Ok(items)
-}
-
-fn names(alloc: Global, texts: &[&str]) -> Result<Vec<FieldName>, Fail> {
-    let mut names = Vec::new(alloc);
-    for text in texts {
-        names.push(name(alloc, *text)?)?;
-    }
-    Ok(names)
-}
-
-fn texts(alloc: Global, count: usize) -> Result<Vec<DType>, Fail> {
-    let mut dtypes = Vec::new(alloc);
-    for _ in 0..count {
-        dtypes.push(DType::utf8(Nullability::NonNullable))?;
-    }
-    Ok(dtypes)
-}
-
-fn array(alloc: Global, numbers: &[i128]) -> Result<Array, Fail> {
-    Ok(Array::try_new(int(), integers(alloc, numbers)?)?)
-}
-
-/// Whether a value is a number, or Null where none is wanted.
-fn is_number(value: &Value, wanted: Option<i128>) -> bool {
-    match (value, wanted) {
-        (Value::Int(number), Some(other)) => *number == other,
-        (Value::Null, None) => true,
-        _ => false,
-    }
-}
-
-fn are_numbers(values: &[Value], wanted: &[Option<i128>]) -> bool {
-    if values.len() != wanted.len() {
-        return false;
-    }
-    for (i, value) in values.iter().enumerate() {
-        if !is_number(value, wanted[i]) {
-            return false;
-        }
-    }
-    true
-}
-
-/// Whether an array is of numbers of i32 of this nullability, these.
-fn is_array(array: &Array, n: Nullability, wanted: &[Option<i128>]) -> bool {
-    *array.dtype() == DType::primitive(PType::I32, n) && are_numbers(array.as_slice(), wanted)
-}
 
 // ---- dtypes
 #[test]
 fn lists_nest_to_depth_66(rt: HostRuntime) -> Result<(), Fail> {
     let alloc = rt.alloc();
-    let mut dtype = int();
+    let mut dtype = DType::i32();
     for depth in 2..67 {
         dtype = DType::list(alloc, dtype, Nullability::NonNullable)?;
         assert_eq!(rt; dtype.depth(), depth);
@@ -77,91 +22,38 @@ fn lists_nest_to_depth_66(rt: HostRuntime) -> Result<(), Fail> {
     Ok(())
 }
 
-/// The fields a, b and a again.
-fn twice_a(alloc: Global) -> Result<StructFields, Fail> {
-    let names = names(alloc, &["a", "b", "a"])?;
-    let dtypes = texts(alloc, names.len())?;
-    if names.len() != dtypes.len() {
-        return Err(Fail::from("uneven"));
-    }
-    Ok(StructFields::new(names, dtypes))
-}
-
-fn is_copied(alloc: Global, dtype: &DType) -> Result<bool, Fail> {
-    let copy = dtype.try_clone(alloc)?;
-    Ok(copy == *dtype)
-}
-
 #[test]
 fn a_struct_tells_its_repeated_name(rt: HostRuntime) -> Result<(), Fail> {
     let alloc = rt.alloc();
-    let dtype = DType::struct_(twice_a(alloc)?, Nullability::Nullable)?;
+    let dtype = dtype(alloc, "text text text struct:a,b,a ?")?;
     assert_eq!(rt; dtype.names_fault(alloc)?, Some(NameFault::Repeated));
-    assert!(rt; is_copied(alloc, &dtype)?);
+    assert!(rt; dtype.try_clone(alloc)? == dtype);
     Ok(())
+}
+
+fn fault_in(alloc: Global, text: &str) -> Result<Option<NameFault>, Fail> {
+    let names = names(alloc, text)?;
+    Ok(names_fault(alloc, names.as_slice())?)
 }
 
 #[test]
 fn names_are_looked_at_in_turn(rt: HostRuntime) -> Result<(), Fail> {
     let alloc = rt.alloc();
-    for (second, wanted) in [
-        ("b", None),
-        ("a", Some(NameFault::Repeated)),
-        ("#validity", Some(NameFault::Reserved)),
-    ] {
-        let names = names(alloc, &["a", second])?;
-        assert_eq!(rt; names_fault(alloc, names.as_slice())?, wanted);
-    }
+    assert_eq!(rt; fault_in(alloc, "a,b")?, None);
+    assert_eq!(rt; fault_in(alloc, "a,a")?, Some(NameFault::Repeated));
+    assert_eq!(rt; fault_in(alloc, "a,#validity")?, Some(NameFault::Reserved));
     Ok(())
 }
 
 // ---- arrays
-fn is_slice(alloc: Global, array: &Array, wanted: &[Option<i128>]) -> Result<bool, Fail> {
-    if array.len() != 3 {
-        return Ok(false);
-    }
-    let part = array.slice(alloc, 1..3)?;
-    Ok(is_array(&part, Nullability::NonNullable, wanted))
+fn array(alloc: Global, case: &str) -> Result<Array, Fail> {
+    let (words, rows) = sides(case, " @ ")?;
+    Ok(Array::try_new(dtype(alloc, words)?, values(alloc, rows)?)?)
 }
 
-fn is_filtered(
-    alloc: Global,
-    array: &Array,
-    rows: &Mask,
-    wanted: &[Option<i128>],
-) -> Result<bool, Fail> {
-    if array.len() != rows.len() {
-        return Ok(false);
-    }
-    let kept = array.filter(alloc, rows)?;
-    Ok(is_array(&kept, Nullability::NonNullable, wanted))
-}
-
-fn is_masked(
-    alloc: Global,
-    array: &Array,
-    rows: &Mask,
-    wanted: &[Option<i128>],
-) -> Result<bool, Fail> {
-    if array.len() != rows.len() {
-        return Ok(false);
-    }
-    let masked = array.mask(alloc, rows)?;
-    Ok(is_array(&masked, Nullability::Nullable, wanted))
-}
-
-fn is_array_copied(alloc: Global, array: &Array, wanted: &[Option<i128>]) -> Result<bool, Fail> {
-    let copy = array.try_clone(alloc)?;
-    Ok(is_array(&copy, Nullability::NonNullable, wanted))
-}
-
-#[test]
-fn rows_of_an_array(rt: HostRuntime) -> Result<(), Fail> {
-    let alloc = rt.alloc();
-    let array = array(alloc, &[1, 2, 3])?;
-    assert!(rt; is_slice(alloc, &array, &[Some(2), Some(3)])?);
-    assert!(rt; is_array_copied(alloc, &array, &[Some(1), Some(2), Some(3)])?);
-    Ok(())
+fn is_array(alloc: Global, found: &Array, case: &str) -> Result<bool, Fail> {
+    let wanted = array(alloc, case)?;
+    Ok(*found.dtype() == *wanted.dtype() && found.as_slice() == wanted.as_slice())
 }
 
 /// The mask of the first and the third of three rows.
@@ -169,22 +61,38 @@ fn first_and_third(alloc: Global) -> Result<Mask, Fail> {
     Ok(Mask::from_bools(Vec::from_slice(alloc, &[true, false, true])?))
 }
 
-#[test]
-fn rows_of_an_array_under_a_mask(rt: HostRuntime) -> Result<(), Fail> {
-    let alloc = rt.alloc();
-    let array = array(alloc, &[1, 2, 3])?;
+fn filtered(alloc: Global, array: &Array) -> Result<Array, Fail> {
     let rows = first_and_third(alloc)?;
-    assert!(rt; is_filtered(alloc, &array, &rows, &[Some(1), Some(3)])?);
-    assert!(rt; is_masked(alloc, &array, &rows, &[Some(1), None, Some(3)])?);
-    Ok(())
+    if array.len() != rows.len() {
+        return Err(Fail::from("another length"));
+    }
+    Ok(array.filter(alloc, &rows)?)
 }
 
-/// The truth values null and true.
-fn truths(alloc: Global) -> Result<Array, Fail> {
-    let mut truths = Vec::new(alloc);
-    truths.push(Value::Null)?;
-    truths.push(Value::Bool(true))?;
-    Ok(Array::try_new(DType::bool(Nullability::Nullable), truths)?)
+fn masked(alloc: Global, array: &Array) -> Result<Array, Fail> {
+    let rows = first_and_third(alloc)?;
+    if array.len() != rows.len() {
+        return Err(Fail::from("another length"));
+    }
+    Ok(array.mask(alloc, &rows)?)
+}
+
+fn last_two(alloc: Global, array: &Array) -> Result<Array, Fail> {
+    if array.len() != 3 {
+        return Err(Fail::from("another length"));
+    }
+    Ok(array.slice(alloc, 1..3)?)
+}
+
+#[test]
+fn rows_of_an_array(rt: HostRuntime) -> Result<(), Fail> {
+    let alloc = rt.alloc();
+    let array = array(alloc, "i32 @ 1 2 3")?;
+    assert!(rt; is_array(alloc, &last_two(alloc, &array)?, "i32 @ 2 3")?);
+    assert!(rt; is_array(alloc, &array.try_clone(alloc)?, "i32 @ 1 2 3")?);
+    assert!(rt; is_array(alloc, &filtered(alloc, &array)?, "i32 @ 1 3")?);
+    assert!(rt; is_array(alloc, &masked(alloc, &array)?, "i32 ? @ 1 null 3")?);
+    Ok(())
 }
 
 fn is_mask(alloc: Global, array: &Array, wanted: &[bool]) -> Result<bool, Fail> {
@@ -198,25 +106,16 @@ fn is_mask(alloc: Global, array: &Array, wanted: &[bool]) -> Result<bool, Fail> 
 #[test]
 fn truth_values_as_a_mask(rt: HostRuntime) -> Result<(), Fail> {
     let alloc = rt.alloc();
-    let truths = truths(alloc)?;
+    let truths = array(alloc, "bool ? @ null true")?;
     assert!(rt; is_mask(alloc, &truths, &[false, true])?);
     Ok(())
-}
-
-/// The value of a text.
-fn text(alloc: Global) -> Result<Value, Fail> {
-    Ok(Value::Text(Text::new(String::from_str(alloc, "x")?)))
 }
 
 #[test]
 fn a_text_is_no_number(rt: HostRuntime) -> Result<(), Fail> {
     let alloc = rt.alloc();
-    let mut items = Vec::new(alloc);
-    items.push(text(alloc)?)?;
-    assert_eq!(rt;
-        Array::try_new(int(), items).err(),
-        Some(ArrayFault::NotOfType)
-    );
+    let fault = Array::try_new(DType::i32(), values(alloc, "text:x")?).err();
+    assert_eq!(rt; fault, Some(ArrayFault::NotOfType));
     Ok(())
 }
 
@@ -224,37 +123,32 @@ fn a_text_is_no_number(rt: HostRuntime) -> Result<(), Fail> {
 #[test]
 fn a_copy_of_names(rt: HostRuntime) -> Result<(), Fail> {
     let alloc = rt.alloc();
-    let names = Names::new(names(alloc, &["a", "b"])?);
-    let copy = names.try_clone(alloc)?;
-    assert!(rt; copy == names);
+    let names = Names::new(names(alloc, "a,b")?);
+    assert!(rt; names.try_clone(alloc)? == names);
     Ok(())
-}
-
-/// The struct of 3 and of a text.
-fn nested(alloc: Global) -> Result<Value, Fail> {
-    let mut items = integers(alloc, &[3])?;
-    items.push(text(alloc)?)?;
-    Ok(Value::Struct(Values::new(items)))
 }
 
 #[test]
 fn a_copy_of_a_nested_value(rt: HostRuntime) -> Result<(), Fail> {
     let alloc = rt.alloc();
-    let value = nested(alloc)?;
-    let copy = value.try_clone(alloc)?;
-    assert!(rt; copy == value);
+    let value = value(alloc, "3 text:x struct:2")?;
+    assert!(rt; value.try_clone(alloc)? == value);
     Ok(())
 }
 
 #[test]
 fn arrays_and_values_pass_through_a_thread(rt: HostRuntime) -> Result<(), Fail> {
     let alloc = rt.alloc();
-    let array = array(alloc, &[1, 2])?;
-    let values = integers(alloc, &[3])?;
+    let array = array(alloc, "i32 @ 1 2")?;
+    let values = values(alloc, "3")?;
     let (array, values) = join(&rt, move || array, move || values);
-    assert!(rt; are_numbers(array.as_slice(), &[Some(1), Some(2)]));
-    assert!(rt; are_numbers(values.as_slice(), &[Some(3)]));
+    assert!(rt; has_values(alloc, array.as_slice(), "1 2")?);
+    assert!(rt; has_values(alloc, values.as_slice(), "3")?);
     Ok(())
+}
+
+fn has_values(alloc: Global, found: &[Value], wanted: &str) -> Result<bool, Fail> {
+    Ok(found == values(alloc, wanted)?.as_slice())
 }
 
 #[test]

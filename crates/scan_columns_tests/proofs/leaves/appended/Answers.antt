@@ -1,6 +1,0 @@
-use Rattle.std.proofs.Common.{◌≡◌, sym, ◌∙◌}
-use Rattle.scan_columns_tests.proofs.Typing.{of_type}
-use Rattle.scan_columns_tests.proofs.leaves.appended.Goals as goal
-
-pub append-requires : goal.append-requires
-append-requires c = sym c.dtype-2.ensures ∙ sym (of_type c.dtype.result.now c.dtype-2.result.now (sym c.if-ne.false ∙ c.ne.ensures)) ∙ c.dtype.ensures
