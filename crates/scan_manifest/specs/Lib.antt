@@ -1,6 +1,7 @@
 pub mod Forms
 pub mod Parse
 pub mod Json
+pub mod Digits
 pub mod DTypes
 pub mod Layouts
 pub mod Exprs

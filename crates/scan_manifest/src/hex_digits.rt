@@ -1,57 +1,74 @@
-//! Hex texts, read in two passes that a compiler makes vectors of: whether all are digits, and then which bytes they are.
-//! What is wrong with a text is told by `hex`.
-ghost use Rattle.std.specs.Prelude.{◌≡◌, ◌*◌, ◌⊎◌, ◌<◌, length, true, Some, Ok, IfOk, IfErr, EachIndex, slice_index};
-ghost use Rattle.hex.specs.Hex.{decode_of, decode_pairs, is_hex_digit, hex_digit_value};
+//! Hex texts, read 64 digits at a time into room that was not filled before. What is wrong with one is told by `hex`.
+ghost use Rattle.std.specs.Prelude.{◌≡◌, ◌⊎◌, ◌≤◌, ℕ, length, drop, IfOk, IfErr, IfSome, Ok};
+ghost use Rattle.hex.specs.Hex.{decode_of, decode_pairs, hex_digit_value, pair_value};
 ghost use Rattle.hex.specs.declared.error.FromHexError.TheVariants.{OutOfMemory};
+ghost use Rattle.scan_manifest.specs.Digits.{prepend};
 
+use crate::hex_lanes::decode_block;
 use hex::FromHexError;
-use std::alloc::Global;
+use std::alloc::{AllocError, Global};
+use std::simd::prelude::*;
 
-#[inline(always)]
-fn is_digit(c: u8) -> bool
-    ensures { result ≡ is_hex_digit c }
+fn digit(c: u8) -> Option<u8>
+    ensures { result ≡ hex_digit_value c }
 {
-    let is_number = (c >= 48) & (c <= 57);
-    let is_upper = (c >= 65) & (c <= 70);
-    let is_lower = (c >= 97) & (c <= 102);
-    is_number | is_upper | is_lower
-}
-
-#[inline(always)]
-fn digit(c: u8) -> u8
-    requires { is_hex_digit c ≡ true }
-    ensures value { hex_digit_value c ≡ Some result }
-    ensures bound { result < 16 }
-{
-    if c <= 57 {
-        c - 48
-    } else if c <= 70 {
-        c - 55
-    } else {
-        c - 87
+    match c {
+        b'A'..=b'F' => Some(c - 55),
+        b'a'..=b'f' => Some(c - 87),
+        b'0'..=b'9' => Some(c - 48),
+        _ => None,
     }
 }
 
-/// Whether each byte is a hex digit, of either case.
-fn are_digits(text: &[u8]) -> bool
-    ensures { result ≡ true → EachIndex text.now (λ k. is_hex_digit (slice_index text.now k) ≡ true) }
+/// The byte of two digits.
+fn pair(high: u8, low: u8) -> Option<u8>
+    ensures { IfSome result (λ v. (i : ℕ) → pair_value high low i ≡ Ok v) }
 {
-    let mut good = true;
-    for c in text {
-        good = good & is_digit(*c);
+    match digit(high) {
+        Some(high) => match digit(low) {
+            Some(low) => Some(high * 16 + low),
+            None => None,
+        },
+        None => None,
     }
-    good
 }
 
-/// The bytes of pairs of digits.
-fn decode_digits(text: &[u8], out: &mut [u8])
-    requires digits { EachIndex text.now (λ k. is_hex_digit (slice_index text.now k) ≡ true) }
-    requires pairs { length text.now ≡ 2 * length out.old }
-    ensures { decode_pairs 0 text.now ≡ Ok out.new }
+/// The bytes of a text whose digits before a place are these bytes; none where it is no hex text.
+fn decode_rest(text: &[u8], at: usize, bytes: Vec<u8>) -> Result<Option<Vec<u8>>, AllocError>
+    requires within { at ≤ length text.now }
+    requires before { decode_pairs 0 text.now ≡ prepend bytes.items (decode_pairs at (drop at text.now)) }
+    ensures { IfOk result (λ o. IfSome o (λ v. decode_pairs 0 text.now ≡ Ok v.items)) }
 {
-    'bytes: for i in 0..out.len() {
-        out[i] = digit(text[2 * i]) * 16 + digit(text[2 * i + 1]);
+    let mut bytes = bytes;
+    let mut at = at;
+    'pairs: while text.len() - at >= 2 {
+        let Some(byte) = pair(text[at], text[at + 1]) else {
+            return Ok(None);
+        };
+        bytes.push(byte)?;
+        at += 2;
     }
+    if at < text.len() {
+        return Ok(None);
+    }
+    Ok(Some(bytes))
+}
+
+/// The bytes of a text; none where it is no hex text.
+fn decode_digits(alloc: Global, text: &[u8]) -> Result<Option<Vec<u8>>, AllocError>
+    ensures { IfOk result (λ o. IfSome o (λ v. decode_pairs 0 text.now ≡ Ok v.items)) }
+{
+    let mut bytes = Vec::with_capacity(alloc, text.len() / 2)?;
+    let mut at = 0;
+    'blocks: while text.len() - at >= 64 {
+        let (block, good) = decode_block(u8x64::from_slice(&text[at..]));
+        if !good {
+            return Ok(None);
+        }
+        bytes.extend_from_slice(&block.to_array())?;
+        at += 64;
+    }
+    decode_rest(text, at, bytes)
 }
 
 /// The bytes of a hex text.
@@ -62,10 +79,8 @@ pub(crate) fn decode(alloc: Global, text: &[u8]) -> Result<Vec<u8>, FromHexError
     if text.len() % 2 != 0 {
         return hex::decode(alloc, text);
     }
-    if !are_digits(text) {
-        return hex::decode(alloc, text);
+    match decode_digits(alloc, text)? {
+        Some(bytes) => Ok(bytes),
+        None => hex::decode(alloc, text),
     }
-    let mut out = vec![in alloc; 0u8; text.len() / 2]?;
-    decode_digits(text, out.as_mut_slice());
-    Ok(out)
 }

@@ -5,6 +5,7 @@ mod agreement;
 mod dtype;
 mod expression;
 mod hex_digits;
+mod hex_lanes;
 mod json;
 mod layout;
 mod manifest;

@@ -2,6 +2,8 @@
 #![tactic(auto)]
 
 #[cfg(test)]
+mod digits;
+#[cfg(test)]
 mod dtypes;
 #[cfg(test)]
 mod expressions;

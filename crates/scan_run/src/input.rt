@@ -11,6 +11,9 @@ use thiserror::Error;
 /// The most bytes that are read of an input.
 pub const MOST_BYTES: usize = 67_108_864;
 
+/// So many bytes are read at a time: few enough that they stay in the nearest cache until they are copied.
+const PIECE: usize = 8_192;
+
 /// What one read gave: so many bytes at the front of the buffer, the end of the input, or a fault.
 #[derive(Clone, Copy, Debug, PartialEq, Eq)]
 pub enum InputRead {
@@ -53,7 +56,7 @@ impl From<AllocError> for ReadFault {
 }
 
 /// The bytes of an input, read to its end. More than `MOST_BYTES` bytes are refused, and then no more are read: whatever
-/// is answered, at most one piece of 65,536 bytes was read beyond them.
+/// is answered, at most 65,536 bytes were read beyond them.
 pub fn read_all<I: Input>(alloc: Global, input: &mut I) -> Result<Vec<u8>, ReadFault>
     ensures ok { IfOk result (λ bytes. GaveAll bytes.items (I.input input.old) (I.input input.new)) }
     ensures failed { result ≡ Err ReadFault.Failed → Rose (I.input input.old).faults (I.input input.new).faults }
@@ -65,7 +68,7 @@ pub fn read_all<I: Input>(alloc: Global, input: &mut I) -> Result<Vec<u8>, ReadF
     ensures faults { (I.input input.old).faults ≤ (I.input input.new).faults }
 {
     let mut bytes = Vec::new(alloc);
-    let mut buf = [0u8; 65_536];
+    let mut buf = [0u8; PIECE];
     'reading: while bytes.len() <= MOST_BYTES {
         match input.read_some(&mut buf) {
             InputRead::Bytes(n) => bytes.extend_from_slice(&buf[..n])?,

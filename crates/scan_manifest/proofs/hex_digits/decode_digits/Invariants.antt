@@ -1,8 +1,13 @@
-use Rattle.std.proofs.Common.{◌≡◌, ◌*◌, take, drop}
+use Rattle.std.proofs.Common.{◌≡◌, ◌-◌, ◌≤◌, length, drop}
 use Rattle.hex.specs.Hex.{decode_pairs}
-use Rattle.scan_manifest.proofs.HexPairs.{prepend}
+use Rattle.scan_manifest.specs.Digits.{prepend}
 use Rattle.scan_manifest.proofs.hex_digits.decode_digits.Given as goal
 
-abbrev pub invariant-bytes : goal.invariant-bytes
-invariant-bytes l =
-    decode_pairs 0 l.text ≡ prepend (take l.i l.out) (decode_pairs (2 * l.i) (drop (2 * l.i) l.text))
+abbrev pub invariant-blocks-2 : goal.invariant-blocks-2
+invariant-blocks-2 l = record {
+  within : l.at ≤ length l.text;
+  before : decode_pairs 0 l.text ≡ prepend l.bytes.items (decode_pairs l.at (drop l.at l.text));
+}
+
+abbrev pub decreases-blocks-2 : goal.decreases-blocks-2
+decreases-blocks-2 l = length l.text - l.at
