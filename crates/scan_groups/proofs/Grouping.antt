@@ -32,7 +32,7 @@ netted_sum s vs h = let e = h.parts in omega (arith, ints, e)
 past_same : (rows : List Row) (p : ℕ) (t : Tally) → IsTotalOf rows p t → is_past p t ≡ is_sum_past rows (Some (measured_by t))
 past_same rows p (tally.Count ns) h = refl
 past_same rows p (tally.Values at ns) h = refl
-past_same rows p (tally.Sum at ss) h = ap (λ z. not (is_in_range z)) (netted_sum (get_or ss.items p no_sum) (values_at at rows) h)
+past_same rows p (tally.Sum at ss) h = ap (λ z. not (is_in_range z)) (netted_sum (get_or ss p no_sum) (values_at at rows) h)
 past_same rows p (tally.Least at us) h = refl
 past_same rows p (tally.Greatest at us) h = refl
 
@@ -53,7 +53,7 @@ measured : (rows : List Row) (p : ℕ) (t : Tally) → IsTotalOf rows p t → is
 measured rows p (tally.Count ns) h f = ap (λ k. int_val (pos k)) (h ∙ length-map rows (val_at None))
 measured rows p (tally.Values at ns) h f = ap (λ k. int_val (pos k)) h
 measured rows p (tally.Sum at ss) h f =
-    let s = get_or ss.items p no_sum in
+    let s = get_or ss p no_sum in
     sum_in_range s.any (netted s) (values_at at rows) h.any (not_past (is_in_range (netted s)) f) (netted_sum s (values_at at rows) h)
 measured rows p (tally.Least at us) h f = h
 measured rows p (tally.Greatest at us) h f = h

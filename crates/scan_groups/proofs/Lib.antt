@@ -5,9 +5,12 @@ pub mod Extremes
 pub mod Exact
 pub mod Regrouping
 pub mod Placing
+pub mod Fronting
 pub mod Learning
 pub mod Runs
 pub mod Added
+pub mod Rooms
+pub mod Numbers
 pub mod Tallying
 pub mod Totalling
 pub mod Grouping

@@ -14,16 +14,15 @@ use Rattle.scan_groups.specs.declared.tally.Tally.{Tally}
 use Rattle.scan_groups.specs.declared.tally.Tally.TheVariants as tally
 use Rattle.scan_groups.proofs.Added.{adds_grown, longer, map-replicate}
 
-shorter : {X : Type 0} (xs gs ys : List X) (len n : ℕ) (x : X) → gs ≡ xs ++ replicate (len - length xs) x → length ys ≡ length gs → length xs ≤ n → len ≤ n → length ys ≤ n
+pub shorter : {X : Type 0} (xs gs ys : List X) (len n : ℕ) (x : X) → gs ≡ xs ++ replicate (len - length xs) x → length ys ≡ length gs → length xs ≤ n → len ≤ n → length ys ≤ n
 shorter xs gs ys len n x grown long h k = subst (λ m. m ≤ n) (sym (long ∙ ap length grown)) (longer xs len n x h k)
 
 module _ (self : Tally) (places : List ℕ) (vs : List Val) (groups : ℕ) where
-  pub count_more : (ns gs xs : Vec ℕ Global) → self ≡ tally.Count ns → gs.items ≡ ns.items ++ replicate (groups - length ns.items) 0
-      → length xs.items ≡ length gs.items → Adds IsCount 0 places vs gs.items xs.items → IsMore self places vs groups (tally.Count xs)
-  count_more ns gs xs is grown long adds = record {
+  pub count_more : (ns xs : List ℕ) → self ≡ tally.Count ns → ((n : ℕ) → length ns ≤ n → groups ≤ n → length xs ≤ n) → Adds IsCount 0 places vs ns xs → IsMore self places vs groups (tally.Count xs)
+  count_more ns xs is short adds = record {
     of = ap measured_by (sym is);
-    short = λ n h k. shorter ns.items gs.items xs.items groups n 0 grown long (subst (λ t. length_of t ≤ n) is h) k;
-    totals = λ before p h. adds_grown IsCount 0 places vs ns.items xs.items (groups - length ns.items) (subst (λ ys. Adds IsCount 0 places vs ys xs.items) grown adds) before p (subst (λ t. IsTotal t p before) is h);
+    short = λ n h k. short n (subst (λ t. length_of t ≤ n) is h) k;
+    totals = λ before p h. adds before p (subst (λ t. IsTotal t p before) is h);
   }
 
   pub values_more : (at : ℕ) (ns gs xs : Vec ℕ Global) → self ≡ tally.Values at ns → gs.items ≡ ns.items ++ replicate (groups - length ns.items) 0
@@ -34,12 +33,11 @@ module _ (self : Tally) (places : List ℕ) (vs : List Val) (groups : ℕ) where
     totals = λ before p h. adds_grown IsCountOf 0 places vs ns.items xs.items (groups - length ns.items) (subst (λ ys. Adds IsCountOf 0 places vs ys xs.items) grown adds) before p (subst (λ t. IsTotal t p before) is h);
   }
 
-  pub sums_more : (at : ℕ) (ns gs xs : Vec Sum Global) → self ≡ tally.Sum at ns → gs.items ≡ ns.items ++ replicate (groups - length ns.items) no_sum
-      → length xs.items ≡ length gs.items → Adds IsSumOf no_sum places vs gs.items xs.items → IsMore self places vs groups (tally.Sum at xs)
-  sums_more at ns gs xs is grown long adds = record {
+  pub sums_more : (at : ℕ) (ss xs : List Sum) → self ≡ tally.Sum at ss → ((n : ℕ) → length ss ≤ n → groups ≤ n → length xs ≤ n) → Adds IsSumOf no_sum places vs ss xs → IsMore self places vs groups (tally.Sum at xs)
+  sums_more at ss xs is short adds = record {
     of = ap measured_by (sym is);
-    short = λ n h k. shorter ns.items gs.items xs.items groups n no_sum grown long (subst (λ t. length_of t ≤ n) is h) k;
-    totals = λ before p h. adds_grown IsSumOf no_sum places vs ns.items xs.items (groups - length ns.items) (subst (λ ys. Adds IsSumOf no_sum places vs ys xs.items) grown adds) before p (subst (λ t. IsTotal t p before) is h);
+    short = λ n h k. short n (subst (λ t. length_of t ≤ n) is h) k;
+    totals = λ before p h. adds before p (subst (λ t. IsTotal t p before) is h);
   }
 
   vals_grown : (ns gs : Vec Value Global) → gs.items ≡ ns.items ++ replicate (groups - length ns.items) Null → map val_of gs.items ≡ map val_of ns.items ++ replicate (groups - length ns.items) null_val

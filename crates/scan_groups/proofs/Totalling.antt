@@ -18,8 +18,6 @@ use Rattle.scan_groups.specs.declared.tally.Tally.{Tally}
 use Rattle.scan_groups.specs.declared.tally.Tally.TheVariants as tally
 use Rattle.scan_values.specs.Values.{val_of}
 use Rattle.scan_values.specs.declared.memory.NoMemory.{NoMemory}
-use Rattle.std.specs.declared.alloc.Global.{Global}
-use Rattle.std.specs.declared.vec.Vec.{Vec}
 use Rattle.scan_groups.proofs.Exact.{same_exact}
 use Rattle.scan_groups.proofs.Placing.{some_same, not_none, less_or_not, keys_long, keyless_all, keyless_place}
 
@@ -65,9 +63,9 @@ past_end (x ∷ xs) zero d le = absurd (omega (arith, le))
 past_end (x ∷ xs) (suc p) d le = past_end xs p d (omega (arith, le))
 
 pub fresh_total : (t : Tally) (p : ℕ) → length_of t ≤ p → IsTotal t p []
-fresh_total (tally.Count ns) p le = past_end ns.items p 0 le
+fresh_total (tally.Count ns) p le = past_end ns p 0 le
 fresh_total (tally.Values at ns) p le = past_end ns.items p 0 le
-fresh_total (tally.Sum at ss) p le = subst (λ s. IsSum s []) (sym (past_end ss.items p no_sum le)) (record { any = refl; parts = refl })
+fresh_total (tally.Sum at ss) p le = subst (λ s. IsSum s []) (sym (past_end ss p no_sum le)) (record { any = refl; parts = refl })
 fresh_total (tally.Least at us) p le = past_end (map val_of us.items) p null_val (let e = length-map us.items val_of in omega (arith, e, le))
 fresh_total (tally.Greatest at us) p le = past_end (map val_of us.items) p null_val (let e = length-map us.items val_of in omega (arith, e, le))
 
@@ -197,13 +195,13 @@ under_ends keys ms rows run given n g h le = record {
 abbrev pub one_key : Val → List Val
 one_key v = v ∷ []
 
-pub have_places : (r : Result (Vec ℕ Global) NoMemory) (keys : ℕ) (vs : List Val) (old new : Groups) → new.tallies ≡ old.tallies → IfOk r (λ ps. length ps.items ≡ length vs)
-    → ((rows run : List Row) → map (λ (row : Row). row.key) run ≡ map one_key vs → ArePlaces keys rows old.places → IfOk r (λ ps. PlacedAll keys rows run old.places new.places ps.items))
-    → IfOk r (λ ps. HavePlaces keys (map one_key vs) ps.items old new)
+pub have_places : (r : Result (List ℕ) NoMemory) (keys : ℕ) (vs : List Val) (old new : Groups) → new.tallies ≡ old.tallies → IfOk r (λ ps. length ps ≡ length vs)
+    → ((rows run : List Row) → map (λ (row : Row). row.key) run ≡ map one_key vs → ArePlaces keys rows old.places → IfOk r (λ ps. PlacedAll keys rows run old.places new.places ps))
+    → IfOk r (λ ps. HavePlaces keys (map one_key vs) ps old new)
 have_places (Ok ps) keys vs old new same even placed = record {
   measures = ap (λ v. map measured_by v.items) same;
   even = even ∙ sym (length-map vs one_key);
-  begins = λ ms rows run h e. under_begins keys ms rows run ps.items old new h same (keys_long run vs e ∙ sym even) (placed rows run e h.places);
+  begins = λ ms rows run h e. under_begins keys ms rows run ps old new h same (keys_long run vs e ∙ sym even) (placed rows run e h.places);
 }
 have_places (Err f) keys vs old new same even placed = tt
 

@@ -2,8 +2,10 @@ pub mod Order
 pub mod Ordered
 pub mod Rows
 pub mod Cells
+pub mod Within
 pub mod Totals
 pub mod Near
 pub mod Places
+pub mod Fronts
 pub mod Running
 pub mod Laws

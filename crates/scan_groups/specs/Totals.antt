@@ -49,9 +49,9 @@ IsGreatestOf vs v = OrNull IsGreatest (there vs) v
 
 -- the total at a place is that of values
 abbrev pub IsTotal : Tally → ℕ → List Val → Type 0
-IsTotal (tally.Count ns) p vs = IsCount vs (get_or ns.items p 0)
+IsTotal (tally.Count ns) p vs = IsCount vs (get_or ns p 0)
 IsTotal (tally.Values at ns) p vs = IsCountOf vs (get_or ns.items p 0)
-IsTotal (tally.Sum at ss) p vs = IsSumOf vs (get_or ss.items p no_sum)
+IsTotal (tally.Sum at ss) p vs = IsSumOf vs (get_or ss p no_sum)
 IsTotal (tally.Least at us) p vs = IsLeastOf vs (get_or (map val_of us.items) p null_val)
 IsTotal (tally.Greatest at us) p vs = IsGreatestOf vs (get_or (map val_of us.items) p null_val)
 
@@ -65,9 +65,9 @@ measured_by (tally.Greatest at us) = Greatest at
 
 -- at how many places it was told
 abbrev pub length_of : Tally → ℕ
-length_of (tally.Count ns) = length ns.items
+length_of (tally.Count ns) = length ns
 length_of (tally.Values at ns) = length ns.items
-length_of (tally.Sum at ss) = length ss.items
+length_of (tally.Sum at ss) = length ss
 length_of (tally.Least at us) = length us.items
 length_of (tally.Greatest at us) = length us.items
 
@@ -127,13 +127,13 @@ val_of_sum s = sum_val s.any (in_range (netted s))
 
 -- that at a place
 abbrev pub total_val : ℕ → Tally → Val
-total_val p (tally.Count ns) = int_val (pos (get_or ns.items p 0))
+total_val p (tally.Count ns) = int_val (pos (get_or ns p 0))
 total_val p (tally.Values at ns) = int_val (pos (get_or ns.items p 0))
-total_val p (tally.Sum at ss) = val_of_sum (get_or ss.items p no_sum)
+total_val p (tally.Sum at ss) = val_of_sum (get_or ss p no_sum)
 total_val p (tally.Least at us) = get_or (map val_of us.items) p null_val
 total_val p (tally.Greatest at us) = get_or (map val_of us.items) p null_val
 
 -- whether it is a sum that is neither an i64 nor a u64
 abbrev pub is_past : ℕ → Tally → Bool
-is_past p (tally.Sum at ss) = not (is_in_range (netted (get_or ss.items p no_sum)))
+is_past p (tally.Sum at ss) = not (is_in_range (netted (get_or ss p no_sum)))
 is_past p _ = false

@@ -5,7 +5,8 @@ ghost use Rattle.scan_values.specs.Values.{val_of};
 ghost use Rattle.scan_values.specs.declared.value.Value.TheVariants.{Null};
 ghost use Rattle.scan_groups.specs.Cells.{cell_val, run_vals};
 ghost use Rattle.scan_groups.specs.Rows.{IsLeast, IsGreatest, OrNull, is_null};
-ghost use Rattle.scan_groups.specs.Totals.{Adds, IsCount, IsCountOf, IsGreatestOf, IsLeastOf, IsSumOf, NoneNull, no_sum};
+ghost use Rattle.scan_groups.specs.Totals.{Adds, IsCountOf, IsGreatestOf, IsLeastOf, IsSumOf, NoneNull, no_sum};
+ghost use Rattle.scan_groups.specs.Within.{IsWithin};
 
 use crate::cell::Cell;
 use crate::order::{compare_cells, number_of};
@@ -23,21 +24,6 @@ fn one_more(n: u64) -> Result<u64, NoMemory>
         Some(n) => Ok(n),
         None => Err(NoMemory),
     }
-}
-
-/// At each place the number of its rows.
-pub(crate) fn count_rows(counts: Vec<u64>, places: &[usize]) -> Result<Vec<u64>, NoMemory>
-    requires { All (λ p. p < length counts.items) places.now }
-    ensures long { IfOk result (λ ns. length ns.items ≡ length counts.items) }
-    ensures more { (vs : List Val) → length vs ≡ length places.now →
-        IfOk result (λ ns. Adds IsCount 0 places.now vs counts.items ns.items) }
-{
-    let mut counts = counts;
-    for i in 0..places.len() {
-        let place = places[i];
-        counts[place] = one_more(counts[place])?;
-    }
-    Ok(counts)
 }
 
 fn one_more_unless(is_null: bool, n: u64) -> Result<u64, NoMemory>
@@ -65,7 +51,12 @@ pub(crate) fn count_values(
     Ok(counts)
 }
 
-fn sum_numbers(sums: Vec<Sum>, places: &[usize], numbers: &[i64]) -> Result<Vec<Sum>, NoMemory>
+/// At each place the sum with its numbers, each tested whether an i64 has room for it.
+pub(crate) fn sum_numbers(
+    sums: Vec<Sum>,
+    places: &[usize],
+    numbers: &[i64],
+) -> Result<Vec<Sum>, NoMemory>
     requires places { All (λ p. p < length sums.items) places.now }
     requires even { length numbers.now ≡ length places.now }
     ensures long { IfOk result (λ ns. length ns.items ≡ length sums.items) }
@@ -80,7 +71,8 @@ fn sum_numbers(sums: Vec<Sum>, places: &[usize], numbers: &[i64]) -> Result<Vec<
 }
 
 fn sum_with(sum: Sum, cell: Cell) -> Result<Sum, NoMemory>
-    ensures { (vs : List Val) → IsSumOf vs sum → IfOk result (λ s. IsSumOf (vs ++ cell_val cell.entry ∷ []) s) }
+    ensures near { IfOk result (λ s. s.near ≡ sum.near) }
+    ensures more { (vs : List Val) → IsSumOf vs sum → IfOk result (λ s. IsSumOf (vs ++ cell_val cell.entry ∷ []) s) }
 {
     if cell.is_null() {
         return Ok(sum);
@@ -88,10 +80,12 @@ fn sum_with(sum: Sum, cell: Cell) -> Result<Sum, NoMemory>
     sum.with(number_of(cell))
 }
 
-fn sum_cells(sums: Vec<Sum>, places: &[usize], run: Run) -> Result<Vec<Sum>, NoMemory>
+/// At each place the sum of its values that are not null.
+pub(crate) fn sum_cells(sums: Vec<Sum>, places: &[usize], run: Run) -> Result<Vec<Sum>, NoMemory>
     requires places { All (λ p. p < length sums.items) places.now }
     requires even { length (run_vals run) ≡ length places.now }
     ensures long { IfOk result (λ ns. length ns.items ≡ length sums.items) }
+    ensures near { (k : ℕ) → All (IsWithin k) sums.items → IfOk result (λ ns. All (IsWithin k) ns.items) }
     ensures more { IfOk result (λ ns. Adds IsSumOf no_sum places.now (run_vals run.entry) sums.items ns.items) }
 {
     let mut sums = sums;
@@ -100,20 +94,6 @@ fn sum_cells(sums: Vec<Sum>, places: &[usize], run: Run) -> Result<Vec<Sum>, NoM
         sums[place] = sum_with(sums[place], run.cell(i))?;
     }
     Ok(sums)
-}
-
-/// At each place the sum of its values that are not null.
-pub(crate) fn sum_values(sums: Vec<Sum>, places: &[usize], run: Run) -> Result<Vec<Sum>, NoMemory>
-    requires places { All (λ p. p < length sums.items) places.now }
-    requires even { length (run_vals run) ≡ length places.now }
-    ensures long { IfOk result (λ ns. length ns.items ≡ length sums.items) }
-    ensures more { IfOk result (λ ns. Adds IsSumOf no_sum places.now (run_vals run.entry) sums.items ns.items) }
-{
-    match run {
-        Run::Numbers(numbers) => sum_numbers(sums, places, numbers),
-        Run::Cells(_) => sum_cells(sums, places, run),
-        Run::Nulls(_) => sum_cells(sums, places, run),
-    }
 }
 
 /// The lesser of two, of which null is no value.
@@ -217,7 +197,7 @@ pub(crate) fn find_greatest(
 }
 
 /// The larger of two.
-fn larger(a: usize, b: usize) -> usize
+pub(crate) fn larger(a: usize, b: usize) -> usize
     ensures first { a ≤ result }
     ensures second { b ≤ result }
     ensures least { (n : ℕ) → a ≤ n → b ≤ n → result ≤ n }

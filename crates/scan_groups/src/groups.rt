@@ -11,6 +11,7 @@ ghost use Rattle.scan_groups.specs.Totals.{length_of, measured_by, total_val, va
 ghost use Rattle.scan_groups.specs.declared.measure.Measured.{Measured};
 
 use crate::cell::Cell;
+use crate::counts::Counts;
 use crate::fault::GroupsFault;
 use crate::group::Group;
 use crate::key::Key;
@@ -138,7 +139,7 @@ impl Groups {
         ensures { (keys : ℕ) → list_all is_scalar (run_vals run.entry) ≡ true →
             IfOk result (λ ps. HavePlaces keys (map (λ v. v ∷ []) (run_vals run.entry)) ps self.old self.new) }
     {
-        RowPlaces::new(self.places.place_run(alloc, run)?)
+        self.places.place_run(alloc, run)
     }
 
     /// The places of the groups of so many further rows, whose keys have no values.
@@ -161,8 +162,9 @@ impl Groups {
         requires even { length (run_vals run) ≡ length places.now }
         ensures { IfOk result (λ _. HasRead measure places.now (run_vals run.entry) self.old self.new) }
     {
-        let tally = std::mem::replace(&mut self.tallies[measure], Tally::Count(Vec::new(alloc)));
-        let more = tally.with_rows(alloc, places.end(), places.as_slice(), run)?;
+        let tally = std::mem::replace(&mut self.tallies[measure], Tally::Count(Counts::new(alloc)));
+        let end = places.end(self.places.count())?;
+        let more = tally.with_rows(alloc, end, places.as_slice(), run)?;
         self.tallies[measure] = more;
         Ok(())
     }

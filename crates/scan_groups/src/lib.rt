@@ -2,7 +2,9 @@
 #![tactic(auto)]
 
 mod adding;
+mod all_sums;
 mod cell;
+mod counts;
 mod fault;
 mod group;
 mod groups;

@@ -1,5 +1,5 @@
 //! Numbers whose places were asked for lately.
-ghost use Rattle.std.specs.Prelude.{◌≡◌, [], IfOk, IfSome, List, ℕ};
+ghost use Rattle.std.specs.Prelude.{◌≡◌, ◌<◌, [], All, IfOk, IfSome, List, ℕ};
 ghost use Rattle.std.specs.BTreeMap.{BTreeMap};
 ghost use Rattle.scan_values.specs.Val.{Val};
 ghost use Rattle.scan_groups.specs.Near.{AreAt, IsAt};
@@ -12,6 +12,51 @@ use std::alloc::Global;
 pub(crate) struct Slot {
     pub number: i64,
     pub place: usize,
+}
+
+/// Slots that are lent, each number in the one that the first bits of a product name.
+#[derive(Clone, Copy)]
+pub(crate) struct Slots<'a> {
+    slots: &'a [Slot],
+    shift: u32,
+}
+
+impl<'a> Slots<'a> {
+    /// The place of a number's key, where it stands in its slot.
+    #[inline(always)]
+    pub(crate) fn find(self, number: i64) -> Option<usize>
+        ensures { (m : BTreeMap (List Val) ℕ) → All (IsAt m) self.entry.slots.now →
+            IfSome result (λ i. IsAt m (record { number = number; place = i })) }
+    {
+        let Some(slot) = self.slots.get(slot_of(number, self.shift)) else {
+            return None;
+        };
+        if slot.number == number {
+            Some(slot.place)
+        } else {
+            None
+        }
+    }
+
+    /// The same, where the place is below an end.
+    #[inline(always)]
+    pub(crate) fn find_below(self, number: i64, end: usize) -> Option<usize>
+        ensures at { (m : BTreeMap (List Val) ℕ) → All (IsAt m) self.entry.slots.now →
+            IfSome result (λ i. IsAt m (record { number = number; place = i })) }
+        ensures below { IfSome result (λ i. i < end) }
+    {
+        let Some(place) = self.find(number) else {
+            return None;
+        };
+        if place < end { Some(place) } else { None }
+    }
+}
+
+/// The slot of a number: the first bits of a product, by which numbers that lie side by side are apart.
+#[inline(always)]
+fn slot_of(number: i64, shift: u32) -> usize {
+    let product = number.cast_unsigned().wrapping_mul(0x9e37_79b9_7f4a_7c15);
+    product.wrapping_shr(shift) as usize
 }
 
 /// So many slots at first, and the bits of a product that are left out then.
@@ -34,33 +79,21 @@ impl Near {
         Near { slots, shift: 0 }
     }
 
-    /// The slot of a number: the first bits of a product, by which numbers that lie side by side are apart.
+    /// The slots, lent.
     #[inline(always)]
-    fn slot_of(&self, number: i64) -> usize {
-        let product = number.cast_unsigned().wrapping_mul(0x9e37_79b9_7f4a_7c15);
-        product.wrapping_shr(self.shift) as usize
-    }
-
-    /// The place of a number's key, where it stands in its slot.
-    #[inline(always)]
-    pub(crate) fn find(&self, number: i64) -> Option<usize>
-        ensures { (m : BTreeMap (List Val) ℕ) → AreAt m self.now →
-            IfSome result (λ i. IsAt m (record { number = number; place = i })) }
+    pub(crate) fn lend(&self) -> Slots<'_>
+        ensures { result.slots.now ≡ self.now.slots.items }
     {
-        let Some(slot) = self.slots.get(self.slot_of(number)) else {
-            return None;
-        };
-        if slot.number == number {
-            Some(slot.place)
-        } else {
-            None
+        Slots {
+            slots: self.slots.as_slice(),
+            shift: self.shift,
         }
     }
 
     fn put(&mut self, slot: Slot)
         ensures { (m : BTreeMap (List Val) ℕ) → AreAt m self.old → IsAt m slot → AreAt m self.new }
     {
-        let at = self.slot_of(slot.number);
+        let at = slot_of(slot.number, self.shift);
         if at < self.slots.len() {
             self.slots[at] = slot;
         }

@@ -97,8 +97,7 @@ fn text_of<'a>(cell: Cell<'a>) -> &'a [u8]
     }
 }
 
-/// Which of two lent values comes first.
-pub(crate) fn compare_cells(a: Cell, b: Cell) -> Ordering
+fn compare_parts(a: Cell, b: Cell) -> Ordering
     ensures { result ≡ value_cmp (cell_val a.entry) (cell_val b.entry) }
 {
     kind_of(a)
@@ -106,6 +105,19 @@ pub(crate) fn compare_cells(a: Cell, b: Cell) -> Ordering
         .then(truth_of(a).cmp(&truth_of(b)))
         .then(number_of(a).cmp(&number_of(b)))
         .then(text_of(a).cmp(&text_of(b)))
+}
+
+/// Which of two lent values comes first.
+pub(crate) fn compare_cells(a: Cell, b: Cell) -> Ordering
+    ensures { result ≡ value_cmp (cell_val a.entry) (cell_val b.entry) }
+{
+    let Cell::Number(x) = a else {
+        return compare_parts(a, b);
+    };
+    let Cell::Number(y) = b else {
+        return compare_parts(a, b);
+    };
+    x.cmp(&y)
 }
 
 /// Which of two values comes first: null before false, true, integers by value, texts by their bytes, lists and structs.

@@ -1,12 +1,12 @@
 //! The places of the groups of rows.
-ghost use Rattle.std.specs.Prelude.{◌≡◌, ◌∷◌, [], ◌<◌, ◌≤◌, All, IfOk, length, ℕ};
+ghost use Rattle.std.specs.Prelude.{◌≡◌, ◌∷◌, [], ◌<◌, ◌≤◌, All, IfOk, length};
 
 use crate::adding::past_last;
 use scan_values::NoMemory;
 use std::alloc::Global;
 use std::marker::Model;
 
-/// The place of the group of each of some rows, and the first place past them. Contracts see a list of places.
+/// The place of the group of each of some rows, and a place past them. Contracts see a list of places.
 #[derive(Drop)]
 pub struct RowPlaces {
     places: Vec<usize>,
@@ -14,16 +14,13 @@ pub struct RowPlaces {
 }
 
 impl Model for RowPlaces {
-    ghost use Rattle.std.specs.Prelude.{◌<◌, ◌≤◌, All, List, ℕ};
+    ghost use Rattle.std.specs.Prelude.{◌<◌, All, List, ℕ};
 
     ghost Value = { List ℕ };
 
     ghost view = { λ a. a.places.items };
 
-    ghost invariant = { λ a. record {
-      past : All (λ p. p < a.end) a.places.items;
-      least : (n : ℕ) → All (λ p. p < n) a.places.items → a.end ≤ n;
-    } };
+    ghost invariant = { λ a. All (λ p. p < a.end) a.places.items };
 }
 
 impl RowPlaces {
@@ -32,6 +29,14 @@ impl RowPlaces {
     {
         let end = past_last(&places)?;
         Ok(RowPlaces { places, end })
+    }
+
+    /// Places that are all below an end.
+    pub(crate) fn below(places: Vec<usize>, end: usize) -> RowPlaces
+        requires { All (λ p. p < end) places.items }
+        ensures { result ≡ places.items }
+    {
+        RowPlaces { places, end }
     }
 
     /// The place of one row.
@@ -54,11 +59,14 @@ impl RowPlaces {
         self.places.as_slice()
     }
 
-    /// The first place past all of these.
-    pub(crate) fn end(&self) -> usize
-        ensures past { All (λ p. p < result) self.now }
-        ensures least { (n : ℕ) → All (λ p. p < n) self.now → result ≤ n }
+    /// A place past all of these, and one of so many at most, where these are of so many.
+    pub(crate) fn end(&self, count: usize) -> Result<usize, NoMemory>
+        ensures past { IfOk result (λ n. All (λ p. p < n) self.now) }
+        ensures within { All (λ p. p < count) self.now → IfOk result (λ n. n ≤ count) }
     {
-        self.end
+        if self.end <= count {
+            return Ok(self.end);
+        }
+        past_last(&self.places)
     }
 }

@@ -1,5 +1,5 @@
 //! A running sum of integers.
-ghost use Rattle.std.specs.Prelude.{◌≡◌, ◌+◌, ◌++◌, List, IfOk, [], ◌∷◌};
+ghost use Rattle.std.specs.Prelude.{◌≡◌, ◌<◌, ◌+◌, ◌^◌, ◌+ℤ◌, ◌++◌, List, IfOk, [], ◌∷◌, unsigned_abs};
 ghost use Rattle.scan_values.specs.Val.{Val, int_val};
 ghost use Rattle.scan_groups.specs.Totals.{IsSum, in_range, netted, no_sum};
 
@@ -53,7 +53,8 @@ impl Sum {
 
     /// The sum with one more value.
     pub(crate) fn with(self, n: i128) -> Result<Sum, NoMemory>
-        ensures { (vs : List Val) → IsSum self vs → IfOk result (λ s. IsSum s (vs ++ int_val n ∷ [])) }
+        ensures near { IfOk result (λ s. s.near ≡ self.near) }
+        ensures more { (vs : List Val) → IsSum self vs → IfOk result (λ s. IsSum s (vs ++ int_val n ∷ [])) }
     {
         let part = n.unsigned_abs();
         if n < 0 {
@@ -95,6 +96,17 @@ impl Sum {
             }
             None => self.add_far(n),
         }
+    }
+
+    /// Takes one more value, for which an i64 has room.
+    #[inline(always)]
+    pub(crate) fn add_short(&mut self, n: i64)
+        requires { unsigned_abs (self.old.near +ℤ n) < 2 ^ 63 }
+        ensures near { self.new.near ≡ self.old.near +ℤ n }
+        ensures more { (vs : List Val) → IsSum self.old vs → IsSum self.new (vs ++ int_val n ∷ []) }
+    {
+        self.any = true;
+        self.near += n;
     }
 
     /// The sum, where it is an i64 or a u64.

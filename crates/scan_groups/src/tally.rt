@@ -3,11 +3,11 @@ ghost use Rattle.std.specs.Prelude.{◌≡◌, ◌<◌, All, IfOk, get_or, lengt
 ghost use Rattle.scan_values.specs.Val.{null_val};
 ghost use Rattle.scan_values.specs.Values.{val_of};
 ghost use Rattle.scan_groups.specs.Cells.{run_vals};
-ghost use Rattle.scan_groups.specs.Totals.{IsMore, is_past, length_of, measured_by, no_sum, place_read, total_val, val_of_sum};
+ghost use Rattle.scan_groups.specs.Totals.{IsMore, is_past, length_of, measured_by, place_read, total_val, val_of_sum};
 
-use crate::adding::{
-    count_rows, count_values, find_greatest, find_least, grown, sum_values, with_nulls,
-};
+use crate::adding::{count_values, find_greatest, find_least, grown, with_nulls};
+use crate::all_sums::Sums;
+use crate::counts::Counts;
 use crate::measure::Measured;
 use crate::run::Run;
 use crate::sum::Sum;
@@ -17,9 +17,9 @@ use std::alloc::Global;
 /// The totals of a measure at the places of groups. A place past the last has the total of no rows.
 #[derive(Drop)]
 pub(crate) enum Tally {
-    Count(Vec<u64>),
+    Count(Counts),
     Values(usize, Vec<u64>),
-    Sum(usize, Vec<Sum>),
+    Sum(usize, Sums),
     Least(usize, Vec<Value>),
     Greatest(usize, Vec<Value>),
 }
@@ -46,15 +46,6 @@ fn count_at(counts: &[u64], place: usize) -> u64
     }
 }
 
-fn sum_at(sums: &[Sum], place: usize) -> Sum
-    ensures { result ≡ get_or sums.now place no_sum }
-{
-    match sums.get(place) {
-        Some(sum) => *sum,
-        None => Sum::none(),
-    }
-}
-
 fn value_at(alloc: Global, values: &[Value], place: usize) -> Result<Value, NoMemory>
     ensures { IfOk result (λ v. val_of v ≡ get_or (map val_of values.now) place null_val) }
 {
@@ -71,9 +62,9 @@ impl Tally {
         ensures none { length_of result ≡ 0 }
     {
         match measure {
-            Measured::Count => Tally::Count(Vec::new(alloc)),
+            Measured::Count => Tally::Count(Counts::new(alloc)),
             Measured::Values(place) => Tally::Values(place, Vec::new(alloc)),
-            Measured::Sum(place) => Tally::Sum(place, Vec::new(alloc)),
+            Measured::Sum(place) => Tally::Sum(place, Sums::new(alloc)),
             Measured::Least(place) => Tally::Least(place, Vec::new(alloc)),
             Measured::Greatest(place) => Tally::Greatest(place, Vec::new(alloc)),
         }
@@ -105,16 +96,13 @@ impl Tally {
         ensures { IfOk result (IsMore self places.now (run_vals run.entry) groups) }
     {
         match self {
-            Tally::Count(counts) => {
-                Ok(Tally::Count(count_rows(grown(counts, groups, 0)?, places)?))
-            }
+            Tally::Count(counts) => Ok(Tally::Count(counts.with_rows(groups, places)?)),
             Tally::Values(place, counts) => {
                 let counts = count_values(grown(counts, groups, 0)?, places, run)?;
                 Ok(Tally::Values(place, counts))
             }
             Tally::Sum(place, sums) => {
-                let sums = sum_values(grown(sums, groups, Sum::none())?, places, run)?;
-                Ok(Tally::Sum(place, sums))
+                Ok(Tally::Sum(place, sums.with_run(groups, places, run)?))
             }
             Tally::Least(place, values) => {
                 let values = find_least(alloc, with_nulls(values, groups)?, places, run)?;
@@ -134,7 +122,7 @@ impl Tally {
         match self {
             Tally::Count(_) => false,
             Tally::Values(_, _) => false,
-            Tally::Sum(_, sums) => sum_at(sums, place).value().is_none(),
+            Tally::Sum(_, sums) => sums.at(place).value().is_none(),
             Tally::Least(_, _) => false,
             Tally::Greatest(_, _) => false,
         }
@@ -145,9 +133,9 @@ impl Tally {
         ensures { IfOk result (λ v. val_of v ≡ total_val place self.now) }
     {
         match self {
-            Tally::Count(counts) => Ok(Value::Int(count_at(counts, place) as i128)),
+            Tally::Count(counts) => Ok(Value::Int(counts.at(place) as i128)),
             Tally::Values(_, counts) => Ok(Value::Int(count_at(counts, place) as i128)),
-            Tally::Sum(_, sums) => Ok(sum_value(sum_at(sums, place))),
+            Tally::Sum(_, sums) => Ok(sum_value(sums.at(place))),
             Tally::Least(_, values) => value_at(alloc, values, place),
             Tally::Greatest(_, values) => value_at(alloc, values, place),
         }

@@ -1,13 +1,15 @@
-use Rattle.std.proofs.Common.{◌≡◌, ◌<◌, ◌≤◌, List, [], ◌∷◌, ◌++◌, length, get_or, refl, sym, ◌∙◌, subst, arith}
+use Rattle.std.proofs.Common.{◌≡◌, ◌<◌, ◌≤◌, List, [], ◌∷◌, ◌++◌, length, get_or, refl, sym, ap, ◌∙◌, subst, arith, unsigned_abs}
 use Rattle.std.proofs.lemmas.List.{length-set, get_or_default}
+use Rattle.std.proofs.lemmas.List.Elements.{All-set}
 use Rattle.scan_groups.specs.Cells.{run_vals}
 use Rattle.scan_values.specs.Val.{Val, null_val}
 use Rattle.scan_groups.specs.Totals.{IsSumOf, no_sum}
+use Rattle.scan_groups.specs.Within.{IsWithin}
 use Rattle.scan_groups.proofs.Added.{adds_none, adds_more, adds_all}
 use Rattle.scan_groups.proofs.adding.sum_cells.Goals as goal
 
 pub loop-i-init : goal.loop-i-init
-loop-i-init c = record { long = refl; more = adds_none IsSumOf no_sum c.args.places.now (run_vals c.args.run) c.args.sums.items }
+loop-i-init c = record { long = refl; near = λ k h. h; more = adds_none IsSumOf no_sum c.args.places.now (run_vals c.args.run) c.args.sums.items }
 
 pub index-requires : goal.index-requires
 index-requires c = let lt = c.requires.places c.loop-i.i 0 c.loop-i-test.true in omega (arith, lt, c.loop-i.invariant.long, c.loop-i.sums.ok.0)
@@ -29,8 +31,10 @@ loop-i-preserved c =
     let at : c.index.result.now ≡ get_or us p no_sum = c.index.ensures ∙ get_or_default us p c.index.result.now no_sum below in
     let within : i < length vs = omega (arith, c.requires.even, c.loop-i-test.true) in
     let step : (ws : List Val) → IsSumOf ws (get_or us p no_sum) → IsSumOf (ws ++ v ∷ []) x =
-    λ ws h. subst (λ w. IsSumOf (ws ++ w ∷ []) x) c.cell.ensures (c.in_ok-sums.ensures ws (subst (λ s. IsSumOf ws s) (sym at) h)) in
+    λ ws h. subst (λ w. IsSumOf (ws ++ w ∷ []) x) c.cell.ensures (c.in_ok-sums.ensures.more ws (subst (λ s. IsSumOf ws s) (sym at) h)) in
+    let same : x.near ≡ (get_or us p no_sum).near = c.in_ok-sums.ensures.near ∙ ap (λ s. s.near) at in
     record {
+      near = λ k h. let all = c.loop-i.invariant.near k h in All-set (IsWithin k) us p x (subst (λ z. unsigned_abs z ≤ k) (sym same) (all p no_sum below)) all;
       long = length-set us p x ∙ c.loop-i.invariant.long;
       more = adds_more IsSumOf no_sum i ps vs c.args.sums.items us p v x c.loop-i-test.true within refl refl below step c.loop-i.invariant.more;
     }

@@ -8,12 +8,12 @@ use Rattle.scan_groups.specs.Totals.{IsSum}
 use Rattle.scan_groups.proofs.Added.{sum_same, sum_push_ok}
 use Rattle.scan_groups.proofs.adding.sum_with.Goals as goal
 
-pub returns-then-is_null : goal.returns-then-is_null
-returns-then-is_null c = sum_same c.args.sum (cell_val c.args.cell) (sym c.is_null.ensures ∙ c.if-is_null.true)
+pub returns-then-is_null-clause-more : goal.returns-then-is_null-clause-more
+returns-then-is_null-clause-more c = sum_same c.args.sum (cell_val c.args.cell) (sym c.is_null.ensures ∙ c.if-is_null.true)
 
-pub returns : goal.returns
-returns c =
+pub returns-clause-more : goal.returns-clause-more
+returns-clause-more c =
     let n = c.number_of.result in
     let back : to_z w128 (of_z w128 n) ≡ n = search rules in
     sum_push_ok c.with.result c.args.sum (cell_val c.args.cell) (sym c.is_null.ensures ∙ c.if-is_null.false)
-    (λ us h. subst (λ z. IfOk c.with.result (λ t. IsSum t (us ++ int_val z ∷ []))) (back ∙ c.number_of.ensures) (c.with.ensures us h))
+    (λ us h. subst (λ z. IfOk c.with.result (λ t. IsSum t (us ++ int_val z ∷ []))) (back ∙ c.number_of.ensures) (c.with.ensures.more us h))

@@ -3,8 +3,10 @@ use Rattle.std.proofs.lemmas.List.{length-set, get_or_default}
 use Rattle.scan_values.specs.Val.{null_val}
 use Rattle.scan_groups.specs.Cells.{run_vals}
 use Rattle.scan_groups.specs.Order.{is_scalar}
+use Rattle.scan_groups.specs.Places.{PlacedAll}
 use Rattle.scan_groups.specs.Rows.{Row}
 use Rattle.scan_groups.proofs.Placing.{keys_long, key_at, places_all, places_more, places_none, scalar_at}
+use Rattle.scan_groups.proofs.Slots.{as_same}
 use Rattle.scan_groups.proofs.places.Places.place_cells.Goals as goal
 
 pub loop-i-init : goal.loop-i-init
@@ -43,5 +45,6 @@ loop-i-preserved c =
 pub returns-clause-places : goal.returns-clause-places
 returns-clause-places c = λ keys rows more e h scalars.
     let long = keys_long more (run_vals c.args.run) e in
-    places_all keys rows more c.loop-i.i c.args.self.now c.loop-i.self c.loop-i.places.items
-    (omega (arith, long, c.loop-i-test.false, c.len-i-end.ensures, c.in_ok-places.ensures.len, c.len.ensures)) (c.loop-i.invariant.places keys rows more e h scalars)
+    as_same c.new.result (PlacedAll keys rows more c.args.self.now c.loop-i.self) c.loop-i.places.items c.new.ensures
+    (places_all keys rows more c.loop-i.i c.args.self.now c.loop-i.self c.loop-i.places.items
+    (omega (arith, long, c.loop-i-test.false, c.len-i-end.ensures, c.in_ok-places.ensures.len, c.len.ensures)) (c.loop-i.invariant.places keys rows more e h scalars))

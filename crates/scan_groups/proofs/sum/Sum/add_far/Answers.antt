@@ -9,4 +9,4 @@ pub returns : goal.returns
 returns c = λ vs h.
     let back : to_z w128 (of_z w128 c.from.result) ≡ c.from.result = search rules in
     let read : to_z w64 (of_z w64 c.args.n) ≡ c.args.n = search rules in
-    subst (λ z. IsSum c.in_ok-self.field-0 (vs ++ int_val z ∷ [])) (back ∙ c.from.ensures ∙ read) (c.in_ok-self.ensures vs h)
+    subst (λ z. IsSum c.in_ok-self.field-0 (vs ++ int_val z ∷ [])) (back ∙ c.from.ensures ∙ read) (c.in_ok-self.ensures.more vs h)

@@ -7,8 +7,8 @@ use Rattle.scan_groups.specs.Totals.{IsSum}
 use Rattle.scan_groups.proofs.Sums.{sum_above, sum_below}
 use Rattle.scan_groups.proofs.sum.Sum.with.Goals as goal
 
-pub returns-in_ok-sum_with : goal.returns-in_ok-sum_with
-returns-in_ok-sum_with c =
+pub returns-in_ok-sum_with-clause-more : goal.returns-in_ok-sum_with-clause-more
+returns-in_ok-sum_with-clause-more c =
     let s = c.args.self in
     let f = c.ranges.n.sfits in
     let t = c.if-n-lt0.true in
@@ -19,8 +19,8 @@ returns-in_ok-sum_with c =
     λ vs h. subst (λ r. IsSum (record { any = true; near = r; above = s.above; below = m }) (vs ++ int_val c.args.n ∷ [])) (sym near)
     (sum_below s vs c.args.n m (grind (arith, ints, f, t)) (grind (arith, to_z-of_z, a, b, f)) h)
 
-pub returns-in_ok-sum_with-2 : goal.returns-in_ok-sum_with-2
-returns-in_ok-sum_with-2 c =
+pub returns-in_ok-sum_with-2-clause-more : goal.returns-in_ok-sum_with-2-clause-more
+returns-in_ok-sum_with-2-clause-more c =
     let s = c.args.self in
     let f = c.ranges.n.sfits in
     let t = c.if-n-lt0.false in

@@ -1,19 +1,13 @@
-use Rattle.std.proofs.Common.{◌≡◌, ◌++◌, ◌-◌, length, subst}
-use Rattle.std.specs.Prelude.{replicate}
 use Rattle.scan_values.specs.declared.value.Value.TheVariants.{Null}
 use Rattle.scan_groups.specs.Cells.{run_vals}
-use Rattle.scan_groups.specs.Totals.{no_sum}
 use Rattle.scan_groups.proofs.Added.{enough}
 use Rattle.scan_groups.proofs.Tallying.{count_more, values_more, sums_more, least_more, greatest_more}
 use Rattle.scan_groups.proofs.tally.Tally.with_rows.Goals as goal
 
-pub count_rows-requires : goal.count_rows-requires
-count_rows-requires c =
-    enough c.in-Count.counts.items c.in_ok-grown-in-Count.field-0.items c.args.groups 0 c.args.places.now c.in_ok-grown-in-Count.ensures c.requires.places
-
-pub returns-in_ok-count_rows-in-Count : goal.returns-in_ok-count_rows-in-Count
-returns-in_ok-count_rows-in-Count c =
-    count_more c.args.self c.args.places.now (run_vals c.args.run) c.args.groups c.in-Count.counts c.in_ok-grown-in-Count.field-0 c.in_ok-count_rows-in-Count.field-0 c.in-Count.is c.in_ok-grown-in-Count.ensures c.in_ok-count_rows-in-Count.ensures.long (c.in_ok-count_rows-in-Count.ensures.more (run_vals c.args.run) c.requires.even)
+pub returns-in_ok-with_rows-in-Count : goal.returns-in_ok-with_rows-in-Count
+returns-in_ok-with_rows-in-Count c =
+    let e = c.in_ok-with_rows-in-Count.ensures in
+    count_more c.args.self c.args.places.now (run_vals c.args.run) c.args.groups c.in-Count.counts c.in_ok-with_rows-in-Count.field-0 c.in-Count.is e.short (e.more (run_vals c.args.run) c.requires.even)
 
 pub count_values-requires-clause-places : goal.count_values-requires-clause-places
 count_values-requires-clause-places c =
@@ -23,17 +17,10 @@ pub returns-in_ok-counts-in-Values : goal.returns-in_ok-counts-in-Values
 returns-in_ok-counts-in-Values c =
     values_more c.args.self c.args.places.now (run_vals c.args.run) c.args.groups c.in-Values.place c.in-Values.counts c.in_ok-grown-in-Values.field-0 c.in_ok-counts-in-Values.counts c.in-Values.is c.in_ok-grown-in-Values.ensures c.in_ok-counts-in-Values.ensures.long c.in_ok-counts-in-Values.ensures.more
 
-pub sum_values-requires-clause-places : goal.sum_values-requires-clause-places
-sum_values-requires-clause-places c =
-    let grown : c.in_ok-grown-in-Sum.field-0.items ≡ c.in-Sum.sums.items ++ replicate (c.args.groups - length c.in-Sum.sums.items) no_sum =
-    subst (λ s. c.in_ok-grown-in-Sum.field-0.items ≡ c.in-Sum.sums.items ++ replicate (c.args.groups - length c.in-Sum.sums.items) s) c.none.ensures c.in_ok-grown-in-Sum.ensures in
-    enough c.in-Sum.sums.items c.in_ok-grown-in-Sum.field-0.items c.args.groups no_sum c.args.places.now grown c.requires.places
-
-pub returns-in_ok-sums-in-Sum : goal.returns-in_ok-sums-in-Sum
-returns-in_ok-sums-in-Sum c =
-    let grown : c.in_ok-grown-in-Sum.field-0.items ≡ c.in-Sum.sums.items ++ replicate (c.args.groups - length c.in-Sum.sums.items) no_sum =
-    subst (λ s. c.in_ok-grown-in-Sum.field-0.items ≡ c.in-Sum.sums.items ++ replicate (c.args.groups - length c.in-Sum.sums.items) s) c.none.ensures c.in_ok-grown-in-Sum.ensures in
-    sums_more c.args.self c.args.places.now (run_vals c.args.run) c.args.groups c.in-Sum.place c.in-Sum.sums c.in_ok-grown-in-Sum.field-0 c.in_ok-sums-in-Sum.sums c.in-Sum.is grown c.in_ok-sums-in-Sum.ensures.long c.in_ok-sums-in-Sum.ensures.more
+pub returns-in_ok-with_run-in-Sum : goal.returns-in_ok-with_run-in-Sum
+returns-in_ok-with_run-in-Sum c =
+    let e = c.in_ok-with_run-in-Sum.ensures in
+    sums_more c.args.self c.args.places.now (run_vals c.args.run) c.args.groups c.in-Sum.place c.in-Sum.sums c.in_ok-with_run-in-Sum.field-0 c.in-Sum.is e.short e.more
 
 pub find_least-requires-clause-places : goal.find_least-requires-clause-places
 find_least-requires-clause-places c =
