@@ -1,0 +1,3 @@
+//! Masks of rows. After the Rust's `vortex-mask`.
+
+pub use scan_values::Mask;

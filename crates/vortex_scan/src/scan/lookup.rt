@@ -1,0 +1,3 @@
+//! Rows of files by their places, call after call. An own call over the Rust's parts.
+
+pub use scan_lookup::{LookupFault, LookupSession, Place};
