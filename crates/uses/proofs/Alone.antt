@@ -5,23 +5,22 @@ use Rattle.std.specs.declared.alloc.Global.{Global}
 use Rattle.std.specs.declared.rc.Rc.{Rc}
 use Rattle.std.specs.declared.vec.Vec.{Vec}
 use Rattle.std.proofs.lemmas.List.Elements.{All-cons, All-nil}
-use Rattle.scan_values.specs.DataType.{DataType}
-use Rattle.scan_expr.specs.declared.request.ScanRequest.{ScanRequest}
-use Rattle.scan_segments.specs.Cache.{CacheState, empty_cache}
-use Rattle.scan_segments.specs.Requests.{Requested, is_live}
-use Rattle.scan_segments.specs.Source.{SourceState, Store, none_live}
-use Rattle.scan_segments.specs.declared.segment.SegmentKey.{SegmentKey}
-use Rattle.scan_layout.specs.Layout.{Layout}
-use Rattle.scan_opener.specs.Opener.{OpenerState}
-use Rattle.scan_opener.specs.OpenerMemory.{given_of}
-use Rattle.scan_opener.specs.declared.opener.MemoryOpener.{MemoryOpener}
-use Rattle.scan_drive.specs.declared.files.ScanFile.{ScanFile}
-use Rattle.scan_multi.specs.Answer.{ToldFile, answer}
-use Rattle.scan_multi.specs.Lawful.{IsIdle, IsLawful, Tells, Agrees, told_file}
-use Rattle.scan_multi.specs.Output.{ChunkData, OutputData, IsGiven, given}
-use Rattle.scan_multi.specs.Scans.{IsScan}
-use Rattle.scan_run.specs.FileOf.{memory_opener}
-use Rattle.uses.specs.Own.{AreOne, stored, table_file, table_source}
+use Rattle.vortex_scan.specs.Values.DataType.{DataType}
+use Rattle.vortex_scan.specs.Expr.declared.request.ScanRequest.{ScanRequest}
+use Rattle.vortex_scan.specs.Segments.Cache.{CacheState, empty_cache}
+use Rattle.vortex_scan.specs.Segments.Requests.{Requested, is_live}
+use Rattle.vortex_scan.specs.Segments.Source.{SourceState, Store, none_live}
+use Rattle.vortex_scan.specs.Segments.declared.segment.SegmentKey.{SegmentKey}
+use Rattle.vortex_scan.specs.Layout.Layout.{Layout}
+use Rattle.vortex_scan.specs.Opener.Opener.{OpenerState}
+use Rattle.vortex_scan.specs.Opener.OpenerMemory.{given_of}
+use Rattle.vortex_scan.specs.Opener.declared.opener.MemoryOpener.{MemoryOpener}
+use Rattle.vortex_scan.specs.Drive.declared.files.ScanFile.{ScanFile}
+use Rattle.vortex_scan.specs.Multi.Answer.{ToldFile, answer}
+use Rattle.vortex_scan.specs.Multi.Lawful.{IsIdle, IsLawful, Tells, Agrees, told_file}
+use Rattle.vortex_scan.specs.Multi.Output.{ChunkData, OutputData, IsGiven, given}
+use Rattle.vortex_scan.specs.Multi.Scans.{IsScan}
+use Rattle.uses.specs.Own.{AreOne, memory_opener, stored, table_file, table_source}
 use Rattle.uses.specs.declared.own_source.TableSource.{TableSource}
 
 -- a cache that keeps nothing agrees with any source

@@ -5,22 +5,24 @@ use Rattle.std.proofs.lemmas.List.{length-map}
 use Rattle.std.proofs.lemmas.List.Concat.{flat_map-cons}
 use Rattle.std.proofs.lemmas.List.Elements.{All-head, All-tail}
 use Rattle.std.proofs.lemmas.Slice.Zip.{length-zip}
-use Rattle.scan_values.specs.DataType.{DataType}
-use Rattle.scan_values.specs.declared.selection.Selection.TheVariants as selection
-use Rattle.scan_expr.specs.Expr.{Expr}
-use Rattle.scan_expr.specs.declared.request.ScanRequest.{ScanRequest}
-use Rattle.scan_segments.specs.Cache.{CacheState}
-use Rattle.scan_segments.specs.Faults.{capped}
-use Rattle.scan_segments.specs.Source.{SourceState}
-use Rattle.scan_segments.specs.declared.segment.SegmentKey.{SegmentKey}
-use Rattle.scan_opener.specs.Opener.{OpenerState}
-use Rattle.scan_drive.specs.declared.files.ScanFile.{ScanFile}
+use Rattle.vortex_scan.specs.Values.DataType.{DataType}
+use Rattle.vortex_scan.specs.Values.declared.selection.Selection.TheVariants as selection
+use Rattle.vortex_scan.specs.Expr.Expr.{Expr}
+use Rattle.vortex_scan.specs.Expr.declared.request.ScanRequest.{ScanRequest}
+use Rattle.vortex_scan.specs.Segments.Cache.{CacheState}
+use Rattle.vortex_scan.specs.Segments.Faults.{capped}
+use Rattle.vortex_scan.specs.Segments.Source.{SourceState}
+use Rattle.vortex_scan.specs.Segments.declared.segment.SegmentKey.{SegmentKey}
+use Rattle.vortex_scan.specs.Opener.Opener.{OpenerState}
+use Rattle.vortex_scan.specs.Drive.declared.files.ScanFile.{ScanFile}
 use Rattle.scan_manifest.specs.Manifest.{IsManifest}
-use Rattle.scan_multi.specs.Answer.{Item, answer}
-use Rattle.scan_multi.specs.Lawful.{told, told_file, IsLawful}
-use Rattle.scan_multi.specs.Moves.{EachMoves, FileMoves}
-use Rattle.scan_multi.specs.Output.{ChunkData, OutputData, IsChunk, IsGiven, chunk_items, given, limited}
-use Rattle.scan_multi.specs.Scans.{IsScan, ScanMoves}
+use Rattle.vortex_scan.specs.Multi.Answer.{Item, answer}
+use Rattle.vortex_scan.specs.Multi.Lawful.{told, told_file, IsLawful, Tells}
+use Rattle.vortex_scan.specs.Multi.Moves.{EachMoves, FileMoves}
+use Rattle.vortex_scan.specs.Multi.Output.{ChunkData, OutputData, IsChunk, IsGiven, chunk_items, given, limited}
+use Rattle.vortex_scan.specs.Multi.Scans.{IsScan, ScanMoves}
+use Rattle.vortex_scan.specs.Union.UnionAnswer.{union_answer}
+use Rattle.vortex_scan.specs.Union.UnionScans.{IsUnionScan}
 use Rattle.scan_manifest.specs.declared.manifest.Manifest.{Manifest}
 use Rattle.scan_run.specs.Io.{InputState}
 use Rattle.scan_run.specs.Memory.{memory_input, memory_output}
@@ -67,6 +69,12 @@ module _ {O S : Type 0} (opener : O → OpenerState) (source : S → SourceState
     (old new : List (ScanFile O S)) (c c' : CacheState SegmentKey) (out : OutputData) where
   pub first_given : IsScan opener source workers d q old new c c' out → IsLawful opener source old c → given out.chunks ≡ take most (answer d (first_of e most) (told opener source old))
   first_given s l = subst (λ (z : ScanRequest). IsGiven z.ordered z.limit (answer d z (told opener source old)) (given out.chunks)) is ((s.admits l).items)
+
+-- ---- the first rows of a union
+module _ {O S : Type 0} (opener : O → OpenerState) (source : S → SourceState) (workers : ℕ) (d : DataType) (q : ScanRequest) (e : Expr) (most : ℕ) (is : q ≡ first_of e most)
+    (old new : List (ScanFile O S)) (out : OutputData) where
+  pub first_under : IsUnionScan opener source workers d q old new out → All (Tells opener source) old → given out.chunks ≡ take most (union_answer d (first_of e most) (told opener source old))
+  first_under s l = subst (λ (z : ScanRequest). IsGiven z.ordered z.limit (union_answer d z (told opener source old)) (given out.chunks)) is ((s.admits l).items)
 
 -- ---- in order
 pub in-order : (b : Bool) (limit : Option ℕ) (all items : List Item) → b ≡ true → IsGiven b limit all items → items ≡ limited limit all

@@ -7,28 +7,28 @@ use Rattle.std.proofs.lemmas.List.{append-nil}
 use Rattle.std.proofs.lemmas.List.Concat.{flat_map-cons}
 use Rattle.std.proofs.lemmas.List.Elements.{All-cons, All-head, All-nil}
 use Rattle.std.proofs.lemmas.List.Folds.{Any-from_list_any, list_any-from_Any}
-use Rattle.scan_values.specs.DataType.{DataType}
-use Rattle.scan_values.specs.Marked.{Marked}
-use Rattle.scan_values.specs.Selections.{is_among, picked_rows}
-use Rattle.scan_values.specs.Val.{Val, is_clean, read_marked, marked-read}
-use Rattle.scan_values.specs.declared.selection.Selection.{Selection}
-use Rattle.scan_values.specs.declared.selection.Selection.TheVariants as selection
-use Rattle.scan_values.specs.declared.selection.Selection.TheVariants.{IncludeByIndex}
-use Rattle.scan_expr.specs.Eval.{eval}
-use Rattle.scan_expr.specs.Expr.{Expr, filter_conjuncts}
-use Rattle.scan_expr.specs.Infer.{infer}
-use Rattle.scan_expr.specs.declared.request.ScanRequest.{ScanRequest}
-use Rattle.scan_segments.specs.Cache.{CacheState}
-use Rattle.scan_segments.specs.Source.{SourceState, Store}
-use Rattle.scan_segments.specs.declared.segment.SegmentKey.{SegmentKey}
-use Rattle.scan_layout.specs.Layout.{Layout, rows_of}
-use Rattle.scan_layout.specs.RowValue.{row_value}
-use Rattle.scan_opener.specs.Opener.{Given, OpenerState, skip, layout_of}
-use Rattle.scan_drive.specs.declared.files.ScanFile.{ScanFile}
-use Rattle.scan_multi.specs.Answer.{Item, ToldFile, answer, drops, is_good, part_of, row_items, spills_at}
-use Rattle.scan_multi.specs.Lawful.{told, told_file, IsLawful}
-use Rattle.scan_multi.specs.Output.{ChunkData, OutputData, Admits, IsChunk, chunk_items, given}
-use Rattle.scan_multi.specs.Scans.{IsScan}
+use Rattle.vortex_scan.specs.Values.DataType.{DataType}
+use Rattle.vortex_scan.specs.Values.Marked.{Marked}
+use Rattle.vortex_scan.specs.Values.Selections.{is_among, picked_rows}
+use Rattle.vortex_scan.specs.Values.Val.{Val, is_clean, read_marked, marked-read}
+use Rattle.vortex_scan.specs.Values.declared.selection.Selection.{Selection}
+use Rattle.vortex_scan.specs.Values.declared.selection.Selection.TheVariants as selection
+use Rattle.vortex_scan.specs.Values.declared.selection.Selection.TheVariants.{IncludeByIndex}
+use Rattle.vortex_scan.specs.Expr.Eval.{eval}
+use Rattle.vortex_scan.specs.Expr.Expr.{Expr, filter_conjuncts}
+use Rattle.vortex_scan.specs.Expr.Infer.{infer}
+use Rattle.vortex_scan.specs.Expr.declared.request.ScanRequest.{ScanRequest}
+use Rattle.vortex_scan.specs.Segments.Cache.{CacheState}
+use Rattle.vortex_scan.specs.Segments.Source.{SourceState, Store}
+use Rattle.vortex_scan.specs.Segments.declared.segment.SegmentKey.{SegmentKey}
+use Rattle.vortex_scan.specs.Layout.Layout.{Layout, rows_of}
+use Rattle.vortex_scan.specs.Layout.RowValue.{row_value}
+use Rattle.vortex_scan.specs.Opener.Opener.{Given, OpenerState, skip, layout_of}
+use Rattle.vortex_scan.specs.Drive.declared.files.ScanFile.{ScanFile}
+use Rattle.vortex_scan.specs.Multi.Answer.{Item, ToldFile, answer, drops, is_good, part_of, row_items, spills_at}
+use Rattle.vortex_scan.specs.Multi.Lawful.{told, told_file, IsLawful}
+use Rattle.vortex_scan.specs.Multi.Output.{ChunkData, OutputData, Admits, IsChunk, chunk_items, given}
+use Rattle.vortex_scan.specs.Multi.Scans.{IsScan}
 use Rattle.uses.specs.Lookup.{IsLookedUpIn, IsLookedUp, first_value, row_request}
 
 -- ---- one row among numbers

@@ -1,23 +1,23 @@
 -- What a caller concludes that stops once it has enough rows.
 use Rattle.std.proofs.Common.{◌≡◌, ℕ, zero, suc, ◌≤◌, ◌+◌, List, [], ◌∷◌, ◌++◌, Bool, true, false, Option, None, Some, refl, sym, ap, ◌∙◌, subst, length, take, arith}
-use Rattle.scan_values.specs.DataType.{DataType}
-use Rattle.scan_values.specs.declared.selection.Selection.TheVariants as selection
-use Rattle.scan_expr.specs.Expr.{Expr}
-use Rattle.scan_expr.specs.Infer.{infer}
-use Rattle.scan_expr.specs.declared.request.ScanRequest.{ScanRequest}
-use Rattle.scan_segments.specs.Cache.{CacheState}
-use Rattle.scan_segments.specs.Faults.{capped}
-use Rattle.scan_segments.specs.Source.{SourceState}
-use Rattle.scan_segments.specs.declared.segment.SegmentKey.{SegmentKey}
-use Rattle.scan_opener.specs.Opener.{OpenerState}
-use Rattle.scan_drive.specs.declared.driving.DriveEnd.{DriveEnd}
-use Rattle.scan_drive.specs.declared.files.ScanFile.{ScanFile}
-use Rattle.scan_drive.specs.declared.sink.Flow.{Flow}
-use Rattle.scan_drive.specs.declared.sink.Flow.TheVariants as flow
-use Rattle.scan_multi.specs.Answer.{Item, answer}
-use Rattle.scan_multi.specs.Lawful.{told, IsLawful}
-use Rattle.scan_multi.specs.Output.{ChunkData, IsGiven, given}
-use Rattle.scan_multi.specs.Taken.{TakesFront, EndsScan}
+use Rattle.vortex_scan.specs.Values.DataType.{DataType}
+use Rattle.vortex_scan.specs.Values.declared.selection.Selection.TheVariants as selection
+use Rattle.vortex_scan.specs.Expr.Expr.{Expr}
+use Rattle.vortex_scan.specs.Expr.Infer.{infer}
+use Rattle.vortex_scan.specs.Expr.declared.request.ScanRequest.{ScanRequest}
+use Rattle.vortex_scan.specs.Segments.Cache.{CacheState}
+use Rattle.vortex_scan.specs.Segments.Faults.{capped}
+use Rattle.vortex_scan.specs.Segments.Source.{SourceState}
+use Rattle.vortex_scan.specs.Segments.declared.segment.SegmentKey.{SegmentKey}
+use Rattle.vortex_scan.specs.Opener.Opener.{OpenerState}
+use Rattle.vortex_scan.specs.Drive.declared.driving.DriveEnd.{DriveEnd}
+use Rattle.vortex_scan.specs.Drive.declared.files.ScanFile.{ScanFile}
+use Rattle.vortex_scan.specs.Drive.declared.sink.Flow.{Flow}
+use Rattle.vortex_scan.specs.Drive.declared.sink.Flow.TheVariants as flow
+use Rattle.vortex_scan.specs.Multi.Answer.{Item, answer}
+use Rattle.vortex_scan.specs.Multi.Lawful.{told, IsLawful}
+use Rattle.vortex_scan.specs.Multi.Output.{ChunkData, IsGiven, given}
+use Rattle.vortex_scan.specs.Multi.Taken.{TakesFront, EndsScan}
 use Rattle.uses.specs.Shows.{Shows}
 use Rattle.uses.specs.Uses.{rows_in, all_of}
 use Rattle.uses.proofs.Concluding.{given-long}

@@ -3,18 +3,18 @@ use Rattle.std.proofs.Common.{◌≡◌, ℕ, zero, suc, ◌+◌, ◌<◌, ◌�
 use Rattle.std.specs.Prelude.{All, zip, Option, IfSome}
 use Rattle.std.proofs.Math.IntN.{+ℤ_assoc, +ℤ_idl, +ℤ_idr}
 use Rattle.std.proofs.lemmas.List.Elements.{All-head, All-tail}
-use Rattle.scan_values.specs.DataType.{DataType}
-use Rattle.scan_values.specs.Val.{Val, int_val}
-use Rattle.scan_expr.specs.declared.request.ScanRequest.{ScanRequest}
-use Rattle.scan_segments.specs.Cache.{CacheState}
-use Rattle.scan_segments.specs.Source.{SourceState}
-use Rattle.scan_segments.specs.declared.segment.SegmentKey.{SegmentKey}
-use Rattle.scan_opener.specs.Opener.{OpenerState}
-use Rattle.scan_drive.specs.declared.files.ScanFile.{ScanFile}
-use Rattle.scan_multi.specs.Answer.{Item, answer}
-use Rattle.scan_multi.specs.Lawful.{told, IsLawful}
-use Rattle.scan_multi.specs.Output.{ChunkData, OutputData, IsChunk, chunk_items, given}
-use Rattle.scan_multi.specs.Scans.{IsScan}
+use Rattle.vortex_scan.specs.Values.DataType.{DataType}
+use Rattle.vortex_scan.specs.Values.Val.{Val, int_val}
+use Rattle.vortex_scan.specs.Expr.declared.request.ScanRequest.{ScanRequest}
+use Rattle.vortex_scan.specs.Segments.Cache.{CacheState}
+use Rattle.vortex_scan.specs.Segments.Source.{SourceState}
+use Rattle.vortex_scan.specs.Segments.declared.segment.SegmentKey.{SegmentKey}
+use Rattle.vortex_scan.specs.Opener.Opener.{OpenerState}
+use Rattle.vortex_scan.specs.Drive.declared.files.ScanFile.{ScanFile}
+use Rattle.vortex_scan.specs.Multi.Answer.{Item, answer}
+use Rattle.vortex_scan.specs.Multi.Lawful.{told, IsLawful}
+use Rattle.vortex_scan.specs.Multi.Output.{ChunkData, OutputData, IsChunk, chunk_items, given}
+use Rattle.vortex_scan.specs.Multi.Scans.{IsScan}
 use Rattle.uses.specs.Sums.{number_in, sum_of, with_value, values_in, chunk_values}
 use Rattle.uses.specs.Uses.{wanted}
 use Rattle.uses.proofs.Concluding.{in-order}

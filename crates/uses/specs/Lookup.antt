@@ -1,17 +1,17 @@
 -- What a look-up of one row concludes, in its own words.
 use Rattle.std.specs.Prelude.{◌≡◌, ℕ, ◌<◌, List, [], ◌∷◌, true, Option, None, Some, Any, slice_get}
-use Rattle.scan_values.specs.DataType.{DataType}
-use Rattle.scan_values.specs.Val.{Val, marked}
-use Rattle.scan_values.specs.declared.selection.Selection.TheVariants.{All, IncludeByIndex}
-use Rattle.scan_expr.specs.Eval.{eval}
-use Rattle.scan_expr.specs.Expr.{Expr, filter_conjuncts}
-use Rattle.scan_expr.specs.declared.request.ScanRequest.{ScanRequest}
-use Rattle.scan_segments.specs.Source.{Store}
-use Rattle.scan_layout.specs.Layout.{Layout, rows_of}
-use Rattle.scan_layout.specs.RowValue.{row_value}
-use Rattle.scan_opener.specs.Opener.{Given, skip, layout_of}
-use Rattle.scan_multi.specs.Answer.{ToldFile, drops}
-use Rattle.scan_multi.specs.Output.{ChunkData}
+use Rattle.vortex_scan.specs.Values.DataType.{DataType}
+use Rattle.vortex_scan.specs.Values.Val.{Val, marked}
+use Rattle.vortex_scan.specs.Values.declared.selection.Selection.TheVariants.{All, IncludeByIndex}
+use Rattle.vortex_scan.specs.Expr.Eval.{eval}
+use Rattle.vortex_scan.specs.Expr.Expr.{Expr, filter_conjuncts}
+use Rattle.vortex_scan.specs.Expr.declared.request.ScanRequest.{ScanRequest}
+use Rattle.vortex_scan.specs.Segments.Source.{Store}
+use Rattle.vortex_scan.specs.Layout.Layout.{Layout, rows_of}
+use Rattle.vortex_scan.specs.Layout.RowValue.{row_value}
+use Rattle.vortex_scan.specs.Opener.Opener.{Given, skip, layout_of}
+use Rattle.vortex_scan.specs.Multi.Answer.{ToldFile, drops}
+use Rattle.vortex_scan.specs.Multi.Output.{ChunkData}
 
 -- a request for one row, where the filter keeps it
 abbrev pub row_request : Expr → Option Expr → ℕ → ScanRequest

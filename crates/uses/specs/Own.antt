@@ -1,13 +1,15 @@
 -- What a caller concludes of a scan over a source of its own.
 use Rattle.std.specs.Prelude.{◌≡◌, ℕ, List, [], ◌∷◌, Some, All, false, slice_get}
-use Rattle.scan_segments.specs.Cache.{empty_cache}
-use Rattle.scan_segments.specs.Requests.{Requested, source_of}
-use Rattle.scan_segments.specs.Source.{SourceState, Store}
-use Rattle.scan_layout.specs.Layout.{Layout}
-use Rattle.scan_opener.specs.Opener.{OpenerState, layout_of}
-use Rattle.scan_drive.specs.declared.files.ScanFile.{ScanFile}
-use Rattle.scan_multi.specs.Answer.{ToldFile}
-use Rattle.scan_multi.specs.Lawful.{IsIdle, IsLawful, told}
+use Rattle.vortex_scan.specs.Segments.Cache.{empty_cache}
+use Rattle.vortex_scan.specs.Segments.Requests.{Requested, source_of}
+use Rattle.vortex_scan.specs.Segments.Source.{SourceState, Store}
+use Rattle.vortex_scan.specs.Layout.Layout.{Layout}
+use Rattle.vortex_scan.specs.Opener.Opener.{OpenerState, layout_of}
+use Rattle.vortex_scan.specs.Opener.OpenerMemory.{opener_state}
+use Rattle.vortex_scan.specs.Opener.declared.opener.MemoryOpener.{MemoryOpener}
+use Rattle.vortex_scan.specs.Drive.declared.files.ScanFile.{ScanFile}
+use Rattle.vortex_scan.specs.Multi.Answer.{ToldFile}
+use Rattle.vortex_scan.specs.Multi.Lawful.{IsIdle, IsLawful, told}
 use Rattle.uses.specs.declared.own_source.TableSource.{TableSource}
 
 -- the segments of a table, by their places
@@ -20,6 +22,10 @@ table_state segments requests = source_of requests (Some (stored segments)) 0 0 
 
 abbrev pub table_source : TableSource → SourceState
 table_source s = table_state s.segments.items s.requests
+
+-- an opener in memory, as an opener
+abbrev pub memory_opener : MemoryOpener → OpenerState
+memory_opener s = opener_state s.gives s.script s.faults s.polls
 
 -- a file of this layout, whose segments stand in a table
 abbrev pub table_file : Layout → List (List ℕ) → ToldFile

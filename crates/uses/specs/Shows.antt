@@ -1,9 +1,9 @@
 -- A sink that keeps chunks, and counts their rows as they come.
 use Rattle.std.proofs.Common.{refl, sym, ap, ◌∙◌, append-nil, append_assoc}
 use Rattle.std.specs.Prelude.{◌≡◌, ◌++◌, ℕ, List}
-use Rattle.scan_segments.specs.Faults.{capped}
-use Rattle.scan_drive.specs.Taking.{IsTaking}
-use Rattle.scan_multi.specs.Output.{ChunkData}
+use Rattle.vortex_scan.specs.Segments.Faults.{capped}
+use Rattle.vortex_scan.specs.Drive.Taking.{IsTaking}
+use Rattle.vortex_scan.specs.Multi.Output.{ChunkData}
 use Rattle.uses.specs.Uses.{rows_in}
 
 -- the chunks, how many rows they have together up to the greatest u64, and how many are wanted

@@ -1,9 +1,9 @@
 -- What a sum of a column concludes, in its own words.
 use Rattle.std.specs.Prelude.{ℕ, ℤ, pos, ◌+ℤ◌, List, [], ◌∷◌, ◌++◌, Option, None, Some}
 use Rattle.std.specs.List.{flat_map}
-use Rattle.scan_values.specs.Val.{Val, null_val, bool_val, int_val, text_val, list_val, struct_val}
-use Rattle.scan_multi.specs.Answer.{Item}
-use Rattle.scan_multi.specs.Output.{ChunkData}
+use Rattle.vortex_scan.specs.Values.Val.{Val, null_val, bool_val, int_val, text_val, list_val, struct_val}
+use Rattle.vortex_scan.specs.Multi.Answer.{Item}
+use Rattle.vortex_scan.specs.Multi.Output.{ChunkData}
 
 -- the number that a value is, and 0 of any other
 abbrev pub number_in : Val → ℤ

@@ -1,17 +1,17 @@
 -- What callers of a scan conclude, in their own words.
 use Rattle.std.specs.Prelude.{◌≡◌, ◌+◌, ℕ, List, [], ◌∷◌, true, None, Some, length}
-use Rattle.scan_values.specs.DataType.{DataType}
-use Rattle.scan_values.specs.declared.selection.Selection.TheVariants.{All}
-use Rattle.scan_expr.specs.Expr.{Expr}
-use Rattle.scan_expr.specs.declared.request.ScanRequest.{ScanRequest}
-use Rattle.scan_segments.specs.Source.{SourceState}
-use Rattle.scan_opener.specs.Opener.{OpenerState}
-use Rattle.scan_drive.specs.declared.files.ScanFile.{ScanFile}
+use Rattle.vortex_scan.specs.Values.DataType.{DataType}
+use Rattle.vortex_scan.specs.Values.declared.selection.Selection.TheVariants.{All}
+use Rattle.vortex_scan.specs.Expr.Expr.{Expr}
+use Rattle.vortex_scan.specs.Expr.declared.request.ScanRequest.{ScanRequest}
+use Rattle.vortex_scan.specs.Segments.Source.{SourceState}
+use Rattle.vortex_scan.specs.Opener.Opener.{OpenerState}
+use Rattle.vortex_scan.specs.Drive.declared.files.ScanFile.{ScanFile}
 use Rattle.scan_manifest.specs.declared.manifest.Manifest.{Manifest}
 use Rattle.scan_manifest.specs.Manifest.{IsManifest}
-use Rattle.scan_multi.specs.Answer.{Item, answer}
-use Rattle.scan_multi.specs.Lawful.{told}
-use Rattle.scan_multi.specs.Output.{ChunkData, limited}
+use Rattle.vortex_scan.specs.Multi.Answer.{Item, answer}
+use Rattle.vortex_scan.specs.Multi.Lawful.{told}
+use Rattle.vortex_scan.specs.Multi.Output.{ChunkData, limited}
 use Rattle.scan_run.specs.Run.{IsScanned, printed}
 
 -- how many rows chunks have together

@@ -1,15 +1,17 @@
 //! An engine that counts rows.
 ghost use Rattle.std.specs.Prelude.{◌≡◌, ◌+◌, All, IfOk, length, drop};
-ghost use Rattle.scan_segments.specs.Faults.{capped};
-ghost use Rattle.scan_multi.specs.Lawful.{IsIdle, IsLawful};
+ghost use Rattle.vortex_scan.specs.Segments.Faults.{capped};
+ghost use Rattle.vortex_scan.specs.Words.{IsIdle, IsLawful};
 ghost use Rattle.uses.specs.Uses.{rows_in, wanted};
 
-use scan_expr::ScanRequest;
-use scan_multi::{LayoutReaderFactory, NoGate, ScanChunk, ScanFault, ScanFile, scan_files};
-use scan_segments::{KeyedSegmentCache, SegmentSource};
-use scan_values::DType;
 use std::alloc::Global;
 use std::thread::Threads;
+use vortex_scan::dtype::DType;
+use vortex_scan::scan::ScanRequest;
+use vortex_scan::scan::multi::{
+    LayoutReaderFactory, NoGate, ScanChunk, ScanFault, ScanFile, scan_files,
+};
+use vortex_scan::segments::{KeyedSegmentCache, SegmentSource};
 
 /// How many rows the chunks have together, up to the greatest u64.
 fn count_in(chunks: &[ScanChunk]) -> u64

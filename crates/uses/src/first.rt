@@ -1,16 +1,17 @@
 //! An engine that shows the first rows.
 ghost use Rattle.std.specs.Prelude.{◌≡◌, All, IfOk, take};
-ghost use Rattle.scan_multi.specs.Answer.{answer};
-ghost use Rattle.scan_multi.specs.Lawful.{IsIdle, IsLawful, told};
-ghost use Rattle.scan_multi.specs.Output.{given};
+ghost use Rattle.vortex_scan.specs.Words.{IsIdle, IsLawful, answer, given, told};
 ghost use Rattle.uses.specs.Uses.{first_of};
 
-use scan_expr::{Expression, ScanRequest};
-use scan_multi::{LayoutReaderFactory, NoGate, ScanChunk, ScanFault, ScanFile, scan_files};
-use scan_segments::{KeyedSegmentCache, SegmentSource};
-use scan_values::DType;
 use std::alloc::Global;
 use std::thread::Threads;
+use vortex_scan::dtype::DType;
+use vortex_scan::expr::Expression;
+use vortex_scan::scan::ScanRequest;
+use vortex_scan::scan::multi::{
+    LayoutReaderFactory, NoGate, ScanChunk, ScanFault, ScanFile, scan_files,
+};
+use vortex_scan::segments::{KeyedSegmentCache, SegmentSource};
 
 /// The first rows of files, at most so many: over lawful objects those that stand first in the row-by-row answer, each
 /// with its place and its value.

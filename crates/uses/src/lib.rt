@@ -1,8 +1,10 @@
-//! Callers of the library, as one would write them: each says in its own words what it may conclude of a scan.
+//! Callers of the library, as one would write them: each says in its own words what it may conclude of a scan. All but
+//! the writer of lines stand over the names of vortex_scan alone.
 #![tactic(auto)]
 
 mod count;
 mod first;
+mod look;
 mod never;
 mod own_source;
 mod program;
@@ -11,9 +13,11 @@ mod shown;
 mod source_twice;
 mod sum;
 mod twice;
+mod under;
 
 pub use count::count_rows;
 pub use first::first_rows;
+pub use look::values_at;
 pub use own_source::rows_of_table;
 pub use program::lines_of;
 pub use row::value_at_row;
@@ -21,3 +25,4 @@ pub use shown::shown_rows;
 pub use source_twice::scan_source_twice;
 pub use sum::sum_rows;
 pub use twice::scan_twice;
+pub use under::first_rows_under;

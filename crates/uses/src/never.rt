@@ -1,8 +1,8 @@
 //! Numbers of calls.
 ghost use Rattle.std.specs.Prelude.{◌≡◌, []};
 
-use scan_values::StrictSorted;
 use std::alloc::Global;
+use vortex_scan::scan::StrictSorted;
 
 /// No numbers of calls: nothing fails by a script.
 pub(crate) fn never(alloc: Global) -> StrictSorted

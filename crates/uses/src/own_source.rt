@@ -1,21 +1,19 @@
 //! A source of one's own: a table of segments, numbered from 0.
 ghost use Rattle.std.specs.Prelude.{◌≡◌, ◌∷◌, [], IfOk};
-ghost use Rattle.scan_multi.specs.Answer.{answer};
-ghost use Rattle.scan_multi.specs.Output.{given, IsGiven};
-ghost use Rattle.scan_run.specs.FileOf.{memory_opener};
-ghost use Rattle.uses.specs.Own.{AreOne, table_file, table_source};
+ghost use Rattle.vortex_scan.specs.Words.{IsGiven, answer, given};
+ghost use Rattle.uses.specs.Own.{AreOne, memory_opener, table_file, table_source};
 
 use crate::never::never;
-use scan_caches::NoOpSegmentCache;
-use scan_expr::ScanRequest;
-use scan_layout::LayoutRef;
-use scan_multi::{MemoryOpener, NoGate, ScanChunk, ScanFault, ScanFile, scan_files};
-use scan_segments::{
-    ByteBuffer, Fits, Polled, Polls, Requests, SegmentId, SegmentSource, SegmentSourceId,
-};
-use scan_values::{DType, NoMemory};
 use std::alloc::Global;
 use std::thread::Threads;
+use vortex_scan::dtype::DType;
+use vortex_scan::scan::ScanRequest;
+use vortex_scan::scan::multi::{MemoryOpener, NoGate, ScanChunk, ScanFault, ScanFile, scan_files};
+use vortex_scan::segments::{
+    ByteBuffer, Fits, NoOpSegmentCache, Polled, Polls, Requests, SegmentId, SegmentSource,
+    SegmentSourceId,
+};
+use vortex_scan::{LayoutRef, NoMemory};
 
 /// Segments by their places in a table.
 #[derive(Drop)]

@@ -8,10 +8,10 @@ ghost use Rattle.uses.specs.Uses.{AreLinesOf};
 use crate::never::never;
 use scan_run::run::run;
 use scan_run::{MemoryInput, MemoryOutput, NoGate};
-use scan_values::NoMemory;
 use std::alloc::Global;
 use std::hash::BuildHasher;
 use std::thread::Threads;
+use vortex_scan::NoMemory;
 
 /// The words with which the program is called.
 fn scan_words(alloc: Global) -> Result<Vec<String>, NoMemory>

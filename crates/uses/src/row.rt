@@ -1,17 +1,22 @@
 //! A service that looks up one row.
 ghost use Rattle.std.specs.Prelude.{◌≡◌, [], ◌∷◌, All, IfOk, length};
 ghost use Rattle.std.specs.Option.{option_map};
-ghost use Rattle.scan_values.specs.Values.{val_of};
-ghost use Rattle.scan_values.specs.declared.selection.Selection.TheVariants.{IncludeByIndex};
-ghost use Rattle.scan_multi.specs.Lawful.{IsIdle, IsLawful, told};
+ghost use Rattle.vortex_scan.specs.Values.Values.{val_of};
+ghost use Rattle.vortex_scan.specs.Values.declared.selection.Selection.TheVariants.{IncludeByIndex};
+ghost use Rattle.vortex_scan.specs.Words.{IsIdle, IsLawful, told};
 ghost use Rattle.uses.specs.Lookup.{IsLookedUp, first_value, row_request};
 
-use scan_expr::{Expression, ScanRequest};
-use scan_multi::{LayoutReaderFactory, NoGate, ScanChunk, ScanFault, ScanFile, scan_files};
-use scan_segments::{KeyedSegmentCache, SegmentSource};
-use scan_values::{DType, NoMemory, Selection, StrictSorted, Value};
 use std::alloc::Global;
 use std::thread::Threads;
+use vortex_scan::NoMemory;
+use vortex_scan::arrays::Value;
+use vortex_scan::dtype::DType;
+use vortex_scan::expr::Expression;
+use vortex_scan::scan::multi::{
+    LayoutReaderFactory, NoGate, ScanChunk, ScanFault, ScanFile, scan_files,
+};
+use vortex_scan::scan::{ScanRequest, Selection, StrictSorted};
+use vortex_scan::segments::{KeyedSegmentCache, SegmentSource};
 
 /// The selection of one row.
 fn only(alloc: Global, row: u64) -> Result<Selection, NoMemory>

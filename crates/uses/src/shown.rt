@@ -1,18 +1,18 @@
 //! An engine that shows rows as they come, and stops once it has enough.
 ghost use Rattle.std.specs.Prelude.{◌≡◌, ◌≤◌, All, IfOk, take};
-ghost use Rattle.scan_multi.specs.Answer.{answer};
-ghost use Rattle.scan_multi.specs.Lawful.{IsIdle, IsLawful, told};
-ghost use Rattle.scan_multi.specs.Output.{given};
+ghost use Rattle.vortex_scan.specs.Words.{IsIdle, IsLawful, answer, given, told};
 ghost use Rattle.uses.specs.Uses.{all_of};
 
-use scan_expr::{Expression, ScanRequest};
-use scan_multi::{
-    ChunkSink, ColumnChunk, Flow, LayoutReaderFactory, NoGate, ScanFault, ScanFile, scan_into,
-};
-use scan_segments::{KeyedSegmentCache, SegmentSource};
-use scan_values::{DType, NoMemory};
 use std::alloc::Global;
 use std::thread::Threads;
+use vortex_scan::NoMemory;
+use vortex_scan::dtype::DType;
+use vortex_scan::expr::Expression;
+use vortex_scan::scan::ScanRequest;
+use vortex_scan::scan::multi::{
+    ChunkSink, ColumnChunk, Flow, LayoutReaderFactory, NoGate, ScanFault, ScanFile, scan_into,
+};
+use vortex_scan::segments::{KeyedSegmentCache, SegmentSource};
 
 /// Keeps chunks until they have so many rows together, which it counts up to the greatest u64.
 #[derive(Drop)]

@@ -1,12 +1,12 @@
 //! A catalogue that scans a source twice.
 ghost use Rattle.std.specs.Prelude.{IfOk};
-ghost use Rattle.scan_sources.specs.Requests.{bound_request};
-ghost use Rattle.scan_sources.specs.Sources.{Starts};
+ghost use Rattle.vortex_scan.specs.Sources.Requests.{bound_request};
+ghost use Rattle.vortex_scan.specs.Sources.Sources.{Starts};
 
-use scan_expr::ScanRequest;
-use scan_readers::LayoutReader;
-use scan_sources::{LayoutReaderDataSource, LayoutScan, SourceFault};
 use std::alloc::Global;
+use vortex_scan::LayoutReader;
+use vortex_scan::scan::ScanRequest;
+use vortex_scan::scan::layout::{LayoutReaderDataSource, LayoutScan, SourceFault};
 
 /// Scans a source of one reader, and the same source once more. The second scan is of the rows that the source had before
 /// the first, in parts of the same size: the first has changed neither.

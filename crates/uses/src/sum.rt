@@ -1,16 +1,18 @@
 //! An engine that sums a column of numbers.
 ghost use Rattle.std.specs.Prelude.{◌≡◌, ◌+ℤ◌, All, IfOk, IfSome, map, true};
-ghost use Rattle.scan_values.specs.Val.{int_val};
-ghost use Rattle.scan_multi.specs.Lawful.{IsIdle, IsLawful};
+ghost use Rattle.vortex_scan.specs.Values.Val.{int_val};
+ghost use Rattle.vortex_scan.specs.Words.{IsIdle, IsLawful};
 ghost use Rattle.uses.specs.Sums.{sum_of, values_in, chunk_values};
 ghost use Rattle.uses.specs.Uses.{wanted};
 
-use scan_expr::ScanRequest;
-use scan_multi::{ColumnChunk, LayoutReaderFactory, NoGate, ScanFault, ScanFile, scan_columns_of};
-use scan_segments::{KeyedSegmentCache, SegmentSource};
-use scan_values::DType;
 use std::alloc::Global;
 use std::thread::Threads;
+use vortex_scan::dtype::DType;
+use vortex_scan::scan::ScanRequest;
+use vortex_scan::scan::multi::{
+    ColumnChunk, LayoutReaderFactory, NoGate, ScanFault, ScanFile, scan_columns_of,
+};
+use vortex_scan::segments::{KeyedSegmentCache, SegmentSource};
 
 /// A number, and the sum of others; none where an i128 does not hold it.
 fn added(first: i128, numbers: &[i64]) -> Option<i128>

@@ -1,14 +1,15 @@
 //! A client that asks again.
 ghost use Rattle.std.specs.Prelude.{◌≡◌, All, IfOk, true};
-ghost use Rattle.scan_multi.specs.Lawful.{IsIdle, IsLawful};
-ghost use Rattle.scan_multi.specs.Output.{given};
+ghost use Rattle.vortex_scan.specs.Words.{IsIdle, IsLawful, given};
 
-use scan_expr::ScanRequest;
-use scan_multi::{LayoutReaderFactory, NoGate, ScanChunk, ScanFault, ScanFile, scan_files};
-use scan_segments::{KeyedSegmentCache, SegmentSource};
-use scan_values::DType;
 use std::alloc::Global;
 use std::thread::Threads;
+use vortex_scan::dtype::DType;
+use vortex_scan::scan::ScanRequest;
+use vortex_scan::scan::multi::{
+    LayoutReaderFactory, NoGate, ScanChunk, ScanFault, ScanFile, scan_files,
+};
+use vortex_scan::segments::{KeyedSegmentCache, SegmentSource};
 
 /// Scans files, and the same files once more over the cache that the first scan has filled. Over lawful objects an
 /// ordered request gives the same rows both times, whatever the cache has dropped or kept; and objects that were lawful

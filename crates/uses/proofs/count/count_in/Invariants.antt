@@ -1,5 +1,5 @@
 use Rattle.std.proofs.Common.{◌≡◌, ◌+◌, ◌≤◌, drop}
-use Rattle.scan_segments.specs.Faults.{capped}
+use Rattle.vortex_scan.specs.Segments.Faults.{capped}
 use Rattle.uses.specs.Uses.{rows_in}
 use Rattle.uses.proofs.count.count_in.Given as goal
 

@@ -1,7 +1,7 @@
 use Rattle.std.proofs.Common.{rules, ap, ◌∙◌}
 use Rattle.std.proofs.lemmas.Result.{err_from_is_err_and}
-use Rattle.scan_segments.specs.Faults.{capped}
-use Rattle.scan_multi.specs.Output.{OutputData}
+use Rattle.vortex_scan.specs.Segments.Faults.{capped}
+use Rattle.vortex_scan.specs.Multi.Output.{OutputData}
 use Rattle.uses.specs.Uses.{rows_in}
 use Rattle.uses.proofs.Concluding.{counted}
 use Rattle.uses.proofs.count.count_rows.Goals as goal

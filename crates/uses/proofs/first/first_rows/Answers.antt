@@ -1,6 +1,6 @@
 use Rattle.std.proofs.Common.{rules, ap, ◌∙◌}
 use Rattle.std.proofs.lemmas.Result.{err_from_is_err_and}
-use Rattle.scan_multi.specs.Output.{OutputData, given}
+use Rattle.vortex_scan.specs.Multi.Output.{OutputData, given}
 use Rattle.uses.proofs.Concluding.{first-is, first_given}
 use Rattle.uses.proofs.first.first_rows.Goals as goal
 

@@ -1,8 +1,7 @@
 use Rattle.std.proofs.Common.{rules, ap}
 use Rattle.std.proofs.lemmas.Result.{err_from_is_err_and}
-use Rattle.scan_multi.specs.Output.{OutputData}
-use Rattle.scan_run.specs.FileOf.{memory_opener}
-use Rattle.uses.specs.Own.{table_file, table_source}
+use Rattle.vortex_scan.specs.Multi.Output.{OutputData}
+use Rattle.uses.specs.Own.{memory_opener, table_file, table_source}
 use Rattle.uses.proofs.Alone.{given_alone}
 use Rattle.uses.proofs.own_source.rows_of_table.Goals as goal
 

@@ -1,8 +1,7 @@
 use Rattle.std.proofs.Common.{List, [], ◌∷◌, ◌++◌, refl, sym, ap, ◌∙◌, subst}
-use Rattle.scan_opener.specs.declared.opener.MemoryOpener.{MemoryOpener}
-use Rattle.scan_drive.specs.declared.files.ScanFile.{ScanFile}
-use Rattle.scan_run.specs.FileOf.{memory_opener}
-use Rattle.uses.specs.Own.{AreOne, table_file, table_source}
+use Rattle.vortex_scan.specs.Opener.declared.opener.MemoryOpener.{MemoryOpener}
+use Rattle.vortex_scan.specs.Drive.declared.files.ScanFile.{ScanFile}
+use Rattle.uses.specs.Own.{AreOne, memory_opener, table_file, table_source}
 use Rattle.uses.specs.declared.own_source.TableSource.{TableSource}
 use Rattle.uses.proofs.Alone.{table_alone}
 use Rattle.uses.proofs.own_source.table.Goals as goal

@@ -1,6 +1,6 @@
 use Rattle.std.proofs.Common.{rules, ap, ◌∙◌}
 use Rattle.std.proofs.lemmas.Result.{err_from_is_err_and}
-use Rattle.scan_multi.specs.Output.{OutputData}
+use Rattle.vortex_scan.specs.Multi.Output.{OutputData}
 use Rattle.uses.specs.Lookup.{first_value}
 use Rattle.uses.proofs.LookingUp.{found}
 use Rattle.uses.proofs.row.value_at_row.Goals as goal

@@ -1,5 +1,5 @@
 use Rattle.std.proofs.Common.{◌≡◌, ◌+ℤ◌, drop, map}
-use Rattle.scan_values.specs.Val.{int_val}
+use Rattle.vortex_scan.specs.Values.Val.{int_val}
 use Rattle.uses.specs.Sums.{sum_of}
 use Rattle.uses.proofs.sum.added.Given as goal
 

@@ -1,8 +1,8 @@
 use Rattle.std.proofs.Common.{◌≡◌, ◌∙◌, ◌<◌, length, map, ap, rules}
 use mir.Val.{to_z, of_z}
 use mir.Syntax.{w128}
-use Rattle.scan_values.specs.Val.{int_val}
-use Rattle.scan_multi.specs.Output.{ChunkData}
+use Rattle.vortex_scan.specs.Values.Val.{int_val}
+use Rattle.vortex_scan.specs.Multi.Output.{ChunkData}
 use Rattle.uses.specs.Sums.{sum_of, chunk_values}
 use Rattle.uses.proofs.Summing.{chunk_more}
 use Rattle.uses.proofs.sum.sum_in.Goals as goal

@@ -1,7 +1,7 @@
 use Rattle.std.proofs.Common.{rules, ap, ◌∙◌}
 use Rattle.std.proofs.lemmas.Option.{IfSome_then}
 use Rattle.std.proofs.lemmas.Result.{err_from_is_err_and}
-use Rattle.scan_multi.specs.Output.{OutputData}
+use Rattle.vortex_scan.specs.Multi.Output.{OutputData}
 use Rattle.uses.specs.Sums.{sum_of, chunk_values}
 use Rattle.uses.proofs.Summing.{summed}
 use Rattle.uses.proofs.sum.sum_rows.Goals as goal

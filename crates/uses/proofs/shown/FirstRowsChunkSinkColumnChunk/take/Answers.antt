@@ -1,5 +1,5 @@
 use Rattle.std.proofs.Common.{rules, ◌≡◌, ◌∙◌, ◌+◌, ◌++◌, ◌∷◌, [], length, refl, sym, ap}
-use Rattle.scan_segments.specs.Faults.{capped}
+use Rattle.vortex_scan.specs.Segments.Faults.{capped}
 use Rattle.uses.specs.Uses.{rows_in}
 use Rattle.uses.proofs.Showing.{one-more}
 use Rattle.uses.proofs.shown.FirstRowsChunkSinkColumnChunk.take.Goals as goal
