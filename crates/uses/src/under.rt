@@ -16,7 +16,6 @@ use vortex_scan::segments::SegmentSource;
 /// The first rows of files of older schemas, at most so many, as rows of one dtype: where openers and sources tell,
 /// those that stand first in the row-by-row answer under that dtype, each with its place and its value. The cache of
 /// the scan holds so many bytes.
-#[tactic(none)]
 pub fn first_rows_under<R: Threads + Sync, O: LayoutReaderFactory + Drop, S: SegmentSource + Drop>(
     rt: &R,
     alloc: Global,

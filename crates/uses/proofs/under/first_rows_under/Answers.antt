@@ -4,8 +4,8 @@ use Rattle.vortex_scan.specs.Multi.Output.{OutputData, given}
 use Rattle.uses.proofs.Concluding.{first-is, first_under}
 use Rattle.uses.proofs.under.first_rows_under.Goals as goal
 
-pub scan_union-requires : goal.scan_union-requires
-scan_union-requires g c = let idle = c.requires in search (rules, idle)
+pub scan_union-requires-clause-idle : goal.scan_union-requires-clause-idle
+scan_union-requires-clause-idle g c = let idle = c.requires in search (rules, idle)
 
 -- ---- a refusal
 pub returns-in_err-output-clause-first : goal.returns-in_err-output-clause-first
