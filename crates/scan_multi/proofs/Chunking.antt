@@ -20,7 +20,7 @@ use Rattle.scan_multi.specs.Answer.{ToldFile, answer}
 use Rattle.scan_multi.specs.Asked.{Row, AreClean, AsksFor, clean_value, item_from, items_from, tale_of}
 use Rattle.scan_multi.specs.Before.{IsBelow, ReachesFile}
 use Rattle.scan_multi.specs.Late.{SomeAreFew}
-use Rattle.scan_multi.specs.Output.{IsChoice, IsChunk, IsGiven, chunk_items, given}
+use Rattle.scan_multi.specs.Output.{IsChoice, IsChunk, IsGiven, IsShaped, chunk_items, given}
 use Rattle.scan_multi.specs.Placed.{chunk_of, IsEven}
 use Rattle.scan_multi.proofs.Arranged.{choice_given, few_given, rows_typed_in}
 use Rattle.scan_multi.proofs.Meaning.{AreOf}
@@ -106,6 +106,17 @@ are_chunks t (c ∷ cs) some even of =
       dtype = first_typed c.file (c.rows).values.dtype t (c.rows).numbers (c.rows).values.items (rows_in cs) row here;
     })
     (are_chunks t cs (All-tail (HasRow row_items) c cs some) (All-tail IsEven (chunk_of c) (map chunk_of cs) even) (typed_behind t (map (λ x. (c.file, x)) (row_items c.rows)) (rows_in cs) here))
+
+-- a chunk of a split with a row has as many rows as values, and one
+pub shaped_chunks : (chunks : List (Chunk RowsData)) → All (HasRow row_items) chunks → All IsEven (map chunk_of chunks) → All IsShaped (map chunk_of chunks)
+shaped_chunks [] some even = All-nil IsShaped
+shaped_chunks (c ∷ cs) some even =
+    All-cons IsShaped (chunk_of c) (map chunk_of cs)
+    (record {
+      even = All-head IsEven (chunk_of c) (map chunk_of cs) even;
+      some = some-row (c.rows).values.dtype (c.rows).numbers (c.rows).values.items (All-head (HasRow row_items) c cs some);
+    })
+    (shaped_chunks cs (All-tail (HasRow row_items) c cs some) (All-tail IsEven (chunk_of c) (map chunk_of cs) even))
 
 -- ---- in the words of a scan
 below-of : (limit : Option ℕ) (n : ℕ) → Fits n limit → IsBelow limit n

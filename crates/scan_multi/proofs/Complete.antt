@@ -26,13 +26,13 @@ use Rattle.scan_multi.specs.declared.scan.fault.ScanFault.TheVariants as fault
 use Rattle.scan_multi.proofs.Goods.{and-left, and-right, good-form, well_typed}
 
 -- a good file is of the dtype
-of-type : (d : DataType) (q : ScanRequest) (gives : Option Given) → IsSome gives → IfSome gives (IsOfOtherType d) → IsGood d q (unwrap_or gives skip) → ⊥
-of-type d q None s u g = cc
-of-type d q (Some skip) s u g = u
-of-type d q (Some (layout_of l)) s u g = u (well_typed l d (good-form d l (and-left (is_none (first_fault l d)) (is_within q.row_range (rows_of l)) g)))
+pub of_its_type : (d : DataType) (q : ScanRequest) (gives : Option Given) → IsSome gives → IfSome gives (IsOfOtherType d) → IsGood d q (unwrap_or gives skip) → ⊥
+of_its_type d q None s u g = cc
+of_its_type d q (Some skip) s u g = u
+of_its_type d q (Some (layout_of l)) s u g = u (well_typed l d (good-form d l (and-left (is_none (first_fault l d)) (is_within q.row_range (rows_of l)) g)))
 
 -- and well-formed
-formed : (d : DataType) (q : ScanRequest) (f : LayoutFault) (gives : Option Given) → IsSome gives → IfSome gives (IsIllFormed d f) → IsGood d q (unwrap_or gives skip) → ⊥
+pub formed : (d : DataType) (q : ScanRequest) (f : LayoutFault) (gives : Option Given) → IsSome gives → IfSome gives (IsIllFormed d f) → IsGood d q (unwrap_or gives skip) → ⊥
 formed d q f None s u g = cc
 formed d q f (Some skip) s u g = u
 formed d q f (Some (layout_of l)) s u g =
@@ -41,7 +41,7 @@ formed d q f (Some (layout_of l)) s u g =
     cc
 
 -- and has the rows of the range
-within : (d : DataType) (q : ScanRequest) (gives : Option Given) → IsSome gives → IfSome gives (EndsPast d q) → IsGood d q (unwrap_or gives skip) → ⊥
+pub within : (d : DataType) (q : ScanRequest) (gives : Option Given) → IsSome gives → IfSome gives (EndsPast d q) → IsGood d q (unwrap_or gives skip) → ⊥
 within d q None s u g = cc
 within d q (Some skip) s u g = u
 within d q (Some (layout_of l)) s u g =
@@ -88,7 +88,7 @@ module _ {O S : Type 0} (opener : O → OpenerState) (source : S → SourceState
     go (fault.Bind f) h = let no-fault : ◌≡◌ {A = Option ScanFault} None (Some (fault.Bind f)) = sym valid.no_fault ∙ h in cc
     go (fault.Opener place) at = absurd (never _ place at (λ f lt w. (none place f lt).0 w))
     go (fault.Source place id) at = absurd (never _ place at (λ f lt w. (none place f lt).1 w.failed))
-    go (fault.DTypeMismatch place) at = absurd (never _ place at (λ f lt w. of-type d q (opener (get_or old place f).opener).gives (gives place f lt) w.1 (good place f lt)))
+    go (fault.DTypeMismatch place) at = absurd (never _ place at (λ f lt w. of_its_type d q (opener (get_or old place f).opener).gives (gives place f lt) w.1 (good place f lt)))
     go (fault.Layout place g) at = absurd (never _ place at (λ f lt w. formed d q g (opener (get_or old place f).opener).gives (gives place f lt) w.1 (good place f lt)))
     go (fault.RowRange (Past place)) at = absurd (never _ place at (λ f lt w. within d q (opener (get_or old place f).opener).gives (gives place f lt) w.1 (good place f lt)))
     go (fault.TooManyRows place) at =

@@ -27,7 +27,7 @@ use Rattle.scan_multi.specs.Checked.{IsRequestFault}
 use Rattle.scan_multi.specs.Lawful.{told_file, told, IsIdle}
 use Rattle.scan_multi.specs.Moves.{FileMoves}
 use Rattle.scan_multi.specs.Named.{named}
-use Rattle.scan_multi.specs.Output.{ChunkData, IsChunk, IsGiven}
+use Rattle.scan_multi.specs.Output.{ChunkData, IsChunk, IsGiven, IsShaped}
 use Rattle.scan_multi.specs.Placed.{no_counts}
 use Rattle.scan_multi.specs.Request.{or_else, unless, of_bind, has_no_partitions, is_forward, first_request_fault}
 use Rattle.scan_multi.specs.Scans.{IsScan, IsRefusedFor, ScanMoves}
@@ -115,12 +115,15 @@ module _ {O S : Type 0} (opener : O → OpenerState) (source : S → SourceState
       lawful = λ l. l;
       lookups = since c (LooksUpFirst source files files) (record { missed = λ k. rw (none-asked files) (omega arith); follow = λ k one. refl });
       untouched = any (first_request_fault workers d q) _ (λ f. (refl, refl));
+      nothing = λ z. (refl, refl);
     }
 
     -- a limit of no rows
     pub scan_of_none : first_request_fault workers d q ≡ None → q.limit ≡ Some 0 → IsScan opener source workers d q files files c c (record { chunks = []; report = no_counts })
     scan_of_none none zero-rows = record {
       types = none;
+      shape = All-nil IsShaped;
+      nothing = λ z. (refl, refl);
       admits = λ l. record {
         chunks = All-nil (IsChunk (infer d q.projection));
         items = subst (λ z. IsGiven q.ordered z (answer d q (told opener source files)) []) (sym zero-rows) (none-given q.ordered (answer d q (told opener source files)));
@@ -144,6 +147,7 @@ module _ {O S : Type 0} (opener : O → OpenerState) (source : S → SourceState
       front_still = record {
         chunks = [];
         took = nothing;
+        shape = All-nil IsShaped;
         front = λ l. record {
           most = 0;
           within = least q.limit;
@@ -199,6 +203,7 @@ module _ {O S : Type 0} (opener : O → OpenerState) (source : S → SourceState
       cause = cause-of e r;
       early = r.early;
       request_fault = λ other. subst (λ o. IfSome o (λ f. e ≡ f)) (sym (r.first other)) refl;
+      nothing = λ z other. r.first other;
       complete = complete opener source workers d q c files files e (cause-of e r);
     }
 

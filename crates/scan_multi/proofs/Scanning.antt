@@ -1,5 +1,5 @@
 -- What a scan does and answers, from what the drive over its files does and answers.
-use Rattle.std.proofs.Common.{◌≡◌, ℕ, ◌<◌, List, Some, sym, subst, length, get_or, map}
+use Rattle.std.proofs.Common.{◌≡◌, ℕ, ◌<◌, List, Some, sym, arith, subst, length, get_or, map}
 use Rattle.std.specs.Prelude.{None, IfSome, All}
 use Rattle.scan_values.specs.DataType.{DataType}
 use Rattle.scan_expr.specs.declared.request.ScanRequest.{ScanRequest}
@@ -7,7 +7,7 @@ use Rattle.scan_segments.specs.Source.{SourceState}
 use Rattle.scan_segments.specs.Cache.{CacheState}
 use Rattle.scan_segments.specs.declared.segment.SegmentKey.{SegmentKey}
 use Rattle.scan_opener.specs.Opener.{OpenerState, Given, skip, layout_of}
-use Rattle.scan_drive.specs.Chunks.{HasRow}
+use Rattle.scan_drive.specs.Chunks.{HasRoom, HasRow}
 use Rattle.scan_drive.specs.Chunks as drive_chunks
 use Rattle.scan_drive.specs.Drivings.{PollsEnd, StopsDrive, WasAdmitted}
 use Rattle.scan_drive.specs.Handed.{Hands, DriveTakes, EndsBy}
@@ -37,7 +37,7 @@ use Rattle.scan_multi.specs.Taken.{IsFront, TakesFront, TakesScan, EndsScan}
 use Rattle.scan_multi.specs.declared.scan.fault.ScanFault.{ScanFault}
 use Rattle.scan_multi.specs.declared.scan.fault.ScanFault.TheVariants as fault
 use Rattle.scan_multi.proofs.Causing.{causes}
-use Rattle.scan_multi.proofs.Chunking.{items_given, typed_chunks}
+use Rattle.scan_multi.proofs.Chunking.{items_given, shaped_chunks, typed_chunks}
 use Rattle.scan_multi.proofs.Complete.{complete}
 use Rattle.scan_multi.proofs.Faults.{faultless_good}
 use Rattle.scan_multi.proofs.Goods.{weaker}
@@ -49,9 +49,13 @@ use Rattle.scan_multi.proofs.SplitChunks.{chunks_split, chunks_whole}
 use Rattle.scan_multi.proofs.Telling.{IsLawful', tale, tale_is, lawful_drive}
 
 module _ {O S : Type 0} (opener : O → OpenerState) (source : S → SourceState) (workers : ℕ) (d : DataType) (q : ScanRequest) (a : FileAsk) (asks : AsksFor d q a) (means : Means d q a)
-    (c c' : CacheState SegmentKey) (old new : List (ScanFile O S)) (none : first_request_fault workers d q ≡ None) where
+    (c c' : CacheState SegmentKey) (old new : List (ScanFile O S)) (none : first_request_fault workers d q ≡ None) (room : HasRoom q.limit) where
   no-fault : (P : ScanFault → Type 0) → IfSome (first_request_fault workers d q) P
   no-fault P = subst (λ o. IfSome o P) (sym none) tt
+
+  -- rows are wanted
+  no-zero : q.limit ≡ Some 0 → ⊥
+  no-zero z = let h : 0 < 0 = subst HasRoom z room in omega (arith, h)
 
   -- ---- whatever is answered
   pub scan_moved : DriveMoves opener source workers d q a asks c c' old new → PollsEnd (asked_state opener a) source row_items q.limit q.ordered workers c old new
@@ -67,6 +71,7 @@ module _ {O S : Type 0} (opener : O → OpenerState) (source : S → SourceState
     lawful = lawful_after opener source workers d q a asks c c' old new m t e;
     lookups = l;
     untouched = no-fault _;
+    nothing = λ z. absurd (no-zero z);
   }
 
   -- ---- a fault
@@ -75,6 +80,7 @@ module _ {O S : Type 0} (opener : O → OpenerState) (source : S → SourceState
     cause = h;
     early = none_plain workers d q none e;
     request_fault = λ other. no-fault _;
+    nothing = λ z other. absurd (no-zero z);
     complete = complete opener source workers d q c old new e h;
   }
 
@@ -104,6 +110,8 @@ module _ {O S : Type 0} (opener : O → OpenerState) (source : S → SourceState
         → IsScan opener source workers d q old new c c' (record { chunks = map chunk_of chunks; report = report })
     scan_given report some even opened puts counts = record {
       types = none;
+      shape = shaped_chunks chunks some even;
+      nothing = λ z. absurd (no-zero z);
       admits = λ l. record {
         chunks = typed_chunks d q a asks (told opener source old) q.limit q.ordered chunks (told-is l) some even;
         items = items_given d q a asks (told opener source old) q.limit q.ordered chunks (told-is l);
@@ -132,7 +140,7 @@ module _ {O S : Type 0} (opener : O → OpenerState) (source : S → SourceState
 
   module _ {K : Type 0} (takes : K → List ChunkData → K → Type 0) (sink sink' : K) where
     pub front_taken : Hands chunk_of IsEven takes sink sink' (DriveTakes (asked_state opener a) source row_items q.limit q.ordered old c) → TakesFront opener source takes d q old c sink sink'
-    front_taken h = record { chunks = map chunk_of h.chunks; took = h.took; front = front_of h.chunks h.so h.fitting }
+    front_taken h = record { chunks = map chunk_of h.chunks; took = h.took; shape = shaped_chunks h.chunks h.so.rows h.fitting; front = front_of h.chunks h.so h.fitting }
 
     -- a sink has taken all that a drive gives, with this report
     abbrev TakesDrive : ScanReport → Type 0

@@ -1,5 +1,5 @@
 -- Want of memory for what a scan that was answered gives.
-use Rattle.std.proofs.Common.{◌≡◌, ℕ, List, sym, subst}
+use Rattle.std.proofs.Common.{◌≡◌, ℕ, List, refl, sym, subst}
 use Rattle.std.specs.Prelude.{None, IfSome}
 use Rattle.scan_values.specs.DataType.{DataType}
 use Rattle.scan_expr.specs.declared.request.ScanRequest.{ScanRequest}
@@ -21,5 +21,6 @@ module _ {O S : Type 0} (opener : O → OpenerState) (source : S → SourceState
     cause = tt;
     early = none_plain workers d q scanned.types fault.NoMemory;
     request_fault = λ other. subst (λ o. IfSome o (λ f. fault.NoMemory ≡ f)) (sym scanned.types) tt;
+    nothing = λ z other. absurd (other refl);
     complete = complete opener source workers d q c old new fault.NoMemory tt;
   }

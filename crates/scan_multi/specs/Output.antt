@@ -47,6 +47,11 @@ pub record IsChunk (d : DataType) (chunk : ChunkData) : Type 0 where
   pub some : 0 < length chunk.rows
   pub dtype : chunk.values.dtype ≡ d
 
+-- as many rows as values, and at least one
+pub record IsShaped (chunk : ChunkData) : Type 0 where
+  pub even : length chunk.rows ≡ length chunk.values.items
+  pub some : 0 < length chunk.rows
+
 -- as many as the limit allows
 abbrev pub limited : Option ℕ → List Item → List Item
 limited None items = items

@@ -1,5 +1,5 @@
 -- What a scan of files does: what an answer of it means, why it is refused, and what it leaves.
-use Rattle.std.specs.Prelude.{◌≡◌, ◌≢◌, ℕ, List, false, None, IfSome, All, IsPermutation, length, map}
+use Rattle.std.specs.Prelude.{◌≡◌, ◌≢◌, ℕ, List, [], false, None, Some, IfSome, All, IsPermutation, length, map}
 use Rattle.scan_values.specs.DataType.{DataType}
 use Rattle.scan_expr.specs.declared.request.ScanRequest.{ScanRequest}
 use Rattle.scan_segments.specs.Source.{SourceState}
@@ -13,7 +13,8 @@ use Rattle.scan_multi.specs.Chunks.{AreSplits, cut}
 use Rattle.scan_multi.specs.Late.{ArePolledLate}
 use Rattle.scan_multi.specs.Lawful.{told, IsLawful, IsIdle, Gives}
 use Rattle.scan_multi.specs.Moves.{EachMoves, EachAsksNamed}
-use Rattle.scan_multi.specs.Output.{OutputData, Admits, chunk_items}
+use Rattle.scan_multi.specs.Output.{OutputData, Admits, IsShaped, chunk_items}
+use Rattle.scan_multi.specs.Placed.{no_counts}
 use Rattle.scan_multi.specs.Request.{first_plain_fault, first_request_fault}
 use Rattle.scan_drive.specs.Traffic.{ended_since, asked_keys, CacheMoves, IsReport, LooksUpFirst, PutsWhatItAsked}
 use Rattle.scan_multi.specs.Valid.{IsValid, NoneFailed}
@@ -28,6 +29,10 @@ module _ {O S : Type 0} (opener : O → OpenerState) (source : S → SourceState
   pub record IsScan (out : OutputData) : Type 0 where
     -- the request has no fault
     pub types : first_request_fault workers d request ≡ None
+    -- each chunk has a row, and a value for each of its rows
+    pub shape : All IsShaped out.chunks
+    -- with a limit of 0 there is no chunk, and nothing was wanted
+    pub nothing : request.limit ≡ Some 0 → (out.chunks ≡ []) × (out.report ≡ no_counts)
     -- over lawful objects: the rows of the answer that the request admits, each with its place and its value, none damaged
     pub admits : IsLawful opener source old cache → Admits d request (answer d request (told opener source old)) out.chunks
     -- over lawful objects: chunks split by split
@@ -50,6 +55,8 @@ module _ {O S : Type 0} (opener : O → OpenerState) (source : S → SourceState
     pub early : IfSome (first_plain_fault workers request) (λ f. e ≡ f)
     -- a request with a fault is refused by it, or by want of memory
     pub request_fault : e ≢ fault.NoMemory → IfSome (first_request_fault workers d request) (λ f. e ≡ f)
+    -- with a limit of 0 it is refused by its request's fault, or by want of memory
+    pub nothing : request.limit ≡ Some 0 → e ≢ fault.NoMemory → first_request_fault workers d request ≡ Some e
     -- a valid scan of lawful objects that do not fail is refused by want of memory alone
     pub complete : IsLawful opener source old cache → IsValid workers d request (told opener source old) → NoneFailed opener source old new → e ≡ fault.NoMemory
 
@@ -73,3 +80,5 @@ module _ {O S : Type 0} (opener : O → OpenerState) (source : S → SourceState
     pub lookups : IfSome (ended_since cache cache') (LooksUpFirst source old new)
     -- before a request with a fault is refused, nothing is touched
     pub untouched : IfSome (first_request_fault workers d request) (λ f. (new ≡ old) × (cache' ≡ cache))
+    -- with a limit of 0 neither
+    pub nothing : request.limit ≡ Some 0 → (new ≡ old) × (cache' ≡ cache)

@@ -15,7 +15,7 @@ use Rattle.scan_opener.specs.Opener.{OpenerState}
 use Rattle.scan_multi.specs.Answer.{ToldFile, answer}
 use Rattle.scan_multi.specs.Chunks.{AreSplits}
 use Rattle.scan_multi.specs.Lawful.{told, IsLawful}
-use Rattle.scan_multi.specs.Output.{ChunkData, IsChunk, IsGiven, given}
+use Rattle.scan_multi.specs.Output.{ChunkData, IsChunk, IsGiven, IsShaped, given}
 use Rattle.scan_multi.specs.Request.{first_request_fault}
 use Rattle.scan_multi.specs.Scans.{IsScan}
 
@@ -35,6 +35,8 @@ module _ {O S K : Type 0} (opener : O → OpenerState) (source : S → SourceSta
     -- these chunks
     pub chunks : List ChunkData
     pub took : takes sink chunks sink'
+    -- each has a row, and a value for each of its rows
+    pub shape : All IsShaped chunks
     -- over lawful objects: a front of what the request admits
     pub front : IsLawful opener source old cache → IsFront d request (told opener source old) chunks
 

@@ -77,7 +77,7 @@ returns-in-Ok-clause-ok g c =
     let asked = c.in_ok-ask.ensures.ok in
     let means : Means d q a = means_of d q a asked.asks in
     scan_ended g.O.LayoutReaderFactory.opener g.S.SegmentSource.state c.args.workers d q a asked.asks means
-    (g.C.KeyedSegmentCache.cache c.args.cache.now) (g.C.KeyedSegmentCache.cache c.drive_files.new.cache) c.args.files.now.items c.drive_files.new.files.items asked.no_fault
+    (g.C.KeyedSegmentCache.cache c.args.cache.now) (g.C.KeyedSegmentCache.cache c.drive_files.new.cache) c.args.files.now.items c.drive_files.new.files.items asked.no_fault (c.has_room.ensures.some c.if-not-has_room.false)
     g.K.ChunkSink.takes c.args.sink.now c.drive_files.new.sink (g.K.ChunkSink.full c.drive_files.new.sink) c.in-Ok.end c.in-Ok.ensures.gives
 
 pub returns-in-Ok-clause-front : goal.returns-in-Ok-clause-front
@@ -88,7 +88,7 @@ returns-in-Ok-clause-front g c =
     let asked = c.in_ok-ask.ensures.ok in
     let means : Means d q a = means_of d q a asked.asks in
     front_taken g.O.LayoutReaderFactory.opener g.S.SegmentSource.state c.args.workers d q a asked.asks means
-    (g.C.KeyedSegmentCache.cache c.args.cache.now) (g.C.KeyedSegmentCache.cache c.drive_files.new.cache) c.args.files.now.items c.drive_files.new.files.items asked.no_fault
+    (g.C.KeyedSegmentCache.cache c.args.cache.now) (g.C.KeyedSegmentCache.cache c.drive_files.new.cache) c.args.files.now.items c.drive_files.new.files.items asked.no_fault (c.has_room.ensures.some c.if-not-has_room.false)
     g.K.ChunkSink.takes c.args.sink.now c.drive_files.new.sink c.drive_files.ensures.takes
 
 pub returns-clause-front : goal.returns-clause-front
@@ -99,7 +99,7 @@ returns-clause-front g c =
     let asked = c.in_ok-ask.ensures.ok in
     let means : Means d q a = means_of d q a asked.asks in
     front_taken g.O.LayoutReaderFactory.opener g.S.SegmentSource.state c.args.workers d q a asked.asks means
-    (g.C.KeyedSegmentCache.cache c.args.cache.now) (g.C.KeyedSegmentCache.cache c.drive_files.new.cache) c.args.files.now.items c.drive_files.new.files.items asked.no_fault
+    (g.C.KeyedSegmentCache.cache c.args.cache.now) (g.C.KeyedSegmentCache.cache c.drive_files.new.cache) c.args.files.now.items c.drive_files.new.files.items asked.no_fault (c.has_room.ensures.some c.if-not-has_room.false)
     g.K.ChunkSink.takes c.args.sink.now c.drive_files.new.sink c.drive_files.ensures.takes
 
 pub returns-in-Ok-clause-moves : goal.returns-in-Ok-clause-moves
@@ -112,7 +112,7 @@ returns-in-Ok-clause-moves g c =
     let means : Means d q a = means_of d q a asked.asks in
     scan_moved g.O.LayoutReaderFactory.opener g.S.SegmentSource.state c.args.workers d q a asked.asks means
     (g.C.KeyedSegmentCache.cache c.args.cache.now) (g.C.KeyedSegmentCache.cache c.drive_files.new.cache) c.args.files.now.items c.drive_files.new.files.items
-    asked.no_fault did.moves did.polled did.trades did.cache did.lookups c.requires did.idle
+    asked.no_fault (c.has_room.ensures.some c.if-not-has_room.false) did.moves did.polled did.trades did.cache did.lookups c.requires did.idle
 
 -- ---- a fault of the drive
 pub returns-clause-err : goal.returns-clause-err
@@ -130,7 +130,7 @@ returns-clause-err g c =
     let before = g.C.KeyedSegmentCache.cache c.args.cache.now in
     let after = g.C.KeyedSegmentCache.cache c.drive_files.new.cache in
     subst (λ (e : ScanFault). IsRefusedFor opener source c.args.workers d q old new before after e) (sym c.placed.ensures)
-    (refused_drive opener source c.args.workers d q a asked.asks means before after old new asked.no_fault c.in-Err.fault c.in-Err.ensures.fault)
+    (refused_drive opener source c.args.workers d q a asked.asks means before after old new asked.no_fault (c.has_room.ensures.some c.if-not-has_room.false) c.in-Err.fault c.in-Err.ensures.fault)
 
 pub returns-clause-moves : goal.returns-clause-moves
 returns-clause-moves g c =
@@ -142,4 +142,4 @@ returns-clause-moves g c =
     let means : Means d q a = means_of d q a asked.asks in
     scan_moved g.O.LayoutReaderFactory.opener g.S.SegmentSource.state c.args.workers d q a asked.asks means
     (g.C.KeyedSegmentCache.cache c.args.cache.now) (g.C.KeyedSegmentCache.cache c.drive_files.new.cache) c.args.files.now.items c.drive_files.new.files.items
-    asked.no_fault did.moves did.polled did.trades did.cache did.lookups c.requires did.idle
+    asked.no_fault (c.has_room.ensures.some c.if-not-has_room.false) did.moves did.polled did.trades did.cache did.lookups c.requires did.idle
