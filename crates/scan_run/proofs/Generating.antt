@@ -11,6 +11,7 @@ use Rattle.scan_expr.specs.Infer.{infer}
 use Rattle.scan_opener.specs.Opener.{Given, skip, layout_of}
 use Rattle.scan_opener.specs.declared.opener.MemoryOpener.{MemoryOpener}
 use Rattle.scan_drive.specs.declared.files.ScanFile.{ScanFile}
+use Rattle.scan_drive.specs.declared.report.ScanReport.{ScanReport}
 use Rattle.scan_multi.specs.Answer.{ToldFile, answer}
 use Rattle.scan_multi.specs.Lawful.{told, told_file, IsLawful, Tells, Agrees, IsIdle}
 use Rattle.scan_multi.specs.Output.{OutputData, given}
@@ -111,8 +112,9 @@ line_is s n old new d q out text are p r o e =
         record {
           old = old;
           new = new;
-          run = record { made = are; cache = o.cache; scanned = o.moves };
-          is = e ∙ (ap (λ u. totals_line n u out.report.asks) (t ∙ ap totals_of g) ∙ ap (λ (z : _). totals_line n (totals_of (generated_answer s n)) z.asks) o.scan.report.are);
+          out = out;
+          run = record { made = are; scanned = o; gave = g; asks = ap (λ (z : ScanReport). z.asks) o.scan.report.are };
+          is = e ∙ ap (λ u. totals_line n u out.report.asks) t;
         }
 
 -- ---- the ends of a run

@@ -13,6 +13,7 @@ use Rattle.scan_segments.specs.Cache.{empty_cache}
 use Rattle.scan_segments.specs.declared.memory_source.MemorySource.{MemorySource}
 use Rattle.scan_opener.specs.Opener.{Given, skip}
 use Rattle.scan_multi.specs.Answer.{ToldFile, answer}
+use Rattle.scan_multi.specs.Before.{ReachesFile}
 use Rattle.scan_multi.specs.Output.{ChunkData, chunk_items, given, IsChunk, Admits}
 use Rattle.scan_multi.specs.Causes.{counted, IsOfFile, HasCause}
 use Rattle.scan_multi.specs.Checks.{IsRead, IsOfOtherType, IsIllFormed, EndsPast, rows_in}
@@ -34,7 +35,7 @@ use Rattle.scan_manifest.proofs.CallerLemmas.{manifest_agrees, places_same}
 use Rattle.scan_run.specs.declared.run.Asked.{Asked}
 use Rattle.scan_run.specs.AskedOf.{IsAsked}
 use Rattle.scan_run.specs.FileOf.{memory_opener, IsFileOf, AreFilesOf, AreReady}
-use Rattle.scan_run.specs.Run.{CanFail, given_by, store_of, told_by, lines_of, IsScanned, HasNoFault, IsBadFile, IsUnreadable, of_opener, of_source, of_type, of_layout, of_range, of_segment, of_overflow, of_rows}
+use Rattle.scan_run.specs.Run.{CanFail, given_by, store_of, told_by, lines_of, IsScanned, HasNoFault, IsBadFile, IsReached, IsUnreadable, of_opener, of_source, of_type, of_layout, of_range, of_segment, of_overflow, of_rows}
 use Rattle.scan_run.specs.Printed.{chunks_lines}
 use Rattle.scan_run.specs.Stops.{stop_of, IsStop, IsTextOf}
 
@@ -50,20 +51,21 @@ told_some o x e = subst IsSome (sym e) refl
 
 -- ---- the files of a manifest
 -- the file at a place, and what it is made of
-record At (specs : List FileSpec) (f : File) : Type 0 where
+record At (specs : List FileSpec) (k : ℕ) (f : File) : Type 0 where
   spec : FileSpec
   there : Contains specs spec
+  place : there.0 ≡ k
   is : IsFileOf spec f
 
-file_at : (specs : List FileSpec) (files : List File) → AreFilesOf specs files → (k : ℕ) (f : File) → k < length files → At specs (get_or files k f)
+file_at : (specs : List FileSpec) (files : List File) → AreFilesOf specs files → (k : ℕ) (f : File) → k < length files → At specs k (get_or files k f)
 file_at [] [] are k f lt = absurd (omega arith)
 file_at [] (x ∷ files) are k f lt = absurd are
 file_at (s ∷ specs) [] are k f lt = absurd are
-file_at (s ∷ specs) (x ∷ files) are zero f lt = record { spec = s; there = (0, omega arith, refl); is = are.0 }
+file_at (s ∷ specs) (x ∷ files) are zero f lt = record { spec = s; there = (0, omega arith, refl); place = refl; is = are.0 }
 file_at (s ∷ specs) (x ∷ files) are (suc k) f lt =
     let r = file_at specs files are.1 k f (omega arith) in
     let n = r.there.1 in
-    record { spec = r.spec; there = (suc r.there.0, omega (arith, n), r.there.2); is = r.is }
+    record { spec = r.spec; there = (suc r.there.0, omega (arith, n), r.there.2); place = ap suc r.place; is = r.is }
 
 told_spec : (spec : FileSpec) (f : File) → IsFileOf spec f → told_file memory_opener source_state f ≡ told_by spec
 told_spec spec f is =
@@ -82,14 +84,27 @@ some [] k lt h = absurd (omega arith)
 some (x ∷ xs) k lt h = h x
 
 module _ (m : Manifest) (made new : List File) (are : AreFilesOf m.files made) (lawful : IsLawful memory_opener source_state made empty_cache) where
+  -- a file of the manifest of which this holds, and which the scan comes to
+  record Found (Q : FileSpec → Type 0) : Type 0 where
+    spec : FileSpec
+    there : Contains m.files spec
+    fact : Q spec
+    before : IsReached m there.0
+
+  -- what was given before the file at a place
+  reached : (place : ℕ) (P : File → File → Type 0) → IsOfFile memory_opener source_state m.workers m.dtype m.request empty_cache made new place P → IsReached m place
+  reached place P at o = subst (λ ts. ReachesFile m.dtype m.request ts place) (told_same m.files made are) (at.before o lawful)
+
   -- a fact of the file at a place, of what that is made of
   from_file : (place : ℕ) (P : File → File → Type 0) (Q : FileSpec → Type 0) → IsOfFile memory_opener source_state m.workers m.dtype m.request empty_cache made new place P
-      → ((spec : FileSpec) (f g : File) → IsFileOf spec f → P f g → Q spec) → (spec : FileSpec) × Contains m.files spec × Q spec
-  from_file place P Q at h = some made place at.there (λ f. let r = file_at m.files made are place f at.there in (r.spec, r.there, h r.spec (get_or made place f) (get_or new place f) r.is (at.fact f)))
+      → ((spec : FileSpec) (f g : File) → IsFileOf spec f → P f g → Q spec) → Found Q
+  from_file place P Q at h = some made place at.there (λ f.
+      let r = file_at m.files made are place f at.there in
+      record { spec = r.spec; there = r.there; fact = h r.spec (get_or made place f) (get_or new place f) r.is (at.fact f); before = subst (IsReached m) (sym r.place) (reached place P at) })
 
   bad_file : (place : ℕ) (P : File → File → Type 0) → IsOfFile memory_opener source_state m.workers m.dtype m.request empty_cache made new place P
       → ((spec : FileSpec) (f g : File) → IsFileOf spec f → P f g → IsBadFile m spec) → IsUnreadable m
-  bad_file place P at h = let r = from_file place P (IsBadFile m) at h in record { late = at.late; file = r.0; there = r.1; bad = r.2 }
+  bad_file place P at h = let r = from_file place P (IsBadFile m) at h in record { late = at.late; file = r.spec; there = r.there; bad = r.fact; before = r.before }
 
   all_give : AllGive memory_opener source_state made
   all_give = All-weaker (Tells memory_opener source_state) (λ (f : File). IsSome (memory_opener f.opener).gives) (λ f t. t.gives) made lawful.tells
@@ -108,10 +123,10 @@ module _ (m : Manifest) (made new : List File) (are : AreFilesOf m.files made) (
   stopped (fault.Bind b) c = (fault.Bind b, c)
   stopped (fault.Opener place) at =
       let r = from_file place _ (λ spec. CanFail m spec) at (λ spec f g is w. of_opener (sym is.opener_can_fail ∙ w.1)) in
-      record { late = at.late; file = r.0; there = r.1; failing = r.2 }
+      record { late = at.late; file = r.spec; there = r.there; failing = r.fact; before = r.before }
   stopped (fault.Source place id) at =
       let r = from_file place _ (λ spec. CanFail m spec) at (λ spec f g is w. of_source (sym is.source_can_fail ∙ w.failed.1) (told_is _ (given_by spec) (IsRead m.dtype m.request) is.gives w.read)) in
-      record { late = at.late; file = r.0; there = r.1; failing = r.2 }
+      record { late = at.late; file = r.spec; there = r.there; failing = r.fact; before = r.before }
   stopped (fault.DTypeMismatch place) at = bad_file place _ at (λ spec f g is w. of_type (told_is _ (given_by spec) (IsOfOtherType m.dtype) is.gives w.1))
   stopped (fault.Layout place l) at = bad_file place _ at (λ spec f g is w. of_layout l (told_is _ (given_by spec) (IsIllFormed m.dtype l) is.gives w.1))
   stopped (fault.RowRange (Past place)) at = bad_file place _ at (λ spec f g is w. of_range (told_is _ (given_by spec) (EndsPast m.dtype m.request) is.gives w.1))

@@ -13,7 +13,7 @@ use Rattle.scan_opener.specs.declared.opener.MemoryOpener.{MemoryOpener}
 use Rattle.scan_drive.specs.Traffic.{asked_keys}
 use Rattle.scan_drive.specs.declared.files.ScanFile.{ScanFile}
 use Rattle.scan_multi.specs.Answer.{Item, ToldFile, answer}
-use Rattle.scan_multi.specs.Output.{OutputData}
+use Rattle.scan_multi.specs.Output.{OutputData, given}
 use Rattle.scan_multi.specs.Scans.{IsScan, ScanMoves}
 use Rattle.scan_run.specs.declared.generate.totals.Totals.{Totals}
 use Rattle.scan_run.specs.Io.{OutputState}
@@ -37,12 +37,6 @@ generated_answer s n = answer table_type generated_request (map (told_at s n) (0
 abbrev pub totals_of : List Item → Totals
 totals_of items = record { rows = length items; ids = total id_in items; lengths = total length_in items }
 
--- Generated files as they were made, and as a scan of them by one worker over an empty cache left them.
-pub record IsFirstRun (s : Spelling) (n : ℕ) (old new : List (ScanFile MemoryOpener MemorySource)) : Type 0 where
-  pub made : AreGenerated s n old
-  pub cache : CacheState SegmentKey
-  pub scanned : ScanMoves memory_opener source_state 1 table_type generated_request old new empty_cache cache
-
 -- what a scan of files over an empty cache gave, and what it left
 pub record IsOutputOf (workers : ℕ) (d : DataType) (request : ScanRequest)
     (old new : List (ScanFile MemoryOpener MemorySource)) (out : OutputData) : Type 0 where
@@ -50,12 +44,21 @@ pub record IsOutputOf (workers : ℕ) (d : DataType) (request : ScanRequest)
   pub scan : IsScan memory_opener source_state workers d request old new empty_cache cache out
   pub moves : ScanMoves memory_opener source_state workers d request old new empty_cache cache
 
--- the line of the rows that are asked, and of the segments that the sources were asked for in the run with one worker
+-- Generated files as they were made, and as a scan of them by one worker over an empty cache left them, with what it gave.
+pub record IsFirstRun (s : Spelling) (n : ℕ) (old new : List (ScanFile MemoryOpener MemorySource)) (out : OutputData) : Type 0 where
+  pub made : AreGenerated s n old
+  pub scanned : IsOutputOf 1 table_type generated_request old new out
+  pub gave : given out.chunks ≡ generated_answer s n
+  pub asks : out.report.asks ≡ capped (length (asked_keys source_state old new))
+
+-- the line of the rows that the run with one worker gave, which are those that are asked, and of the segments that it asked
+-- the sources for
 pub record IsLineOf (s : Spelling) (n : ℕ) (text : List ℕ) : Type 0 where
   pub old : List (ScanFile MemoryOpener MemorySource)
   pub new : List (ScanFile MemoryOpener MemorySource)
-  pub run : IsFirstRun s n old new
-  pub is : text ≡ totals_line n (totals_of (generated_answer s n)) (capped (length (asked_keys source_state old new)))
+  pub out : OutputData
+  pub run : IsFirstRun s n old new out
+  pub is : text ≡ totals_line n (totals_of (given out.chunks)) out.report.asks
 
 -- the words ask for generated files, and their line was written, and nothing else
 pub record IsGenerated (words : List (List ℕ)) (output output' : OutputState) : Type 0 where

@@ -10,6 +10,7 @@ use Rattle.scan_values.specs.Val.{Val}
 use Rattle.scan_expr.specs.Infer.{infer}
 use Rattle.scan_opener.specs.Opener.{Given, skip, layout_of}
 use Rattle.scan_multi.specs.Answer.{Item, ToldFile, answer}
+use Rattle.scan_multi.specs.Before.{ReachesFile}
 use Rattle.scan_multi.specs.Output.{ChunkData, Admits, given}
 use Rattle.scan_multi.specs.Request.{first_request_fault}
 use Rattle.scan_segments.specs.Script.{has_number}
@@ -103,24 +104,30 @@ pub data IsBadFile (m : Manifest) (f : FileSpec) : Type 0 where
 abbrev pub HasNoFault : Manifest → Type 0
 HasNoFault m = first_request_fault m.workers m.dtype m.request ≡ None
 
--- the request has no fault, and a file can't be read
+-- in an ordered scan the files before this place leave it to go on: their parts hold no damaged item and fewer than the limit
+abbrev pub IsReached : Manifest → ℕ → Type 0
+IsReached m place = m.request.ordered ≡ true → ReachesFile m.dtype m.request (map told_by m.files) place
+
+-- the request has no fault, and a file that the scan comes to can't be read
 pub record IsUnreadable (m : Manifest) : Type 0 where
   pub late : HasNoFault m
   pub file : FileSpec
   pub there : Contains m.files file
   pub bad : IsBadFile m file
+  pub before : IsReached m there.0
 
 -- what of a file may fail, where a call of its script does: its opener, or the source of a file that is read
 pub data CanFail (m : Manifest) (f : FileSpec) : Type 0 where
   of_opener : has_number f.opener.fail ≡ true → CanFail m f
   of_source : has_number f.source.fail ≡ true → IsRead m.dtype m.request (given_by f) → CanFail m f
 
--- the request has no fault, and what may fail of a file did
+-- the request has no fault, and what may fail of a file that the scan comes to did
 pub record IsFailing (m : Manifest) : Type 0 where
   pub late : HasNoFault m
   pub file : FileSpec
   pub there : Contains m.files file
   pub failing : CanFail m file
+  pub before : IsReached m there.0
 
 -- nothing was written
 abbrev pub WroteNone : OutputState → OutputState → Type 0
