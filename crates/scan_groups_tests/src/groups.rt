@@ -331,17 +331,19 @@ fn values_are_compared_by_kind_first(rt: HostRuntime) -> Result<(), Fail> {
     Ok(())
 }
 
-/// The sums of what is read of rows, by their keys of one value each, given in one run.
-fn sums_by(alloc: Global, keys: Run, read: Run) -> Result<Result<Vec<Group>, GroupsFault>, Fail> {
+/// The sums of what is read of rows, by their keys of one value each, given in runs.
+fn sums_by(alloc: Global, runs: &[(Run, Run)]) -> Result<Result<Vec<Group>, GroupsFault>, Fail> {
     let mut groups = Groups::new(alloc, 1, Vec::from_slice(alloc, &[Measured::Sum(0)])?)?;
-    let places = groups.place_run(alloc, keys)?;
-    if groups.measure_count() == 0 {
-        return Err(Fail::from("no measure"));
+    for (keys, read) in runs {
+        let places = groups.place_run(alloc, *keys)?;
+        if groups.measure_count() == 0 {
+            return Err(Fail::from("no measure"));
+        }
+        if places.len() != read.len() {
+            return Err(Fail::from("as many keys as rows"));
+        }
+        groups.add_run(alloc, 0, &places, *read)?;
     }
-    if places.len() != read.len() {
-        return Err(Fail::from("as many keys as rows"));
-    }
-    groups.add_run(alloc, 0, &places, read)?;
     Ok(groups.into_groups(alloc))
 }
 
@@ -349,15 +351,38 @@ fn sums_by(alloc: Global, keys: Run, read: Run) -> Result<Result<Vec<Group>, Gro
 fn runs_of_numbers_are_summed_by_numbers(rt: HostRuntime) -> Result<(), Fail> {
     use Cell::Number;
     let alloc = rt.alloc();
-    let made = sums_by(
-        alloc,
-        Run::Numbers(&[5, -5, 5, 7]),
-        Run::Numbers(&[1, 2, 3, -4]),
-    )?;
+    let run = (Run::Numbers(&[5, -5, 5, 7]), Run::Numbers(&[1, 2, 3, -4]));
+    let made = sums_by(alloc, &[run])?;
     let wanted: [(&[Cell], &[Cell]); 3] = [
         (&[Number(-5)], &[Number(2)]),
         (&[Number(5)], &[Number(4)]),
         (&[Number(7)], &[Number(-4)]),
+    ];
+    assert!(rt; are(alloc, made, &wanted)?);
+    Ok(())
+}
+
+#[test]
+fn runs_of_small_and_of_large_numbers_make_one_sum(rt: HostRuntime) -> Result<(), Fail> {
+    use Cell::Number;
+    let alloc = rt.alloc();
+    let runs = [
+        (
+            Run::Numbers(&[1, 2, 1]),
+            Run::Numbers(&[2_147_483_647, -2_147_483_648, 1]),
+        ),
+        (Run::Numbers(&[1]), Run::Nulls(1)),
+        (
+            Run::Numbers(&[1, 2]),
+            Run::Numbers(&[9_223_372_036_854_775_807, -9_223_372_034_707_292_160]),
+        ),
+        (Run::Numbers(&[1, 3, 2]), Run::Numbers(&[1, 5, 0])),
+    ];
+    let made = sums_by(alloc, &runs)?;
+    let wanted: [(&[Cell], &[Cell]); 3] = [
+        (&[Number(1)], &[Number(9_223_372_039_002_259_456)]),
+        (&[Number(2)], &[Number(-9_223_372_036_854_775_808)]),
+        (&[Number(3)], &[Number(5)]),
     ];
     assert!(rt; are(alloc, made, &wanted)?);
     Ok(())
@@ -383,7 +408,7 @@ fn runs_of_lent_values_are_summed_by_values_of_each_kind(rt: HostRuntime) -> Res
         Lent::Number(-3),
         Lent::Null,
     ];
-    let made = sums_by(alloc, Run::Cells(&keys), Run::Cells(&read))?;
+    let made = sums_by(alloc, &[(Run::Cells(&keys), Run::Cells(&read))])?;
     let wanted: [(&[Cell], &[Cell]); 4] = [
         (&[Null], &[Null]),
         (&[Truth(true)], &[Number(MOST)]),
