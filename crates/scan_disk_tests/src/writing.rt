@@ -1,5 +1,5 @@
 //! Files that are written, byte by byte as another writer of the form writes them.
-use crate::fixtures::{array, list, list_of, pair, row, text, written};
+use crate::written::{array, list, list_of, pair, row, text, written};
 use scan_spelling::Spelling;
 use scan_values::{Array, DType, Value};
 use std::alloc::Global;

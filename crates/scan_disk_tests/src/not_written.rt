@@ -1,5 +1,5 @@
 //! What is not written, and files of the system.
-use crate::fixtures::{array, list, write_to, written};
+use crate::written::{array, list, write_to, written};
 use scan_disk_writer::{BytesOut, MemoryOut, NewFile, OutFault, WriteFault, write_file};
 use scan_encode::{Segments, WriteOptions, encode_rows};
 use scan_layout::{LayoutFault, LayoutKind, LayoutNode};
