@@ -111,13 +111,7 @@ module _ {W I R : Type 0} (split : W → SplitState I) (comes : W → Arrivals �
     looks = subst (λ (s : Slot W R). Looks split comes items j.slot.stage s.stage k.found) (sym w.claims) w.looks;
   }
 
-  -- so it is of all of them
-  pub all_polled : (first js ks : List (Job W R)) → first ≡ js → ((i : ℕ) (d : Job W R) → i < length first → JobWorked split comes items None (get_or first i d) (get_or ks i d))
-      → (i : ℕ) (d : Job W R) → i < length js → JobPolled split comes items (get_or js i d) (get_or ks i d)
-  all_polled first js ks e h i d lt =
-      worked_polled (get_or js i d) (get_or ks i d) (subst (λ (xs : List (Job W R)). (i : ℕ) (d : Job W R) → i < length xs → JobWorked split comes items None (get_or xs i d) (get_or ks i d)) e h i d lt)
-
-  -- so it is of splits that all have one
+  -- splits that had a seat each have one still
   pub all_seated : (b : Budget) (js ks : List (Job W R)) → length ks ≡ length js → ((i : ℕ) (d : Job W R) → i < length js → JobWorked split comes items (Some b) (get_or js i d) (get_or ks i d))
       → All (λ (k : Job W R). k.short ≡ false → IsSeated (Some b) k) ks
   all_seated b js ks n h i d lt = still_seated b (get_or js i d) (get_or ks i d) (h i d (omega (arith, n, lt)))

@@ -4,6 +4,7 @@ pub mod Allowing
 pub mod Asked
 pub mod Asking
 pub mod Balancing
+pub mod Batching
 pub mod Books
 pub mod Bringing
 pub mod Brought
@@ -30,6 +31,7 @@ pub mod Filing
 pub mod Fillings
 pub mod Following
 pub mod Forwarding
+pub mod Freeing
 pub mod Freely
 pub mod Fronts
 pub mod Giving
@@ -57,6 +59,7 @@ pub mod Opened
 pub mod Ordering
 pub mod Outgone
 pub mod Polling
+pub mod Pooling
 pub mod Reckoning
 pub mod Resting
 pub mod Restoring

@@ -1,6 +1,7 @@
 pub mod Accounts
 pub mod Actives
 pub mod Asks
+pub mod Batches
 pub mod Before
 pub mod Budgets
 pub mod Chunks
@@ -20,6 +21,7 @@ pub mod Handed
 pub mod Laws
 pub mod Ledger
 pub mod Line
+pub mod LineRuns
 pub mod Links
 pub mod Looks
 pub mod Losses

@@ -20,12 +20,13 @@ use crate::line::{name_fault, places_of, put_back};
 use crate::opening::SplitOpener;
 use crate::outbox::Outbox;
 use crate::phase::{Phase, Tally, Unclaimed};
+use crate::pooled::{count_threads, run_pooled};
 use crate::report::ScanReport;
 use crate::round::Drive;
-use crate::rounds::run_rounds;
 use crate::settling::RoundFault;
 use crate::sink::{ChunkSink, Flow, FromChunk};
 use crate::work::SplitWork;
+use scan_pool::{Seated, boxes};
 use scan_segments::{KeyedSegmentCache, SegmentSource};
 use scan_values::NoMemory;
 use std::alloc::Global;
@@ -167,11 +168,18 @@ pub fn drive_files<
     let Ok(mut order) = places_of(alloc, files.len()) else {
         return Err(RoundFault::Split(DriveFault::NoMemory));
     };
-    let Ok(mut drive) = start::<W, F>(alloc, files.len(), limit, ordered, counted) else {
+    let Ok(drive) = start::<W, F>(alloc, files.len(), limit, ordered, counted) else {
         return Err(RoundFault::Split(DriveFault::NoMemory));
     };
+    let Ok((seats, mut servers)) = boxes(alloc, count_threads(workers, &drive.budget)) else {
+        return Err(RoundFault::Split(DriveFault::NoMemory));
+    };
+    let mut seated = Seated {
+        seats,
+        state: drive,
+    };
     let mut exchanges = Vec::new(alloc);
-    let done = run_rounds(
+    let done = run_pooled(
         rt,
         alloc,
         gate,
@@ -179,13 +187,14 @@ pub fn drive_files<
         files,
         &mut desks,
         cache,
-        &mut drive,
+        &mut seated,
         &mut exchanges,
         &mut order,
         sink,
         workers,
+        servers.as_mut_slice(),
     );
     close_all(files, &mut desks);
     put_back(files, &exchanges);
-    end_drive(done, drive.report, &order)
+    end_drive(done, seated.state.report, &order)
 }

@@ -3,6 +3,7 @@
 #![tactic(auto)]
 
 mod active;
+mod batch;
 mod budget;
 mod cached;
 mod claims;
@@ -20,6 +21,7 @@ mod opening;
 mod outbox;
 mod phase;
 mod places;
+mod pooled;
 mod report;
 mod round;
 mod rounds;
@@ -49,11 +51,10 @@ pub use phase::{Phase, Taken, Tally, Unclaimed, activate};
 pub use places::Places;
 pub use report::ScanReport;
 pub use round::Drive;
-pub use rounds::{Round, make_round, run_rounds};
+pub use rounds::Round;
 pub use run::{Run, RunPoll};
 pub use settling::RoundFault;
 pub use sink::{ChunkSink, Flow, FromChunk, Kept};
 pub use slot::{Halt, Slot, Stage, hand, lose};
 pub use wants::want_slots;
 pub use work::SplitWork;
-pub use workers::poll_fresh;

@@ -1,5 +1,6 @@
 //! A round over all files. An own type: the Rust runs the tasks of one file after the other.
 ghost use Rattle.std.specs.Prelude.{◌≡◌, ◌≢◌, ◌≤◌, ◌<◌, ◌+◌, ◌-◌, ◌^◌, ◌⊎◌, [], ℕ, List, true, false, Some, None, OnOk, IfOk, IfErr, IfSome, MatchOption, length};
+ghost use Rattle.scan_drive.specs.Batches.{AreFree};
 ghost use Rattle.scan_drive.specs.Actives.{AreSeats};
 ghost use Rattle.scan_drive.specs.Asks.{EachLinkedBut, IsWantedBy};
 ghost use Rattle.scan_drive.specs.Chunks.{HasRoom, IsMore, IsCut};
@@ -19,6 +20,7 @@ ghost use Rattle.scan_drive.specs.Windows.{AreBusy, IsWindow};
 ghost use Rattle.scan_splits.specs.Wanted.{no_repeats};
 
 use crate::active::{Active, first_of};
+use crate::batch::Batch;
 use crate::budget::Budget;
 use crate::delivery::{Chunk, Delivered, DriveFault, deliver_in};
 use crate::desk::Desk;
@@ -33,6 +35,7 @@ use crate::slot::Slot;
 use crate::wants::want_slots;
 use crate::work::SplitWork;
 use crate::workers::poll_in;
+use scan_pool::Seat;
 use scan_segments::{KeyedSegmentCache, SegmentSource};
 use scan_values::NoMemory;
 use std::alloc::Global;
@@ -251,6 +254,7 @@ pub(crate) fn give_out<R: Threads + Sync, W: SplitWork + Drop + Send, G: Gate>(
     alloc: Global,
     gate: &G,
     workers: usize,
+    seats: &mut [Seat<Batch<W, W::Rows>>],
     ordered: bool,
     budget: &mut Option<Budget>,
     active: &mut Active<W, W::Rows>,
@@ -259,9 +263,11 @@ pub(crate) fn give_out<R: Threads + Sync, W: SplitWork + Drop + Send, G: Gate>(
     cut: bool,
 ) -> Result<Option<VecDeque<usize>>, DriveFault>
     requires workers { 0 < workers }
+    requires free { AreFree seats.old }
     requires ready { (n : ℕ) × IsReady n active.old }
     requires room { HasRoom left.old }
     requires budget { IsBudget ordered left.old budget.old }
+    ensures free { OnOk result (AreFree seats.new) }
     ensures waits { IfOk result (λ o. IfSome o (λ asking. GivesOut W.split W.comes W.items ordered asking.items
         active.old active.new left.new budget.new)) }
     ensures keeps { OnOk result (GivesRows W.split W.comes W.items active.old active.new chunks.old.items chunks.new.items) }
@@ -278,6 +284,7 @@ pub(crate) fn give_out<R: Threads + Sync, W: SplitWork + Drop + Send, G: Gate>(
         alloc,
         gate,
         workers,
+        seats,
         budget,
         &mut active.slots,
         &active.turns,

@@ -1,13 +1,15 @@
 //! Rounds of a drive over many files.
-ghost use Rattle.std.specs.Prelude.{◌≡◌, ◌<◌, ◌++◌, ◌⊎◌, Ok, [], List, All, IfOk, IfErr, length};
+ghost use Rattle.std.specs.Prelude.{◌≡◌, ◌<◌, ◌++◌, ◌⊎◌, Ok, [], List, All, IfOk, IfErr, OnOk, length};
 ghost use Rattle.std.specs.List.{range_with_len};
+ghost use Rattle.scan_drive.specs.Batches.{AreFree};
 ghost use Rattle.scan_drive.specs.Chunks.{HasRoom};
 ghost use Rattle.scan_drive.specs.Drives.{DesksAgree, EachLinked, IsIdle};
-ghost use Rattle.scan_drive.specs.Handed.{with_taken, Hands, WaitTakes, DriveTakes, EndsBy, WaitsFor, made_by, named_in};
+ghost use Rattle.scan_drive.specs.Handed.{with_taken, Hands, WaitTakes, DriveTakes, WaitsFor, made_by, named_in};
 ghost use Rattle.scan_drive.specs.Line.{exchanged, placed_by};
+ghost use Rattle.scan_drive.specs.LineRuns.{LineRuns};
 ghost use Rattle.scan_drive.specs.Rounds.{Stands};
 ghost use Rattle.scan_drive.specs.Runnings.{Starts};
-ghost use Rattle.scan_drive.specs.Steps.{RoundsKeep, RoundComes, RoundStops, WaitComes, WaitStops, LineKeeps, LineEnds, LineStops};
+ghost use Rattle.scan_drive.specs.Steps.{RoundsKeep, RoundComes, RoundStops, WaitComes, WaitStops, LineKeeps};
 ghost use Rattle.scan_drive.specs.Trades.{CacheAgrees};
 ghost use Rattle.scan_drive.specs.declared.delivery.Chunk.{Chunk};
 ghost use Rattle.scan_drive.specs.declared.delivery.DriveFault.TheVariants as faults;
@@ -15,6 +17,7 @@ ghost use Rattle.scan_drive.specs.declared.rounds.Wait.TheVariants as waits;
 ghost use Rattle.scan_drive.specs.declared.settling.RoundFault.TheVariants as whys;
 ghost use Rattle.scan_drive.specs.declared.sink.Flow.TheVariants as flows;
 
+use crate::batch::Batch;
 use crate::delivery::DriveFault;
 use crate::desk::Desk;
 use crate::files::ScanFile;
@@ -25,6 +28,7 @@ use crate::round::{Drive, bring_in, serve};
 use crate::settling::{RoundFault, settle};
 use crate::sink::{ChunkSink, Flow, FromChunk};
 use crate::work::SplitWork;
+use scan_pool::Seat;
 use scan_segments::{KeyedSegmentCache, SegmentSource};
 use scan_values::NoMemory;
 use std::alloc::Global;
@@ -42,7 +46,7 @@ pub enum Round {
 }
 
 /// One round. What is said of the drive is so whatever was taken of it before.
-pub fn make_round<
+pub(crate) fn make_round<
     R: Threads + Sync,
     X: SplitOpener<O, W, F>,
     O: Drop,
@@ -61,11 +65,14 @@ pub fn make_round<
     cache: &mut C,
     drive: &mut Drive<W, W::Rows, F>,
     workers: usize,
+    seats: &mut [Seat<Batch<W, W::Rows>>],
 ) -> Result<Round, RoundFault<F>>
     requires workers { 0 < workers }
+    requires free { AreFree seats.old }
     requires agree { DesksAgree S.state files.old.items desks.old.items }
     requires stands { Stands (length files.old.items) drive.old }
     requires links { EachLinked desks.old.items drive.old.active.slots.items }
+    ensures free { OnOk result (AreFree seats.new) }
     ensures keeps { (ts : List (Chunk W.Rows)) → RoundsKeep (X.state context.now) X.polls S.state W.split W.comes
         W.items
         (Unit {0}) workers files.old.items files.new.items desks.new.items (C.cache cache.old) (C.cache cache.new)
@@ -81,7 +88,7 @@ pub fn make_round<
         Ok(opened) => opened,
         Err(_) => return Err(RoundFault::Split(DriveFault::NoMemory)),
     };
-    let mut asking = match settle(rt, alloc, gate, workers, drive) {
+    let mut asking = match settle(rt, alloc, gate, workers, seats, drive) {
         Ok(Some(asking)) => asking,
         Ok(None) => return Ok(Round::Done),
         Err(fault) => return Err(fault),
@@ -158,11 +165,14 @@ fn wait_rounds<
     order: &Vec<usize>,
     sink: &mut K,
     workers: usize,
+    seats: &mut [Seat<Batch<W, W::Rows>>],
 ) -> Result<Wait, RoundFault<F>>
     requires workers { 0 < workers }
+    requires free { AreFree seats.old }
     requires agree { DesksAgree S.state files.old.items desks.old.items }
     requires stands { Stands (length files.old.items) drive.old }
     requires links { EachLinked desks.old.items drive.old.active.slots.items }
+    ensures free { IfOk result (λ w. w ≡ waits.Opened → AreFree seats.new) }
     ensures keeps { (ts : List (Chunk W.Rows)) → RoundsKeep (X.state context.now) X.polls S.state W.split W.comes
         W.items
         (CacheAgrees S.state files.old.items (C.cache cache.old)) workers files.old.items files.new.items
@@ -185,7 +195,7 @@ fn wait_rounds<
     'rounds: loop {
         let ordered = drive.ordered;
         let round = match make_round(
-            rt, alloc, gate, context, files, desks, cache, drive, workers,
+            rt, alloc, gate, context, files, desks, cache, drive, workers, seats,
         ) {
             Ok(round) => round,
             Err(fault) => {
@@ -210,7 +220,7 @@ fn wait_rounds<
 /// after each answer of an opener. Where files are not read in order, those that are open are then brought before
 /// those that are not: what is said here is said of the files as the exchanges leave them, and the order tells which
 /// file stands at a place. Live requests are not dropped.
-pub fn run_rounds<
+pub(crate) fn run_rounds<
     R: Threads + Sync,
     X: SplitOpener<O, W, F>,
     O: Drop,
@@ -234,8 +244,10 @@ pub fn run_rounds<
     order: &mut Vec<usize>,
     sink: &mut K,
     workers: usize,
+    seats: &mut [Seat<Batch<W, W::Rows>>],
 ) -> Result<Flow, RoundFault<F>>
     requires workers { 0 < workers }
+    requires free { AreFree seats.old }
     requires idle { All (IsIdle S.state) files.old.items }
     requires agree { DesksAgree S.state files.old.items desks.old.items }
     requires starts { Starts (length files.old.items) drive.old.left drive.old × HasRoom drive.old.left }
@@ -246,19 +258,14 @@ pub fn run_rounds<
     ensures takes { Hands (made_by T.made (placed_by exchanges.new.items)) T.fits K.takes sink.old sink.new
         (DriveTakes (X.state context.now) S.state W.items drive.old.left drive.old.ordered
         (exchanged exchanges.new.items files.old.items) (C.cache cache.old)) }
-    ensures comes { IfOk result (λ f. EndsBy f (K.full sink.new)
-        (Hands (made_by T.made (placed_by exchanges.new.items)) T.fits K.takes sink.old sink.new
-        (λ us. (drive.new.chunks.items ≡ []) × LineEnds (X.state context.now) X.polls (X.refuses context.now)
-        (X.admits context.now) S.state W.split W.comes W.items files.old.items exchanges.new.items files.new.items
-        desks.new.items (C.cache cache.old) (C.cache cache.new) drive.old (with_taken us drive.new)))) }
-    ensures stops { IfErr result (λ e. (us : List (Chunk W.Rows)) × LineStops (X.state context.now) X.polls
-        (X.refuses context.now) (X.admits context.now) S.state W.split W.comes W.items files.old.items
-        exchanges.new.items
-        files.new.items (C.cache cache.old) drive.old (with_taken us drive.new) e) }
+    ensures runs { LineRuns (X.state context.now) X.polls (X.refuses context.now) (X.admits context.now) S.state
+        W.split W.comes W.items T.made T.fits K.takes K.full result sink.old sink.new files.old.items
+        exchanges.new.items files.new.items desks.new.items (C.cache cache.old) (C.cache cache.new) drive.old
+        drive.new }
 {
     'opens: loop {
         match wait_rounds(
-            rt, alloc, gate, context, files, desks, cache, drive, order, sink, workers,
+            rt, alloc, gate, context, files, desks, cache, drive, order, sink, workers, seats,
         ) {
             Ok(Wait::Opened) => {}
             Ok(Wait::Done) => return Ok(Flow::More),

@@ -1,5 +1,6 @@
 //! What is given of a drive, and where it ends.
 ghost use Rattle.std.specs.Prelude.{◌≡◌, ◌<◌, [], true, false, None, ℕ, List, OnOk, IfOk, IfErr, IfSome, MatchOption};
+ghost use Rattle.scan_drive.specs.Batches.{AreFree};
 ghost use Rattle.scan_drive.specs.Chunks.{given, KeepsRows};
 ghost use Rattle.scan_drive.specs.Drives.{NoneOf};
 ghost use Rattle.scan_drive.specs.Ends.{EndIs, Settles};
@@ -10,11 +11,13 @@ ghost use Rattle.scan_drive.specs.Steps.{SettlesAll, SettlesNot};
 ghost use Rattle.scan_drive.specs.declared.delivery.Chunk.{Chunk};
 ghost use Rattle.scan_drive.specs.declared.phase.Phase.TheVariants as phases;
 
+use crate::batch::Batch;
 use crate::delivery::DriveFault;
 use crate::gate::Gate;
 use crate::phase::{Phase, Tally, is_cut};
 use crate::round::{Drive, give_out};
 use crate::work::SplitWork;
+use scan_pool::Seat;
 use std::alloc::Global;
 use std::collections::VecDeque;
 use std::thread::Threads;
@@ -89,10 +92,13 @@ pub(crate) fn settle<R: Threads + Sync, W: SplitWork + Drop + Send, F: Drop, G: 
     alloc: Global,
     gate: &G,
     workers: usize,
+    seats: &mut [Seat<Batch<W, W::Rows>>],
     drive: &mut Drive<W, W::Rows, F>,
 ) -> Result<Option<VecDeque<usize>>, RoundFault<F>>
     requires workers { 0 < workers }
+    requires free { AreFree seats.old }
     requires stands { (n : ℕ) × Stands n drive.old }
+    ensures free { OnOk result (AreFree seats.new) }
     ensures report { drive.new.report ≡ drive.old.report }
     ensures waits { IfOk result (λ o. IfSome o (λ asking. (ts : List (Chunk W.Rows)) →
         Settles W.split W.comes W.items asking.items (with_taken ts drive.old) (with_taken ts drive.new))) }
@@ -109,6 +115,7 @@ pub(crate) fn settle<R: Threads + Sync, W: SplitWork + Drop + Send, F: Drop, G: 
         alloc,
         gate,
         workers,
+        seats,
         drive.ordered,
         &mut drive.budget,
         &mut drive.active,

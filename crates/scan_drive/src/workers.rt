@@ -2,6 +2,7 @@
 //! polls as many at once as it has threads.
 ghost use Rattle.std.specs.Prelude.{◌≡◌, ◌≤◌, ◌<◌, ◌+◌, ◌*◌, ◌^◌, true, false, All, OnOk, IfOk, IfSome, MatchOption, Some, ℕ, length, map, option_copied, slice_index_or};
 ghost use Rattle.scan_limit.specs.Seats.{after_split};
+ghost use Rattle.scan_drive.specs.Batches.{AreFree};
 ghost use Rattle.scan_segments.specs.Source.{Store};
 ghost use Rattle.scan_splits.specs.Wanted.{no_repeats};
 ghost use Rattle.scan_drive.specs.Budgets.{IsOpen, IsPhase, GrantsAll, GrantsIn, UsesUp, UsesUpIn};
@@ -12,6 +13,7 @@ ghost use Rattle.scan_drive.specs.Slots.{EachKeeps, HasFresh, slot_at, is_fresh,
 ghost use Rattle.scan_drive.specs.Workers.{AreInTurn, AreJobs, JobPolled, TakesJob, IsWithin, listed, places_of, put_back};
 ghost use Rattle.scan_drive.specs.declared.workers.Job.{Job};
 
+use crate::batch::{Batch, poll_jobs};
 use crate::budget::Budget;
 use crate::claims::claim_slot;
 use crate::gate::Gate;
@@ -19,6 +21,7 @@ use crate::looking::{Found, poll_slot};
 use crate::slot::{Slot, Stage, list_if};
 use crate::work::SplitWork;
 use scan_limit::{LimitSeat, RowLimit};
+use scan_pool::Seat;
 use scan_values::NoMemory;
 use std::alloc::Global;
 use std::collections::VecDeque;
@@ -122,7 +125,7 @@ fn poll_job<W: SplitWork + Drop>(alloc: Global, limit: Option<&RowLimit>, job: &
 }
 
 /// What one worker does in a phase: it passes the gate, and polls its splits.
-fn work<W: SplitWork + Drop, G: Gate>(
+pub(crate) fn work<W: SplitWork + Drop, G: Gate>(
     alloc: Global,
     gate: &G,
     worker: usize,
@@ -294,18 +297,18 @@ fn put_jobs<W: Drop, R: Drop>(
     Ok(())
 }
 
-/// Polls the splits that wait for nothing, in one phase of at most so many workers, and answers the places of those that
-/// wait for other segments now, in turn. Where a thread can't be made its part is polled by the caller.
-pub fn poll_fresh<R: Threads + Sync, W: SplitWork + Drop + Send, G: Gate>(
-    rt: &R,
+/// Polls the splits that wait for nothing, in one phase of the caller and the threads that serve the seats, and answers
+/// the places of those that wait for other segments now, in turn.
+pub(crate) fn poll_fresh<W: SplitWork + Drop + Send, G: Gate>(
     alloc: Global,
     gate: &G,
-    workers: usize,
+    seats: &mut [Seat<Batch<W, W::Rows>>],
     slots: &mut Vec<Slot<W, W::Rows>>,
     turns: &VecDeque<usize>,
 ) -> Result<VecDeque<usize>, NoMemory>
-    requires workers { 0 < workers }
+    requires free { AreFree seats.old }
     requires turns { HasFresh slots.old.items turns.now.items }
+    ensures free { OnOk result (AreFree seats.new) }
     ensures polled { IfOk result (λ asking.
         EachPolled W.split W.comes W.items asking.items slots.old.items slots.new.items) }
     ensures once { IfOk result (λ asking. no_repeats asking.items ≡ true) }
@@ -314,10 +317,10 @@ pub fn poll_fresh<R: Threads + Sync, W: SplitWork + Drop + Send, G: Gate>(
     ensures settled { OnOk result ((place : ℕ) → is_fresh (slot_at slots.new.items place).stage ≡ false) }
     ensures order { IfOk result (λ asking. AreInTurn asking.items turns.now.items) }
 {
-    let mut jobs = take_jobs(alloc, slots, turns)?;
+    let jobs = take_jobs(alloc, slots, turns)?;
     let mut asking = VecDeque::with_capacity(alloc, jobs.len())?;
-    run_phase(rt, alloc, gate, workers, None, jobs.as_mut_slice());
-    put_jobs(slots, jobs, &mut asking)?;
+    let done = poll_jobs(alloc, gate, seats, jobs)?;
+    put_jobs(slots, done, &mut asking)?;
     Ok(asking)
 }
 
@@ -358,13 +361,16 @@ pub(crate) fn poll_in<R: Threads + Sync, W: SplitWork + Drop + Send, G: Gate>(
     alloc: Global,
     gate: &G,
     workers: usize,
+    seats: &mut [Seat<Batch<W, W::Rows>>],
     budget: &mut Option<Budget>,
     slots: &mut Vec<Slot<W, W::Rows>>,
     turns: &VecDeque<usize>,
 ) -> Result<Option<VecDeque<usize>>, NoMemory>
     requires workers { 0 < workers }
+    requires free { AreFree seats.old }
     requires turns { HasFresh slots.old.items turns.now.items }
     requires open { IfSome budget.old IsOpen }
+    ensures free { OnOk result (AreFree seats.new) }
     ensures polled { IfOk result (λ o. MatchOption o
         (UsesUpIn W.split W.comes W.items budget.old slots.old.items slots.new.items)
         (λ asking. IsPhase W.split W.comes W.items asking.items slots.old.items slots.new.items)) }
@@ -372,7 +378,7 @@ pub(crate) fn poll_in<R: Threads + Sync, W: SplitWork + Drop + Send, G: Gate>(
     ensures order { IfOk result (λ o. IfSome o (λ asking. AreInTurn asking.items turns.now.items)) }
 {
     let Some(open) = budget.take() else {
-        return Ok(Some(poll_fresh(rt, alloc, gate, workers, slots, turns)?));
+        return Ok(Some(poll_fresh(alloc, gate, seats, slots, turns)?));
     };
     match poll_granted(rt, alloc, gate, workers, open, slots, turns)? {
         Some((open, asking)) => {

@@ -39,6 +39,7 @@ opens-init g c =
           (λ us. Lined state polls refuses admits source split comes items (cache c.args.cache.now) c.args.drive.now c.args.workers files c.args.exchanges.now.items files c.args.desks.now.items (cache c.args.cache.now) (with_taken us c.args.drive.now))
           (lined_start state polls refuses admits source split comes items (cache c.args.cache.now) c.args.drive.now c.args.workers files c.args.exchanges.now.items c.args.desks.now.items c.requires.none.0 c.requires.starts.0 c.requires.starts.1 c.requires.idle c.requires.agree);
       order = c.requires.none.1 ∙ ap (λ ss. exchanged ss (range_with_len 0 (length files))) (sym c.requires.none.0);
+      free = c.requires.free;
     }
 
 pub wait_rounds-requires-clause-stands : goal.wait_rounds-requires-clause-stands
@@ -222,12 +223,14 @@ returns-in-Err-clause-takes g c =
     (line_takes state polls refuses admits source split comes items (cache c.args.cache.now) c.args.drive.now c.args.workers c.requires.workers files log c.opens.files.items c.opens.desks.items (cache c.opens.cache) (with_taken hands.chunks c.opens.drive) lim hands.so
     (hands.chunks ++ w.chunks) (w.so hands.chunks))
 
-pub returns-in-Ok-Stopped-clause-comes : goal.returns-in-Ok-Stopped-clause-comes
-returns-in-Ok-Stopped-clause-comes g c =
-    rw c.in-Ok-Stopped.field-0-is at c.in-Ok-Stopped.ensures.comes
+pub returns-in-Ok-Stopped-clause-runs : goal.returns-in-Ok-Stopped-clause-runs
+returns-in-Ok-Stopped-clause-runs g c = record {
+  comes_to = (rw c.in-Ok-Stopped.field-0-is at c.in-Ok-Stopped.ensures.comes);
+  stops = tt;
+}
 
-pub returns-in-Ok-Done-clause-comes : goal.returns-in-Ok-Done-clause-comes
-returns-in-Ok-Done-clause-comes g c =
+pub returns-in-Ok-Done-clause-runs : goal.returns-in-Ok-Done-clause-runs
+returns-in-Ok-Done-clause-runs g c =
     let state = g.X.SplitOpener.state c.args.context.now in
     let polls = g.X.SplitOpener.polls in
     let refuses = g.X.SplitOpener.refuses c.args.context.now in
@@ -250,18 +253,21 @@ returns-in-Ok-Done-clause-comes g c =
     let P : List (Chunk g.row.W-Rows.Denot) → Type 0 = (λ us. (c.wait_rounds.new.drive.chunks.items ≡ []) × ((ts : List (Chunk g.row.W-Rows.Denot)) → WaitComes state polls refuses admits source split comes items round.Done c.opens.files.items c.wait_rounds.new.files.items
     c.wait_rounds.new.desks.items (cache c.opens.cache) (cache c.wait_rounds.new.cache) (with_taken ts c.opens.drive) (with_taken (ts ++ us) c.wait_rounds.new.drive))) in
     let w : Hands made fits takes c.opens.sink c.wait_rounds.new.sink P = subst (λ f. Hands (made_by g.T.FromChunk.made f) fits takes c.opens.sink c.wait_rounds.new.sink P) same (rw c.in-Ok-Done.field-0-is at c.in-Ok-Done.ensures.comes) in
-    hands_then made fits takes taking c.args.sink.now c.opens.sink c.wait_rounds.new.sink hands.chunks w.chunks
-    (λ us. (c.wait_rounds.new.drive.chunks.items ≡ []) × LineEnds state polls refuses admits source split comes items files log c.wait_rounds.new.files.items c.wait_rounds.new.desks.items (cache c.args.cache.now) (cache c.wait_rounds.new.cache) c.args.drive.now (with_taken us
-    c.wait_rounds.new.drive))
-    hands.took hands.fitting w.took w.fitting (
-      w.so.0,
-      line_ends state polls refuses admits source split comes items (cache c.args.cache.now) c.args.drive.now c.args.workers c.requires.workers files log c.opens.files.items c.opens.desks.items (cache c.opens.cache) (with_taken hands.chunks c.opens.drive) lim hands.so
-          c.wait_rounds.new.files.items c.wait_rounds.new.desks.items (cache c.wait_rounds.new.cache) (with_taken (hands.chunks ++ w.chunks) c.wait_rounds.new.drive) (c.wait_rounds.ensures.keeps hands.chunks)
-          (w.so.1 hands.chunks),
-    )
+    record {
+      comes_to = hands_then made fits takes taking c.args.sink.now c.opens.sink c.wait_rounds.new.sink hands.chunks w.chunks
+          (λ us. (c.wait_rounds.new.drive.chunks.items ≡ []) × LineEnds state polls refuses admits source split comes items files log c.wait_rounds.new.files.items c.wait_rounds.new.desks.items (cache c.args.cache.now) (cache c.wait_rounds.new.cache) c.args.drive.now (with_taken us
+          c.wait_rounds.new.drive))
+          hands.took hands.fitting w.took w.fitting (
+            w.so.0,
+            line_ends state polls refuses admits source split comes items (cache c.args.cache.now) c.args.drive.now c.args.workers c.requires.workers files log c.opens.files.items c.opens.desks.items (cache c.opens.cache) (with_taken hands.chunks c.opens.drive) lim hands.so
+                c.wait_rounds.new.files.items c.wait_rounds.new.desks.items (cache c.wait_rounds.new.cache) (with_taken (hands.chunks ++ w.chunks) c.wait_rounds.new.drive) (c.wait_rounds.ensures.keeps hands.chunks)
+                (w.so.1 hands.chunks),
+          );
+      stops = tt;
+    }
 
-pub returns-in-Err-clause-stops : goal.returns-in-Err-clause-stops
-returns-in-Err-clause-stops g c =
+pub returns-in-Err-clause-runs : goal.returns-in-Err-clause-runs
+returns-in-Err-clause-runs g c =
     let state = g.X.SplitOpener.state c.args.context.now in
     let polls = g.X.SplitOpener.polls in
     let refuses = g.X.SplitOpener.refuses c.args.context.now in
@@ -281,12 +287,16 @@ returns-in-Err-clause-stops g c =
     let made : Chunk g.row.W-Rows.Denot → g.row.T.Denot = made_by g.T.FromChunk.made (placed_by log) in
     let same = named_by log (length files) c.opens.order.items hands.so.places inv.order in
     let lim : limit_in split comes items c.args.drive.now ≡ c.args.drive.now.left = starts_limit (length files) c.args.drive.now.left c.args.drive.now c.requires.starts.0 split comes items in
-    let s = c.in-Err.ensures.stops in (
-      hands.chunks ++ s.0,
-      line_stops state polls refuses admits source split comes items (cache c.args.cache.now) c.args.drive.now c.args.workers c.requires.workers files log c.opens.files.items c.opens.desks.items (cache c.opens.cache) (with_taken hands.chunks c.opens.drive) lim hands.so
-          c.wait_rounds.new.files.items c.wait_rounds.new.desks.items (cache c.wait_rounds.new.cache) (with_taken (hands.chunks ++ s.0) c.wait_rounds.new.drive) (c.wait_rounds.ensures.keeps hands.chunks)
-          c.in-Err.fault (s.1 hands.chunks),
-    )
+    let s = c.in-Err.ensures.stops in
+    record {
+      comes_to = tt;
+      stops = (
+        hands.chunks ++ s.0,
+        line_stops state polls refuses admits source split comes items (cache c.args.cache.now) c.args.drive.now c.args.workers c.requires.workers files log c.opens.files.items c.opens.desks.items (cache c.opens.cache) (with_taken hands.chunks c.opens.drive) lim hands.so
+            c.wait_rounds.new.files.items c.wait_rounds.new.desks.items (cache c.wait_rounds.new.cache) (with_taken (hands.chunks ++ s.0) c.wait_rounds.new.drive) (c.wait_rounds.ensures.keeps hands.chunks)
+            c.in-Err.fault (s.1 hands.chunks),
+      );
+    }
 
 pub opens-preserved : goal.opens-preserved
 opens-preserved g c =
@@ -341,6 +351,7 @@ opens-preserved g c =
     record {
       hands = named (λ vs. Lined state polls refuses admits source split comes items (cache c.args.cache.now) c.args.drive.now c.args.workers files b.exchanges.items b.files.items b.desks.items (cache c.wait_rounds.new.cache) (with_taken vs b.drive)) here;
       order = grown;
+      free = c.in-Ok-Opened.ensures.free c.in-Ok-Opened.field-0-is;
     }
 
 pub opens-smaller : goal.opens-smaller
@@ -466,8 +477,8 @@ returns-in-Err-brought-clause-keeps g c =
     line_now state polls refuses admits source split comes items (cache c.args.cache.now) c.args.drive.now c.args.workers c.requires.workers files
     b.exchanges.items b.files.items b.desks.items (cache c.wait_rounds.new.cache) (with_taken us b.drive) lim here
 
-pub returns-in-Err-brought-clause-stops : goal.returns-in-Err-brought-clause-stops
-returns-in-Err-brought-clause-stops g c =
+pub returns-in-Err-brought-clause-runs : goal.returns-in-Err-brought-clause-runs
+returns-in-Err-brought-clause-runs g c =
     let state = g.X.SplitOpener.state c.args.context.now in
     let polls = g.X.SplitOpener.polls in
     let refuses = g.X.SplitOpener.refuses c.args.context.now in
@@ -496,11 +507,15 @@ returns-in-Err-brought-clause-stops g c =
     let here = line_brought state polls refuses admits source split comes items (cache c.args.cache.now) c.args.drive.now c.args.workers c.requires.workers files log c.opens.files.items c.opens.desks.items (cache c.opens.cache) (with_taken hands.chunks c.opens.drive) lim hands.so
     c.wait_rounds.new.files.items c.wait_rounds.new.desks.items (cache c.wait_rounds.new.cache) (with_taken us c.wait_rounds.new.drive) (c.wait_rounds.ensures.keeps hands.chunks)
     (w.so.1 hands.chunks)
-    b.exchanges.items b.files.items b.desks.items (with_taken us b.drive) line c.bring_forward-brought.ensures.order in (
-      us,
-      line_short state polls refuses admits source split comes items (cache c.args.cache.now) c.args.drive.now c.args.workers c.requires.workers files
-          b.exchanges.items b.files.items b.desks.items (cache c.wait_rounds.new.cache) (with_taken us b.drive) lim here,
-    )
+    b.exchanges.items b.files.items b.desks.items (with_taken us b.drive) line c.bring_forward-brought.ensures.order in
+    record {
+      comes_to = tt;
+      stops = (
+        us,
+        line_short state polls refuses admits source split comes items (cache c.args.cache.now) c.args.drive.now c.args.workers c.requires.workers files
+            b.exchanges.items b.files.items b.desks.items (cache c.wait_rounds.new.cache) (with_taken us b.drive) lim here,
+      );
+    }
 
 pub returns-in-Err-brought-clause-order : goal.returns-in-Err-brought-clause-order
 returns-in-Err-brought-clause-order g c =

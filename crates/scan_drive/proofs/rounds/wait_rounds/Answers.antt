@@ -6,6 +6,7 @@ use Rattle.scan_drive.specs.Steps.{RoundComes, WaitComes, WaitStops}
 use Rattle.scan_drive.specs.declared.delivery.Chunk.{Chunk}
 use Rattle.scan_drive.specs.declared.rounds.Round.{Round}
 use Rattle.scan_drive.specs.declared.rounds.Round.TheVariants as round
+use Rattle.scan_drive.proofs.Freeing.{never_opened}
 use Rattle.scan_drive.proofs.Outgone.{stands_back}
 use Rattle.scan_drive.proofs.Sinking.{hands_none, hands_then, by_first}
 use Rattle.scan_drive.proofs.Waited.{Waited, waited_start, waited_keeps, waited_stops, waited_short, waited_on, waited_opened, waited_done, takes_now, takes_then, takes_first, waited_faulty, ends_stopped, ends_faulty}
@@ -29,6 +30,7 @@ rounds-init g c =
     record {
       hands = hands_none made fits takes taking c.args.sink.now (Waited state polls refuses admits source split comes items c.args.workers c.args.files.now.items (cache c.args.cache.now) c.args.drive.now c.args.files.now.items c.args.desks.now.items (cache c.args.cache.now) c.args.drive.now)
           (waited_start state polls refuses admits source split comes items c.args.workers c.args.files.now.items c.args.desks.now.items (cache c.args.cache.now) c.args.drive.now c.requires.stands c.requires.links c.requires.agree);
+      free = c.requires.free;
     }
 
 pub rounds-preserved : goal.rounds-preserved
@@ -58,6 +60,7 @@ rounds-preserved g c =
           hands.took hands.fitting over.took over.fitting
           (waited_on state polls refuses admits source split comes items c.args.workers c.args.files.now.items (cache c.args.cache.now) c.args.drive.now c.rounds.files.items c.rounds.desks.items (cache c.rounds.cache) c.rounds.drive hands.chunks hands.so
           c.make_round.new.files.items c.make_round.new.desks.items (cache c.make_round.new.cache) c.make_round.ensures.keeps c.make_round.new.drive over.moved over.rest over.were c.hand_over.new.chunks left r);
+      free = c.in-Ok.ensures.free;
     }
 
 pub rounds-smaller : goal.rounds-smaller
@@ -386,3 +389,6 @@ returns-in-Err-hand_over-clause-stops g c =
       waited_short state polls refuses admits source split comes items c.args.workers c.args.files.now.items (cache c.args.cache.now) c.args.drive.now c.rounds.files.items c.rounds.desks.items (cache c.rounds.cache) c.rounds.drive hands.chunks hands.so
           c.make_round.new.files.items c.make_round.new.desks.items (cache c.make_round.new.cache) c.make_round.ensures.keeps (record c.make_round.new.drive { chunks = c.hand_over.new.chunks }),
     )
+
+pub returns-in-Err-clause-free : goal.returns-in-Err-clause-free
+returns-in-Err-clause-free g c = never_opened c.end_wait.result _ _ c.end_wait.ensures.ok
