@@ -1,5 +1,5 @@
 //! Phases of a pool: numbers that are raised by one in each.
-ghost use Rattle.std.specs.Prelude.{All};
+ghost use Rattle.std.specs.Prelude.{All, OnOk};
 ghost use Rattle.scan_pool.specs.Seats.{IsIdle};
 
 use scan_pool::{Seat, Seated, Work, boxes, close_all, run_all, with_threads};
@@ -37,6 +37,7 @@ fn pieces(alloc: Global, count: usize) -> Result<Vec<Raise>, AllocError> {
 /// So many phases, after which the seats are closed.
 fn phases(seats: &mut [Seat<Raise>], works: &mut Vec<Raise>, count: u64) -> Result<(), AllocError>
     requires { All IsIdle seats.old }
+    ensures { OnOk result (All IsIdle seats.new) }
 {
     let run = |work: &mut Raise| add_one(work);
     for _ in 0..count {
@@ -52,6 +53,7 @@ fn phases_then_close(
     count: u64,
 ) -> Result<(), AllocError>
     requires { All IsIdle seats.old.items }
+    ensures { OnOk result (All IsIdle seats.new.items) }
 {
     let done = phases(seats.as_mut_slice(), works, count);
     close_all(seats);
