@@ -1,0 +1,4 @@
+pub mod Parts
+pub mod Reads
+pub mod Spelling
+pub mod Written
