@@ -1,0 +1,5 @@
+mod Columns
+mod Jsons
+mod Lines
+mod Meant
+mod Numerals
