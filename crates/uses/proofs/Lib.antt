@@ -1,6 +1,7 @@
 pub mod Again
 pub mod Alone
 pub mod Concluding
+pub mod OnDisk
 pub mod Summing
 pub mod LookingUp
 pub mod Showing

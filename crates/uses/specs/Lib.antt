@@ -1,3 +1,4 @@
+pub mod Disk
 pub mod Lookup
 pub mod Own
 pub mod Shows

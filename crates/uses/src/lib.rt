@@ -3,6 +3,7 @@
 #![tactic(auto)]
 
 mod count;
+mod disk;
 mod first;
 mod look;
 mod never;
@@ -16,6 +17,7 @@ mod twice;
 mod under;
 
 pub use count::count_rows;
+pub use disk::{TripFault, rows_back, rows_of_file, written_and_read};
 pub use first::first_rows;
 pub use look::values_at;
 pub use own_source::rows_of_table;
