@@ -13,7 +13,8 @@ use Rattle.scan_expr.specs.declared.op.Unary.TheVariants as un
 use Rattle.scan_conditions.specs.declared.operator.Infix.{Infix}
 use Rattle.scan_conditions.specs.declared.operator.Function.{Function}
 use Rattle.scan_conditions.specs.Spelling.{Part, Spells, sign, text, word}
-use Rattle.scan_conditions.specs.Written.{IsCondition, Path, Said, Written, applied, call, contrary, field, field_name, function_name, grouped, infix_level, infix_part, is_path, is_ranked, joined, joined_said, level_of, names_field, negative, nested, number, parts_of, path_expr, path_name, path_names, path_parts, quoted_text, row_number, said, truth, truth_name, typed, unary_of, untyped, with_commas, dotted}
+use Rattle.scan_conditions.specs.Written.{IsCondition, Path, Said, Written, applied, call, contrary, field, field_name, function_name, grouped, infix_level, infix_part, is_path, is_ranked, joined, joined_said, level_of}
+use Rattle.scan_conditions.specs.Written.{names_field, negative, nested, number, parts_of, path_expr, path_name, path_names, path_parts, quoted_text, row_number, said, truth, truth_name, typed, unary_of, untyped, with_commas, dotted}
 use Rattle.scan_conditions.specs.Reads.{AreSelected, IsName, IsNumber, IsPath, IsRead, IsSelected, SaysAll, SelectedTo}
 use Rattle.scan_conditions.proofs.Places.{all_more}
 
