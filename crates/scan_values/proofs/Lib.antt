@@ -14,3 +14,5 @@ pub mod ValuesSent
 pub mod ArraysSent
 pub mod Named
 pub mod FirstPlaces
+pub mod Left
+pub mod Showing

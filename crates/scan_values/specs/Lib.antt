@@ -2,6 +2,7 @@ pub mod Marked
 pub mod Trees
 pub mod Val
 pub mod Values
+pub mod Shown
 pub mod ValuesFall
 pub mod DataType
 pub mod Weights

@@ -10,6 +10,7 @@ mod mask;
 mod memory;
 mod ptype;
 mod selection;
+pub mod shown;
 mod text;
 mod threads;
 mod value;

@@ -7,6 +7,7 @@ use std::alloc::Global;
 use std::collections::BTreeSet;
 use std::hash::{Hash, Hasher};
 use std::marker::Model;
+use thiserror::Error;
 
 /// A text.
 #[derive(Drop)]
@@ -248,9 +249,11 @@ pub fn has_name(name: &FieldName, names: &[FieldName]) -> bool
 }
 
 /// What is wrong with a name: it stood before, or it is reserved.
-#[derive(Clone, Copy, PartialEq, Eq, Debug)]
+#[derive(Clone, Copy, PartialEq, Eq, Debug, Error)]
 pub enum NameFault {
+    #[error("a name is repeated")]
     Repeated,
+    #[error("a name is reserved")]
     Reserved,
 }
 
