@@ -11,3 +11,4 @@ pub mod Lazy
 pub mod Matches
 pub mod Splits
 pub mod Placing
+pub mod Showing

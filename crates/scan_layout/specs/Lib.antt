@@ -16,3 +16,4 @@ pub mod LazyCode
 pub mod LazyLends
 pub mod OptionLends
 pub mod Examples
+pub mod Shown

@@ -9,6 +9,7 @@ pub mod laws;
 pub mod layouts;
 pub mod node;
 pub mod reader_context;
+pub mod shown;
 
 pub use children::{ChildFault, ChildOpener, LazyReaderChildren};
 pub use fault::LayoutFault;
