@@ -1,0 +1,9 @@
+//! What dtypes, values and layouts look like to a person: tables of what a manifest says, and what is shown.
+#![tactic(auto)]
+
+#[cfg(test)]
+mod layouts;
+#[cfg(test)]
+mod manifests;
+#[cfg(test)]
+mod types;
