@@ -14,3 +14,4 @@ pub mod Sames
 pub mod Feeding
 pub mod Placing
 pub mod ExpressionsSent
+pub mod Showing

@@ -18,3 +18,4 @@ pub mod Children
 pub mod Same
 pub mod Heads
 pub mod Hashes
+pub mod Shown

@@ -5,6 +5,7 @@ ghost use Rattle.scan_expr.specs.Expr.{parts_of, parts_depth};
 use crate::bind::{bind_binary, bind_literal, bind_pack, bind_root, bind_unary};
 use crate::bound::BoundExpression;
 use crate::op::{Binary, BindFault, Unary};
+use crate::tree::{Top, Tree};
 use crate::typing::fault_of;
 use scan_values::{DType, FieldName, Names, NoMemory, Nullability, Value};
 use std::alloc::Global;
@@ -207,6 +208,21 @@ impl Expression {
                 }
                 bind_pack(alloc, names, *n, bound, scope)
             }
+        }
+    }
+}
+
+impl Tree for Expression {
+    ghost expr = { λ e. e };
+
+    fn top(&self) -> Top<'_, Expression> {
+        match &self.node {
+            Node::Root => Top::Root,
+            Node::RowIdx => Top::RowIdx,
+            Node::Literal(dtype, value) => Top::Literal(dtype, value),
+            Node::Unary(op, e) => Top::Unary(op, e),
+            Node::Binary(op, a, b) => Top::Binary(*op, a, b),
+            Node::Pack(names, parts, n) => Top::Pack(names.as_slice(), parts.as_slice(), *n),
         }
     }
 }

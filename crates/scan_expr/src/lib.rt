@@ -12,7 +12,9 @@ mod index;
 mod laws;
 mod op;
 mod request;
+mod shown;
 mod threads;
+mod tree;
 mod typing;
 
 pub use bound::{BoundExpression, BoundNode};
