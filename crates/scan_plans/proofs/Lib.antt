@@ -36,3 +36,4 @@ pub mod PlansSent
 pub mod Rising
 pub mod LastOffsets
 pub mod Blocks
+pub mod Showing

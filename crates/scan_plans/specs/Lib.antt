@@ -26,3 +26,4 @@ pub mod Projecting
 pub mod Pruning
 pub mod Polled
 pub mod Laws
+pub mod Shown

@@ -15,6 +15,7 @@ mod node;
 mod offsets;
 mod plan;
 mod reading;
+mod shown;
 mod sizes;
 mod threads;
 
