@@ -21,6 +21,8 @@ mod rows;
 #[cfg(test)]
 mod runs;
 #[cfg(test)]
+mod shown;
+#[cfg(test)]
 mod stories;
 #[cfg(test)]
 mod texts;

@@ -23,7 +23,7 @@ fn sides<'a>(line: &'a str, mark: &str) -> Result<(&'a str, &'a str), Fail> {
 }
 
 /// The plan of `$` over the leaf, numbers in memory, lists or lengths, or of 1.
-fn plan_of(alloc: Global, name: &str) -> Result<Arc<Plan>, Fail>
+pub(crate) fn plan_of(alloc: Global, name: &str) -> Result<Arc<Plan>, Fail>
     ensures { IfOk result (λ p. Within (p.value).tree 3) }
 {
     match name {
