@@ -10,13 +10,16 @@ use std::io::ErrorKind;
 use std::marker::Model;
 use std::os::unix::fs::FileExt;
 use std::rc::Rc;
+use thiserror::Error;
 
 /// Why a read gave no bytes.
-#[derive(Clone, Copy, Debug, PartialEq, Eq)]
+#[derive(Clone, Copy, Debug, PartialEq, Eq, Error)]
 pub enum ReadFault {
     /// The file ends before the place does.
+    #[error("the file ends before the place does")]
     Outside,
     /// The read failed.
+    #[error("the read failed")]
     Failed,
 }
 
