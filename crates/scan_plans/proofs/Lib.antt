@@ -31,6 +31,7 @@ pub mod Outer
 pub mod Projections
 pub mod Wanting
 pub mod Pruned
+pub mod Fewer
 pub mod BoundsSent
 pub mod PlansSent
 pub mod Rising

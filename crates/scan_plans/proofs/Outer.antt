@@ -1,20 +1,22 @@
 -- Several masks: a walk over them, and values under them.
 use Rattle.std.proofs.Common.{◌≡◌, ℕ, zero, suc, ◌+◌, ◌-◌, ◌<◌, ◌≤◌, Bool, true, false, ◌||◌, List, [], ◌∷◌, ◌++◌, map, length, take, drop, set, get_or, Option, Some, None, Result, Ok, Err, refl, ap, subst, ◌∙◌, sym, arith, append_assoc}
-use Rattle.std.specs.Prelude.{if◌then◌else◌}
+use Rattle.std.specs.Prelude.{if◌then◌else◌, IfOk}
 use Rattle.std.proofs.lemmas.List.{drop_all, drop_more, append-nil}
 use Rattle.scan_values.specs.Arrays.{ArrayData, of_parts}
 use Rattle.scan_values.specs.DataType.{DataType, with_nullability}
 use Rattle.scan_values.specs.declared.ptype.Nullability.TheVariants.{Nullable}
 use Rattle.scan_values.specs.Marked.{Marked, null}
 use Rattle.scan_values.specs.Masks.{null_where_false}
+use Rattle.scan_values.specs.Selections.{is_among}
 use Rattle.scan_values.specs.Val.{Val, marked}
 use Rattle.scan_segments.specs.Source.{Store}
 use Rattle.scan_spelling.specs.Places.{Place}
+use Rattle.scan_splits.specs.Wanted.{is_any}
 use Rattle.scan_plans.specs.Came.{Came, Holds}
 use Rattle.scan_plans.specs.Given.{AreLacking}
 use Rattle.scan_plans.specs.Knowing.{Knows}
-use Rattle.scan_plans.specs.MaskLists.{nulled, under, dtype_under, masks_damage, masks_overflow, masks_wanted, masks_spoiled, SameMasks}
-use Rattle.scan_plans.specs.Masks.{MaskData, mask_of, mask_overflow, mask_wanted, mask_spoiled, SameMask}
+use Rattle.scan_plans.specs.MaskLists.{first_runs, can_run, nulled, under, dtype_under, masks_damage, masks_overflow, masks_wanted, masks_spoiled, SameMasks}
+use Rattle.scan_plans.specs.Masks.{MaskData, Filter, filters_wanted, mask_of, mask_overflow, mask_wanted, mask_spoiled, SameMask}
 use Rattle.scan_plans.specs.Projecting.{AreKnown, AreComplete, KnowsAll, IsUnder, under_known, padded}
 use Rattle.scan_plans.specs.Wants.{are_here, lacks, Complete, NoneBad, spoils}
 use Rattle.scan_plans.specs.declared.fault.ReadFault.{ReadFault}
@@ -136,6 +138,37 @@ pub walk_fault : (k : ℕ) (here : Came) (now old after : List MaskData) (m new 
 walk_fault k here now old after m new (Corrupt id) w h e a = λ rest. walk_spoils k here now old m id rest w h e a
 walk_fault k here now old after m new Overflow w h e a = λ store held. walk_spills k here now old m store w h e (a store held)
 walk_fault k here now old after m new NoMemory w h e a = tt
+
+-- ---- what can run next
+past_runs : (here : Came) (n : MaskData) (ns : List MaskData) → n.filters ≡ [] → can_run here (n ∷ ns) ≡ can_run here ns
+past_runs here n ns e = ap (λ (gs : List Filter). first_runs here n.known gs (can_run here ns)) e
+
+-- where one waits, nothing of those behind it can run
+stuck_first : (here : Came) (bits : List Bool) (fs : List Filter) (ids : List ℕ) (rest : Bool) → is_any ids ≡ true → ((id : ℕ) → is_among ids id ≡ lacks (filters_wanted here bits fs) here id) → first_runs here bits fs false ≡ false → first_runs here bits fs rest ≡ false
+stuck_first here bits [] ids rest some exact h = absurd (not_here [] here ids some exact refl)
+stuck_first here bits (f ∷ fs) ids rest some exact h = h
+
+pub waits_stuck : (here : Came) (m new : MaskData) (ids : List ℕ) (ms : List MaskData) → SameMask here new m → AreLacking (mask_wanted m here) here ids → can_run here (new ∷ []) ≡ false → can_run here (new ∷ ms) ≡ false
+waits_stuck here m new ids ms s a h = stuck_first here new.known new.filters ids (can_run here ms) a.some (λ id. a.exact id ∙ sym (s.lacking here (λ j bytes is. is) id)) h
+
+pub walk_stuck : (k : ℕ) (here : Came) (now old : List MaskData) (m new : MaskData) (ids : List ℕ) → Walked k here now old → k < length now → SameMask here new m → AreLacking (mask_wanted m here) here ids → can_run here (new ∷ []) ≡ false → can_run here (set now k new) ≡ false
+walk_stuck zero here [] old m new ids w h s a r = let z : ⊥ = omega (arith, h) in absurd z
+walk_stuck zero here (n ∷ ns) old m new ids w h s a r = waits_stuck here m new ids ns s a r
+walk_stuck (suc k) here [] old m new ids w h s a r = let z : ⊥ = omega (arith, h) in absurd z
+walk_stuck (suc k) here (n ∷ ns) [] m new ids w h s a r = absurd w
+walk_stuck (suc k) here (n ∷ ns) (x ∷ ms) m new ids w h s a r = past_runs here n (set ns k new) (w.0).1 ∙ walk_stuck k here ns ms m new ids w.1 (omega (arith, h)) s a r
+
+pub known_runs : (here : Came) (ms : List MaskData) → AreKnown ms → can_run here ms ≡ false
+known_runs here [] k = refl
+known_runs here (m ∷ ms) k = past_runs here m ms k.0 ∙ known_runs here ms k.1
+
+pub then_runs : {A E : Type 0} (here : Came) (new : MaskData) (ns : List MaskData) (r : Result A E) → new.filters ≡ [] → IfOk r (λ _. can_run here ns ≡ false) → IfOk r (λ _. can_run here (new ∷ ns) ≡ false)
+then_runs here new ns (Ok x) k h = past_runs here new ns k ∙ h
+then_runs here new ns (Err f) k h = tt
+
+pub still_runs : {A E : Type 0} (here : Came) (ms : List MaskData) (r : Result A E) → can_run here ms ≡ false → IfOk r (λ _. can_run here ms ≡ false)
+still_runs here ms (Ok x) h = h
+still_runs here ms (Err f) h = tt
 
 -- ---- one mask, and then others
 

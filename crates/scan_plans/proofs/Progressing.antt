@@ -1,22 +1,23 @@
 -- A walk over filters.
-use Rattle.std.proofs.Common.{◌≡◌, ℕ, zero, suc, ◌+◌, ◌<◌, ◌≤◌, Bool, true, List, [], ◌∷◌, ◌++◌, map, length, take, ◌-◌, drop, get_or, Option, Some, None, Ok, Err, refl, ap, subst, ◌∙◌, sym, arith}
+use Rattle.std.proofs.Common.{◌≡◌, ℕ, zero, suc, ◌+◌, ◌<◌, ◌≤◌, Bool, true, false, List, [], ◌∷◌, ◌++◌, map, length, take, ◌-◌, drop, get_or, Option, Some, None, Ok, Err, refl, ap, subst, ◌∙◌, sym, arith}
 use Rattle.std.proofs.lemmas.List.{drop_all}
 use Rattle.scan_values.specs.Fits.{is_bool_type}
 use Rattle.scan_plans.specs.Came.{Came, arrived}
 use Rattle.scan_plans.specs.Given.{AreLacking}
 use Rattle.scan_values.specs.Selections.{is_among}
 use Rattle.scan_plans.specs.Masks.{Filter as Seen, MaskData, mask_data, AreFilters, IsMask, SameMask, filters_wanted, filters_spoiled, filters_may, filtered, damaged, spilled, kept}
-use Rattle.scan_plans.specs.Meaning.{Within, plan_dtype}
+use Rattle.scan_plans.specs.MaskLists.{can_run, first_runs}
+use Rattle.scan_plans.specs.Meaning.{Within, plan_dtype, true_rows}
 use Rattle.scan_plans.specs.MaskView.{filter_of, filters_of}
-use Rattle.scan_plans.specs.Knowing.{Reaches, Runs, RunsAll, Lacking, Knows}
-use Rattle.scan_plans.specs.Wants.{lacks, spoils}
+use Rattle.scan_plans.specs.Knowing.{Reaches, Runs, RunsAll, FirstLacks, Lacking, Knows}
+use Rattle.scan_plans.specs.Wants.{wanted, are_here, lacks, spoils}
 use Rattle.scan_plans.specs.declared.fault.ReadFault.{ReadFault}
 use Rattle.scan_plans.specs.declared.fault.ReadFault.TheVariants.{Corrupt, Overflow, NoMemory}
 use Rattle.scan_plans.specs.declared.mask.Filter.{Filter}
 use Rattle.scan_plans.specs.declared.mask.Ran.TheVariants.{Known, Pending}
 use Rattle.scan_plans.proofs.Later.{reach_later}
 use Rattle.scan_plans.proofs.RowLemmas.{drop_twice}
-use Rattle.scan_plans.proofs.Filtering.{reach_next, reach_length, reach_spoils, reach_damaged, reach_spilled, reach_mask, reach_may, reach_lacks, reach_bad, filters_drop, filters_at, first_lacks, first_spoils, first_spills}
+use Rattle.scan_plans.proofs.Filtering.{reach_next, reach_length, reach_spoils, reach_damaged, reach_spilled, reach_mask, reach_may, reach_lacks, reach_bad, filters_drop, filters_at, not_here, first_lacks, first_spoils, first_spills}
 
 seen_at : (k : ℕ) (fs : List Filter) (f : Filter) → k < length fs → f ≡ get_or fs k f → filter_of f ≡ get_or (filters_of fs) k (filter_of f)
 seen_at zero [] f h e = let z : ⊥ = omega (arith, h) in absurd z
@@ -53,10 +54,10 @@ runs_fault here bits mid fs k f NoMemory r h e w = tt
 
 pub runs_pending : (here : Came) (bits mid : List Bool) (fs : List Filter) (k : ℕ) (f : Filter) (ids : List ℕ) → Reaches here bits (filters_of fs) k mid
     → k < length fs → f ≡ get_or fs k f → Runs here mid (filter_of f) (Ok (Pending ids))
-    → AreLacking (filters_wanted here mid (drop k (filters_of fs))) here ids
+    → FirstLacks here mid (drop k (filters_of fs)) ids
 runs_pending here bits mid fs k f ids r h e w =
     let next = seen_drop k (filters_of fs) (filter_of f) (seen_long k fs h) (seen_at k fs f h e) in
-    subst (λ (gs : List Seen). AreLacking (filters_wanted here mid gs) here ids) (sym next) (first_lacks here mid (filter_of f) (drop (suc k) (filters_of fs)) ids w)
+    subst (λ (gs : List Seen). FirstLacks here mid gs ids) (sym next) w
 
 pub runs_more : (here : Came) (bits mid new : List Bool) (fs : List Filter) (k : ℕ) (f : Filter) → Reaches here bits (filters_of fs) k mid → k < length fs → f ≡ get_or fs k f → Runs here mid (filter_of f) (Ok (Known new)) → Reaches here bits (filters_of fs) (k + 1) new
 runs_more here bits mid new fs k f r h e w =
@@ -114,10 +115,23 @@ goes_same here bits mid fs ran n r = record {
   may = λ id h. reach_may here bits (filters_of (drop ran fs)) n mid id r (ap (λ (gs : List Seen). is_among (filters_may gs) id) (sym (rest_moved fs ran n)) ∙ h);
   lacking = λ more x id. ap (λ (gs : List Seen). lacks (filters_wanted more mid gs) more id) (rest_moved fs ran n) ∙ sym (reach_lacks more bits (filters_of (drop ran fs)) n mid id (reach_later here more x bits (filters_of (drop ran fs)) n mid r));
   spoiling = λ more x id h. reach_spoils more bits (filters_of (drop ran fs)) n mid id (reach_later here more x bits (filters_of (drop ran fs)) n mid r) (ap (λ (gs : List Seen). filters_spoiled more mid gs id) (sym (rest_moved fs ran n)) ∙ h);
+  left = (n, rest_moved fs ran n);
 }
 
 pub stays_same : (here : Came) (m : MaskData) → SameMask here m m
-stays_same here m = record { mask = λ store h. refl; overflow = λ store h. refl; damage = λ store h. refl; may = λ id h. h; lacking = λ more x id. refl; spoiling = λ more x id h. h }
+stays_same here m = record { mask = λ store h. refl; overflow = λ store h. refl; damage = λ store h. refl; may = λ id h. h; lacking = λ more x id. refl; spoiling = λ more x id h. h; left = (0, refl) }
+
+next_lacks : (here : Came) (bits : List Bool) (fs : List Seen) (ids : List ℕ) → FirstLacks here bits fs ids → AreLacking (filters_wanted here bits fs) here ids
+next_lacks here bits [] ids l = absurd l
+next_lacks here bits (f ∷ fs) ids l = first_lacks here bits f fs ids l
+
+next_stuck : (here : Came) (bits : List Bool) (fs : List Seen) (ids : List ℕ) → FirstLacks here bits fs ids → first_runs here bits fs false ≡ false
+next_stuck here bits [] ids l = absurd l
+next_stuck here bits (f ∷ fs) ids l = by (are_here (wanted f.0 here (true_rows f.1 bits)) here) refl
+  where
+    by : (b : Bool) → are_here (wanted f.0 here (true_rows f.1 bits)) here ≡ b → b ≡ false
+    by true e = absurd (not_here (wanted f.0 here (true_rows f.1 bits)) here ids l.some l.exact e)
+    by false e = refl
 
 pub goes_answer : (here : Came) (bits mid : List Bool) (fs : List Filter) (ran n : ℕ) (o : Option (List ℕ)) → Reaches here bits (filters_of (drop ran fs)) n mid → Lacking here mid (drop n (filters_of (drop ran fs))) o
     → Knows here (mask_data bits (filters_of (drop ran fs))) (mask_data mid (filters_of (drop (ran + n) fs))) (Ok o)
@@ -126,11 +140,20 @@ goes_answer here bits mid fs ran n None r l = (
   λ id. reach_lacks here bits (filters_of (drop ran fs)) n mid id r ∙ ap (λ (gs : List Seen). lacks (filters_wanted here mid gs) here id) l,
   λ id. reach_bad here bits (filters_of (drop ran fs)) n mid id r ∙ ap (λ (gs : List Seen). spoils (filters_wanted here mid gs) here id) l,
 )
-goes_answer here bits mid fs ran n (Some ids) r l = record {
-  some = l.some;
-  exact = λ id. l.exact id ∙ sym (reach_lacks here bits (filters_of (drop ran fs)) n mid id r);
-  good = λ id. reach_bad here bits (filters_of (drop ran fs)) n mid id r ∙ l.good id;
-}
+goes_answer here bits mid fs ran n (Some ids) r l =
+    let a = next_lacks here mid (drop n (filters_of (drop ran fs))) ids l in record {
+      some = a.some;
+      exact = λ id. a.exact id ∙ sym (reach_lacks here bits (filters_of (drop ran fs)) n mid id r);
+      good = λ id. reach_bad here bits (filters_of (drop ran fs)) n mid id r ∙ a.good id;
+    }
+
+-- no filter is left that could run
+pub goes_stuck : (here : Came) (mid : List Bool) (fs : List Filter) (ran n : ℕ) (o : Option (List ℕ)) → Lacking here mid (drop n (filters_of (drop ran fs))) o → can_run here (mask_data mid (filters_of (drop (ran + n) fs)) ∷ []) ≡ false
+goes_stuck here mid fs ran n None l = ap (λ (gs : List Seen). first_runs here mid gs false) (rest_moved fs ran n ∙ l)
+goes_stuck here mid fs ran n (Some ids) l = ap (λ (gs : List Seen). first_runs here mid gs false) (rest_moved fs ran n) ∙ next_stuck here mid (drop n (filters_of (drop ran fs))) ids l
+
+pub none_runs : (here : Came) (m : MaskData) → m.filters ≡ [] → can_run here (m ∷ []) ≡ false
+none_runs here m e = ap (λ (gs : List Seen). first_runs here m.known gs false) e
 
 -- where no filter is left the mask is known
 pub none_left : (fs : List Filter) (ran : ℕ) → length fs ≤ ran → filters_of (drop ran fs) ≡ []

@@ -82,12 +82,12 @@ or_true : (b : Bool) → (b || true) ≡ true
 or_true true = refl
 or_true false = refl
 
-none_past : (i : ℕ) → get_or [] (suc i) false ≡ true → get_or [] i false ≡ true
+pub none_past : (i : ℕ) → get_or [] (suc i) false ≡ true → get_or [] i false ≡ true
 none_past zero h = h
 none_past (suc i) h = h
 
 -- a test that one of fewer rows passes
-more_pass : (f : ℕ → Bool) (k : ℕ) (less mask : List Bool) → IsWithin less mask → list_any f (true_rows k less) ≡ true → list_any f (true_rows k mask) ≡ true
+pub more_pass : (f : ℕ → Bool) (k : ℕ) (less mask : List Bool) → IsWithin less mask → list_any f (true_rows k less) ≡ true → list_any f (true_rows k mask) ≡ true
 more_pass f k [] mask w h = absurd cc
 more_pass f k (true ∷ less) [] w h = absurd (let z = w 0 refl in cc)
 more_pass f k (false ∷ less) [] w h = more_pass f (k + 1) less [] (λ i e. none_past i (w (suc i) e)) h
@@ -116,7 +116,7 @@ leaves_rise (p ∷ ps) base first less mask id w h =
     held true false f n = absurd (let z = f refl in cc)
     held false t f n = absurd cc
 
-no_rows : (k : ℕ) (mask : List Bool) → list_all not mask ≡ true → true_rows k mask ≡ []
+pub no_rows : (k : ℕ) (mask : List Bool) → list_all not mask ≡ true → true_rows k mask ≡ []
 no_rows k [] h = refl
 no_rows k (true ∷ mask) h = absurd cc
 no_rows k (false ∷ mask) h = no_rows (k + 1) mask h

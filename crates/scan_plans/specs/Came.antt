@@ -15,6 +15,10 @@ came inbox id = option_map content (map.get inbox id)
 abbrev pub arrived : Came → Store
 arrived here id = option_and_then (λ bytes. bytes) (here id)
 
+-- all of a store has arrived
+abbrev pub all_of : Store → Came
+all_of store id = Some (store id)
+
 -- what has arrived is what the store has
 abbrev pub Holds : Store → Came → Type 0
 Holds store here = (id : ℕ) (bytes : Option (List ℕ)) → here id ≡ Some bytes → store id ≡ bytes

@@ -45,9 +45,14 @@ Reaches here bits (f ∷ fs) (suc n) new = RunsWell here bits f × Reaches here 
 abbrev pub Spills : Came → List Bool → List Filter → Type 0
 Spills here bits fs = (store : Store) → Holds store here → spilled store bits fs ≡ true
 
+-- the first of these filters lacks these ids
+abbrev pub FirstLacks : Came → List Bool → List Filter → List ℕ → Type 0
+FirstLacks here bits [] ids = ⊥
+FirstLacks here bits (f ∷ fs) ids = AreLacking (wanted f.0 here (true_rows f.1 bits)) here ids
+
 abbrev pub Lacking : Came → List Bool → List Filter → Option (List ℕ) → Type 0
 Lacking here bits fs None = fs ≡ []
-Lacking here bits fs (Some ids) = AreLacking (filters_wanted here bits fs) here ids
+Lacking here bits fs (Some ids) = FirstLacks here bits fs ids
 
 -- filters over a mask: how far they get and what lacks there, a segment that is no good, or an overflow
 abbrev pub RunsAll : Came → List Bool → List Filter → Result Progress ReadFault → Type 0

@@ -6,8 +6,9 @@ use Rattle.scan_values.specs.Marked.{Marked, null}
 use Rattle.scan_segments.specs.Source.{Store}
 use Rattle.scan_spelling.specs.Places.{Place}
 use Rattle.scan_plans.specs.Came.{Came}
-use Rattle.scan_plans.specs.Masks.{MaskData, mask_of, mask_damage, mask_overflow, mask_wanted, mask_spoiled, mask_may, SameMask}
-use Rattle.scan_plans.specs.Wants.{are_here}
+use Rattle.scan_plans.specs.Masks.{MaskData, Filter, mask_of, mask_damage, mask_overflow, mask_wanted, mask_spoiled, mask_may, SameMask}
+use Rattle.scan_plans.specs.Meaning.{true_rows}
+use Rattle.scan_plans.specs.Wants.{are_here, wanted}
 
 -- values, null outside a mask: a value past its end is outside it
 abbrev pub nulled : List Bool → List Marked → List Marked
@@ -45,6 +46,16 @@ masks_wanted (m ∷ ms) here rest = mask_wanted m here ++ (if are_here (mask_wan
 abbrev pub masks_spoiled : List MaskData → Came → ℕ → Bool → Bool
 masks_spoiled [] here id rest = rest
 masks_spoiled (m ∷ ms) here id rest = mask_spoiled m here id || (if are_here (mask_wanted m here) here then masks_spoiled ms here id rest else false)
+
+-- the first of these filters lacks nothing; where there is none, what comes after
+abbrev pub first_runs : Came → List Bool → List Filter → Bool → Bool
+first_runs here bits [] rest = rest
+first_runs here bits (f ∷ fs) rest = are_here (wanted f.0 here (true_rows f.1 bits)) here
+
+-- of several masks, in order, the filter that is to run next lacks nothing
+abbrev pub can_run : Came → List MaskData → Bool
+can_run here [] = false
+can_run here (m ∷ ms) = first_runs here m.known m.filters (can_run here ms)
 
 -- the ids of all that they may ever want
 abbrev pub masks_may : List MaskData → List ℕ

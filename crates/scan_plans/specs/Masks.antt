@@ -1,5 +1,5 @@
 -- Masks that are known, or that filters still have to make.
-use Rattle.std.specs.Prelude.{◌≡◌, ◌+◌, ◌||◌, ◌&&◌, ℕ, Bool, true, false, List, [], ◌∷◌, ◌++◌, length, if◌then◌else◌, refl}
+use Rattle.std.specs.Prelude.{◌≡◌, ◌+◌, ◌||◌, ◌&&◌, ℕ, Bool, true, false, List, [], ◌∷◌, ◌++◌, length, drop, if◌then◌else◌, refl}
 use Rattle.std.specs.Coded.{Coded, code_by, coded×, coded_list, coded_ℕ, coded_bool}
 use Rattle.scan_values.specs.Fits.{is_bool_type}
 use Rattle.scan_values.specs.Marked.{is_true}
@@ -95,8 +95,13 @@ AreFilters n (f ∷ fs) = (Within f.0 (f.1 + n) × (is_bool_type (plan_dtype f.0
 abbrev pub IsMask : MaskData → Type 0
 IsMask m = AreFilters (length m.known) m.filters
 
+-- so many of some filters ran, and these are left
+abbrev pub AreLeft : List Filter → List Filter → Type 0
+AreLeft new old = (ran : ℕ) × (new ≡ drop ran old)
+
 -- Two mask futures mean the same under every store that holds what has arrived, and the first wants no more. Whatever
--- arrives then, the same lacks for both, and what is no good for the first is none for the second.
+-- arrives then, the same lacks for both, and what is no good for the first is none for the second. The filters of the
+-- first are those that are left of the second's.
 pub record SameMask (here : Came) (new old : MaskData) : Type 0 where
   pub mask : (store : Store) → Holds store here → mask_of new store ≡ mask_of old store
   pub overflow : (store : Store) → Holds store here → mask_overflow new store ≡ mask_overflow old store
@@ -104,3 +109,4 @@ pub record SameMask (here : Came) (new old : MaskData) : Type 0 where
   pub may : (id : ℕ) → is_among (mask_may new) id ≡ true → is_among (mask_may old) id ≡ true
   pub lacking : (more : Came) → Extends here more → (id : ℕ) → lacks (mask_wanted new more) more id ≡ lacks (mask_wanted old more) more id
   pub spoiling : (more : Came) → Extends here more → (id : ℕ) → mask_spoiled new more id ≡ true → mask_spoiled old more id ≡ true
+  pub left : AreLeft new.filters old.filters

@@ -7,6 +7,7 @@ use Rattle.scan_splits.specs.declared.poll.Poll.TheVariants.{Ready, Pending, Cor
 use Rattle.scan_plans.specs.Came.{Came, Holds}
 use Rattle.scan_plans.specs.Futures.{FutureData, AreRows, GivesItems, future_wanted, future_spoiled, future_overflow}
 use Rattle.scan_plans.specs.Given.{AreLacking}
+use Rattle.scan_plans.specs.MaskLists.{can_run}
 use Rattle.scan_plans.specs.Masks.{MaskData, mask_of, mask_damage, mask_overflow, mask_wanted, mask_spoiled}
 
 -- Of an array: the values whatever holds what has arrived; exactly the ids that lack of what is wanted next, where nothing
@@ -34,3 +35,11 @@ PollsMask here m (Pending ids) = AreLacking (mask_wanted m here) here ids
 PollsMask here m (Corrupt id) = mask_spoiled m here id ≡ true
 PollsMask here m Overflow = (store : Store) → Holds store here → mask_overflow m store ≡ true
 PollsMask here m NoMemory = Unit {0}
+
+-- Where it gave something or waits, each filter of its masks that could run has.
+abbrev pub HasRun : {A : Type 0} → Came → List MaskData → Poll A → Type 0
+HasRun here new (Ready a) = can_run here new ≡ false
+HasRun here new (Pending ids) = can_run here new ≡ false
+HasRun here new (Corrupt id) = Unit {0}
+HasRun here new Overflow = Unit {0}
+HasRun here new NoMemory = Unit {0}

@@ -1,5 +1,5 @@
 //! Arrays that may have to wait. An own type, after the Rust's `ArrayFuture`.
-ghost use Rattle.std.specs.Prelude.{◌≡◌, ◌≤◌, ◌+◌, ◌^◌, ℕ, List, [], IfOk, Ok, Err, None, false, get_or, length, map, not};
+ghost use Rattle.std.specs.Prelude.{◌≡◌, ◌≤◌, ◌+◌, ◌^◌, ◌∷◌, ℕ, List, [], IfOk, Ok, Err, None, false, get_or, length, map, not};
 ghost use Rattle.std.specs.List.{list_all};
 ghost use Rattle.scan_values.specs.Arrays.{ArrayData};
 ghost use Rattle.scan_values.specs.DataType.{with_nullability};
@@ -11,11 +11,11 @@ ghost use Rattle.scan_plans.specs.FutureView.{source_tree, source_first, source_
 ghost use Rattle.scan_plans.specs.Futures.{FutureData, future_data, array_data, masked_data, future_dtype, future_wanted, future_may, items_of, known_rows, masks_in, rows_of, SameFuture};
 ghost use Rattle.scan_plans.specs.Given.{Gives};
 ghost use Rattle.scan_plans.specs.Knowing.{Knows};
-ghost use Rattle.scan_plans.specs.MaskLists.{nulled, SameMasks};
-ghost use Rattle.scan_plans.specs.Masks.{mask_of, SameMask};
+ghost use Rattle.scan_plans.specs.MaskLists.{can_run, nulled, SameMasks};
+ghost use Rattle.scan_plans.specs.Masks.{MaskData, mask_of, SameMask};
 ghost use Rattle.scan_plans.specs.Meaning.{Within, true_rows};
 ghost use Rattle.scan_plans.specs.PlanTree.{PlanTree};
-ghost use Rattle.scan_plans.specs.Polled.{Polls, KnowsRows};
+ghost use Rattle.scan_plans.specs.Polled.{HasRun, Polls, KnowsRows};
 ghost use Rattle.scan_plans.specs.Projecting.{KnowsAll, IsUnder, padded, as_given, Projects, KnowsItems};
 
 use crate::fault::ReadFault;
@@ -105,6 +105,7 @@ impl Source {
         ensures length { length (source_mask self.new).known ≡ length (source_mask self.old).known }
         ensures same { SameMask (came inbox.now) (source_mask self.new) (source_mask self.old) }
         ensures answer { Knows (came inbox.now) (source_mask self.old) (source_mask self.new) result }
+        ensures run { IfOk result (λ _. can_run (came inbox.now) (source_mask self.new ∷ []) ≡ false) }
     {
         match self {
             Source::Plan(_, _, mask) => mask.know(alloc, inbox),
@@ -203,6 +204,7 @@ fn know_all(
 ) -> Result<Option<WantedIds>, ReadFault>
     ensures same { SameMasks (came inbox.now) masks.new masks.old }
     ensures answer { KnowsAll (came inbox.now) masks.old masks.new result }
+    ensures run { IfOk result (λ _. can_run (came inbox.now) masks.new ≡ false) }
 {
     for mask in masks.iter_mut() {
         if let Some(ids) = mask.know(alloc, inbox)? {
@@ -276,6 +278,7 @@ impl ArrayFuture {
     fn know(&mut self, alloc: Global, inbox: &Inbox) -> Result<Option<WantedIds>, ReadFault>
         ensures same { SameFuture (came inbox.now) self.new self.old }
         ensures answer { KnowsAll (came inbox.now) (masks_in self.old) (masks_in self.new) result }
+        ensures run { IfOk result (λ _. can_run (came inbox.now) (masks_in self.new) ≡ false) }
     {
         if let Some(ids) = self.source.know(alloc, inbox)? {
             return Ok(Some(ids));
@@ -300,6 +303,7 @@ impl ArrayFuture {
         ensures same { SameFuture (came inbox.now) self.new self.old }
         ensures answer { Projects (came inbox.now) self.old result }
         ensures rows { KnowsItems (came inbox.now) self.old self.new result }
+        ensures run { IfOk result (λ _. can_run (came inbox.now) (masks_in self.new) ≡ false) }
     {
         if let Some(ids) = self.know(alloc, inbox)? {
             return Ok(Items::Pending(ids));
@@ -307,11 +311,12 @@ impl ArrayFuture {
         self.values(alloc, inbox)
     }
 
-    /// The values as a column, or what is wanted next.
+    /// The values as a column, or what is wanted next. Each filter that can run does, once: the next poll goes on behind it.
     pub fn poll_column(&mut self, alloc: Global, inbox: &Inbox) -> Poll<Column>
         ensures answer { Polls (came inbox.now) self.old result }
         ensures same { SameFuture (came inbox.now) self.new self.old }
         ensures rows { KnowsRows (came inbox.now) self.old self.new result }
+        ensures run { HasRun (came inbox.now) (masks_in self.new) result }
     {
         match self.read(alloc, inbox) {
             Ok(items) => answered(items),
@@ -319,11 +324,12 @@ impl ArrayFuture {
         }
     }
 
-    /// The array of the values, or what is wanted next.
+    /// The array of the values, or what is wanted next. Each filter that can run does, once.
     pub fn poll(&mut self, alloc: Global, inbox: &Inbox) -> Poll<Array>
         ensures answer { Polls (came inbox.now) self.old result }
         ensures same { SameFuture (came inbox.now) self.new self.old }
         ensures rows { KnowsRows (came inbox.now) self.old self.new result }
+        ensures run { HasRun (came inbox.now) (masks_in self.new) result }
     {
         match self.poll_column(alloc, inbox) {
             Poll::Ready(column) => match column.to_array(alloc) {
@@ -358,6 +364,7 @@ fn answered(items: Items) -> Poll<Column>
     ensures answer { (here : Came) (f : FutureData) → Projects here f (Ok items) → Polls here f result }
     ensures rows { (here : Came) (old new : FutureData) → KnowsItems here old new (Ok items) →
         KnowsRows here old new result }
+    ensures run { (here : Came) (ms : List MaskData) → can_run here ms ≡ false → HasRun here ms result }
 {
     match items {
         Items::Ready(column) => Poll::Ready(column),
@@ -369,6 +376,7 @@ fn answered(items: Items) -> Poll<Column>
 fn refused(fault: ReadFault) -> Poll<Column>
     ensures answer { (here : Came) (f : FutureData) → Projects here f (Err fault) → Polls here f result }
     ensures rows { (here : Came) (old new : FutureData) → KnowsRows here old new result }
+    ensures run { (here : Came) (ms : List MaskData) → HasRun here ms result }
 {
     match fault {
         ReadFault::Corrupt(id) => Poll::Corrupt(id),

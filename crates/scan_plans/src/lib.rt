@@ -22,6 +22,7 @@ mod threads;
 pub use future::ArrayFuture;
 pub use laws::{
     leaves_want_no_more_for_less, leaves_want_what_is_touched, no_row_wants_nothing_of_a_leaf,
+    plans_want_no_more_for_less, plans_want_nothing_for_no_row,
     wants_are_fixed_when_a_plan_is_made,
 };
 pub use mask::MaskFuture;

@@ -1,10 +1,11 @@
 //! Masks that may have to wait. An own type, after the Rust's `MaskFuture`.
-ghost use Rattle.std.specs.Prelude.{◌≡◌, ◌≤◌, ◌<◌, ◌+◌, ◌++◌, ◌∷◌, [], ℕ, IfOk, Err, length, map, replicate, true, ◌==◌};
+ghost use Rattle.std.specs.Prelude.{◌≡◌, ◌≤◌, ◌<◌, ◌+◌, ◌++◌, ◌∷◌, [], ℕ, IfOk, Err, List, length, map, replicate, false, true, ◌==◌};
 ghost use Rattle.scan_values.specs.Fits.{is_bool_type};
 ghost use Rattle.scan_values.specs.Masks.{by_rank, true_count};
 ghost use Rattle.scan_splits.specs.declared.poll.Poll.TheVariants.{Ready};
 ghost use Rattle.scan_plans.specs.Came.{Came, came};
-ghost use Rattle.scan_plans.specs.Polled.{PollsMask};
+ghost use Rattle.scan_plans.specs.MaskLists.{can_run};
+ghost use Rattle.scan_plans.specs.Polled.{HasRun, PollsMask};
 ghost use Rattle.scan_plans.specs.Meaning.{Within, plan_dtype, true_rows};
 ghost use Rattle.scan_plans.specs.Masks.{MaskData, mask_data, mask_of, mask_wanted, IsMask, AreFilters, SameMask};
 ghost use Rattle.scan_plans.specs.Pruning.{pruned, DropsNone, FiltersAlike};
@@ -184,6 +185,7 @@ impl MaskFuture {
         ensures same { SameMask (came inbox.now) self.new self.old }
         ensures length { length self.new.known ≡ length self.old.known }
         ensures answer { Knows (came inbox.now) self.old self.new result }
+        ensures run { IfOk result (λ _. can_run (came inbox.now) (self.new ∷ []) ≡ false) }
     {
         if self.ran >= self.filters.len() {
             return Ok(None);
@@ -207,10 +209,11 @@ impl MaskFuture {
         *self.filters.allocator()
     }
 
-    /// The mask, or what is wanted next.
+    /// The mask, or what is wanted next. Each filter that can run does, once: the next poll goes on behind it.
     pub fn poll(&mut self, alloc: Global, inbox: &Inbox) -> Poll<Mask>
         ensures answer { PollsMask (came inbox.now) self.old result }
         ensures same { SameMask (came inbox.now) self.new self.old }
+        ensures run { HasRun (came inbox.now) (self.new ∷ []) result }
     {
         match self.know(alloc, inbox) {
             Ok(None) => copied(alloc, self.known()),
@@ -266,7 +269,8 @@ impl Plan {
 
 /// A copy of a mask, as the answer of a poll.
 fn copied(alloc: Global, mask: &Mask) -> Poll<Mask>
-    ensures { (here : Came) (m : MaskData) → PollsMask here m (Ready mask.now) → PollsMask here m result }
+    ensures answer { (here : Came) (m : MaskData) → PollsMask here m (Ready mask.now) → PollsMask here m result }
+    ensures run { (here : Came) (ms : List MaskData) → can_run here ms ≡ false → HasRun here ms result }
 {
     match mask.try_clone(alloc) {
         Ok(mask) => Poll::Ready(mask),
@@ -276,7 +280,8 @@ fn copied(alloc: Global, mask: &Mask) -> Poll<Mask>
 
 /// The answer of a poll that refuses.
 fn refused(fault: ReadFault) -> Poll<Mask>
-    ensures { (here : Came) (old new : MaskData) → Knows here old new (Err fault) → PollsMask here old result }
+    ensures answer { (here : Came) (old new : MaskData) → Knows here old new (Err fault) → PollsMask here old result }
+    ensures run { (here : Came) (ms : List MaskData) → HasRun here ms result }
 {
     match fault {
         ReadFault::Corrupt(id) => Poll::Corrupt(id),

@@ -4,7 +4,7 @@ use Rattle.std.proofs.lemmas.Result.{err_from_is_err_and}
 use Rattle.scan_plans.specs.Came.{came}
 use Rattle.scan_plans.specs.Knowing.{Knows}
 use Rattle.scan_plans.specs.Masks.{MaskData, SameMask}
-use Rattle.scan_plans.proofs.Outer.{walk_same, walk_known, walk_set, walk_next, walk_waits, walk_fault}
+use Rattle.scan_plans.proofs.Outer.{walk_same, walk_known, walk_set, walk_next, walk_waits, walk_fault, walk_stuck, known_runs}
 use Rattle.scan_plans.proofs.future.know_all.Goals as goal
 
 pub loop-mask-preserved : goal.loop-mask-preserved
@@ -53,3 +53,19 @@ returns-in_err-ids-clause-answer c =
     rw (q.1, q.2) (walk_fault c.loop-mask.mask-index here c.loop-mask.masks c.args.masks.now c.args.masks.now c.mask-item.result c.know.new.self
     c.in_err-ids.field-0.0 c.loop-mask.invariant l c.mask-item.is
     (subst (λ (x : MaskData). Knows here x c.know.new.self (Err c.in_err-ids.field-0.0)) (sym c.mask-item.is) c.in_err-ids.ensures.answer))
+
+pub returns-clause-run : goal.returns-clause-run
+returns-clause-run c =
+    let here = came c.args.inbox.now in
+    let l : length c.loop-mask.masks ≤ c.loop-mask.mask-index = omega (arith, c.loop-mask.auto.masks) in
+    known_runs here c.loop-mask.masks (walk_known c.loop-mask.mask-index here c.loop-mask.masks c.args.masks.now c.loop-mask.invariant l).0
+
+pub returns-in-Some-clause-run : goal.returns-in-Some-clause-run
+returns-in-Some-clause-run c =
+    let here = came c.args.inbox.now in
+    let s : SameMask here c.know.new.self c.mask-item.result = subst (λ (x : MaskData). SameMask here c.know.new.self x) (sym c.mask-item.is) c.know.ensures.same in
+    let l : c.loop-mask.mask-index < length c.loop-mask.masks = omega (arith, c.loop-mask.auto.masks) in
+    let k : Knows here c.mask-item.result c.know.new.self (Ok (Some c.in-Some.ids)) =
+    subst (λ (o : Option (List ℕ)). Knows here c.mask-item.result c.know.new.self (Ok o)) c.in-Some.is
+    (subst (λ (x : MaskData). Knows here x c.know.new.self (Ok c.in_ok-ids.field-0)) (sym c.mask-item.is) c.in_ok-ids.ensures.answer) in
+    walk_stuck c.loop-mask.mask-index here c.loop-mask.masks c.args.masks.now c.mask-item.result c.know.new.self c.in-Some.ids c.loop-mask.invariant l s k c.in_ok-ids.ensures.run

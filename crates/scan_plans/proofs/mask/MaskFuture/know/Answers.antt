@@ -4,7 +4,7 @@ use Rattle.scan_plans.specs.Knowing.{RunsAll, Knows}
 use Rattle.scan_plans.specs.Masks.{MaskData, mask_data, SameMask, AreFilters}
 use Rattle.scan_plans.specs.MaskView.{filters_of}
 use Rattle.scan_plans.specs.declared.mask.Filter.{Filter}
-use Rattle.scan_plans.proofs.Progressing.{take_rest, goes_within, goes_form, goes_same, goes_answer, goes_length, stays_same, none_left, known_already}
+use Rattle.scan_plans.proofs.Progressing.{take_rest, goes_within, goes_form, goes_same, goes_answer, goes_length, goes_stuck, none_runs, stays_same, none_left, known_already}
 use Rattle.scan_plans.proofs.mask.MaskFuture.know.Goals as goal
 
 pub run_filters-requires : goal.run_filters-requires
@@ -80,3 +80,20 @@ returns-then-self-len-clause-answer c =
     let fs = c.self.inside.filters.items in
     let left : length fs ≤ c.self.inside.ran = omega (arith, c.if-self-len.true, c.len.ensures, c.self.inside.filters.ok.0) in
     known_already (came c.args.inbox.now) c.args.self.now (sym (ap (λ (m : MaskData). m.filters) c.self.view_is) ∙ none_left fs c.self.inside.ran left)
+
+pub returns-clause-run : goal.returns-clause-run
+returns-clause-run c =
+    let here = came c.args.inbox.now in
+    let bits = c.self.inside.known in
+    let fs = c.self.inside.filters.items in
+    let ran = c.self.inside.ran in
+    let rest : take (length c.deref.result.now - ran) (drop ran c.deref.result.now) ≡ drop ran fs = take_rest ran c.deref.result.now ∙ ap (λ (xs : List Filter). drop ran xs) c.deref.ensures.value in
+    let p = c.in_ok-progress.progress in
+    let r : RunsAll here bits (filters_of (drop ran fs)) (Ok p) = subst (λ (xs : List Filter). RunsAll here bits (filters_of xs) (Ok p)) rest c.in_ok-progress.ensures in
+    goes_stuck here p.known fs ran p.ran p.lacking r.1
+
+pub returns-then-self-len-clause-run : goal.returns-then-self-len-clause-run
+returns-then-self-len-clause-run c =
+    let fs = c.self.inside.filters.items in
+    let left : length fs ≤ c.self.inside.ran = omega (arith, c.if-self-len.true, c.len.ensures, c.self.inside.filters.ok.0) in
+    none_runs (came c.args.inbox.now) c.args.self.now (sym (ap (λ (m : MaskData). m.filters) c.self.view_is) ∙ none_left fs c.self.inside.ran left)
