@@ -175,7 +175,9 @@ fn true_numbers(alloc: Global, first: u64, bits: &[bool]) -> Result<Vec<u64>, No
     ensures { IfOk result (λ v. v.items ≡ true_rows first bits.now) }
 {
     let rows = vec![in alloc; 0; bits.len()]?;
-    Ok(written_rows(rows, first, bits))
+    let mut rows = written_rows(rows, first, bits);
+    rows.shrink_to_fit();
+    Ok(rows)
 }
 
 /// A column of an array's values.
