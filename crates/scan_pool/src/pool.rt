@@ -69,7 +69,7 @@ pub fn run_all<T: Work, F: Fn(&mut T)>(
 }
 
 /// Serves each box by a thread of its own, which does by the closure what is sent, until all seats are closed.
-fn serve_all<R: Threads + Sync, T: Work, F: Fn(&mut T) + Sync>(
+fn serve_each<R: Threads + Sync, T: Work, F: Fn(&mut T) + Sync>(
     rt: &R,
     servers: &mut [Server<T>],
     run: &F,
@@ -82,6 +82,42 @@ fn serve_all<R: Threads + Sync, T: Work, F: Fn(&mut T) + Sync>(
             requires { IsServing server.now × Does F.Fn run.now T.done }
         { server.serve(run) };
         thread::for_each_mut(rt, servers, count, &serve);
+    }
+}
+
+/// Serves a box in this thread and the others each by one of its own.
+fn serve_both<R: Threads + Sync, T: Work, F: Fn(&mut T) + Sync>(
+    rt: &R,
+    first: &mut Server<T>,
+    others: &mut [Server<T>],
+    run: &F,
+)
+    requires first { IsServing first.old }
+    requires others { All IsServing others.old }
+    requires does { Does F.Fn run.now T.done }
+{
+    let mut serve_others = ||
+        requires { All IsServing others.now × Does F.Fn run.now T.done }
+    { serve_each(rt, others, run) };
+    let mut serve_first = ||
+        requires { IsServing first.now × Does F.Fn run.now T.done }
+    { first.serve(run) };
+    thread::join_mut(rt, &mut serve_others, &mut serve_first);
+}
+
+/// Serves the first box in this thread, and the others, once something is sent to the second, each by one of its own.
+fn serve_all<R: Threads + Sync, T: Work, F: Fn(&mut T) + Sync>(
+    rt: &R,
+    servers: &mut [Server<T>],
+    run: &F,
+)
+    requires { All IsServing servers.old × Does F.Fn run.now T.done }
+{
+    let Some((first, others)) = servers.split_first_mut() else {
+        return;
+    };
+    if first.serve_until(others, run) {
+        serve_both(rt, first, others, run);
     }
 }
 
@@ -107,7 +143,8 @@ fn call<X, A, D: FnMut(&mut X) -> A>(drive: &mut D, x: &mut X) -> A
     drive(x)
 }
 
-/// Calls a closure, `drive`, once while a thread serves each box, and waits for the threads: it has to close the seats.
+/// Calls a closure, `drive`, once while a thread serves each box, and waits for the threads: it has to close the seats. One
+/// thread starts at once, and the others once work is sent to a second seat.
 pub fn with_threads<R: Threads + Sync, T: Work, F: Fn(&mut T) + Sync, S, A, D: FnMut(&mut S) -> A>(
     rt: &R,
     servers: &mut [Server<T>],

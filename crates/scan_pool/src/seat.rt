@@ -1,5 +1,5 @@
 //! The two sides of a box: a seat, which sends, and a server, which a thread runs.
-ghost use Rattle.std.specs.Prelude.{◌≡◌, true, false, None, Some, All, IfOk, OnOk, MatchOption};
+ghost use Rattle.std.specs.Prelude.{◌≡◌, true, false, None, Some, All, IfOk, IfSome, OnOk, MatchOption};
 ghost use Rattle.crossbeam_queue.specs.Passes.{view, IsPassOf};
 ghost use Rattle.scan_pool.specs.Boxes.{Meets, IsKept, knows};
 ghost use Rattle.scan_pool.specs.Closures.{Does};
@@ -79,29 +79,77 @@ impl<T: Work> Server<T> {
         }
     }
 
+    /// Whether its seat has sent anything, and is not closed.
+    fn has_rung(&self) -> bool {
+        let rings = self.mailbox.bell.load(Ordering::SeqCst);
+        rings != 0 && rings != CLOSED
+    }
+
+    /// Does what is sent after so many rings, if anything is. It says how many rings it has heard by then, and nothing
+    /// once the seat is closed.
+    fn turn<F: Fn(&mut T)>(&mut self, heard: u64, run: &F) -> Option<u64>
+        requires { IsServing self.old × Does F.Fn run.now T.done }
+        ensures { IfSome result (λ _. IsServing self.new) }
+    {
+        let rings = self.mailbox.bell.load(Ordering::SeqCst);
+        if rings == CLOSED {
+            return None;
+        }
+        if rings == heard {
+            thread::yield_now();
+        } else if !self.answer(run) {
+            return None;
+        }
+        Some(rings)
+    }
+
     /// Does what is sent until the seat is closed.
-    pub fn serve<F: Fn(&mut T)>(&mut self, run: &F)
+    pub(crate) fn serve<F: Fn(&mut T)>(&mut self, run: &F)
         requires { IsServing self.old × Does F.Fn run.now T.done }
     {
         let mut heard = 0;
         for _ in 0..u64::MAX {
-            let rings = self.mailbox.bell.load(Ordering::SeqCst);
-            if rings == CLOSED {
-                return;
-            }
-            if rings == heard {
-                thread::yield_now();
-            } else {
-                heard = rings;
-                if !self.answer(run) {
-                    return;
-                }
+            match self.turn(heard, run) {
+                Some(rings) => heard = rings,
+                None => return,
             }
         }
+    }
+
+    /// Does what is sent until the seat is closed, or until the first of others has sent something: it says whether that
+    /// is why.
+    pub(crate) fn serve_until<F: Fn(&mut T)>(&mut self, others: &[Server<T>], run: &F) -> bool
+        requires { IsServing self.old × Does F.Fn run.now T.done }
+        ensures { result ≡ true → IsServing self.new }
+    {
+        let mut heard = 0;
+        for _ in 0..u64::MAX {
+            if are_used(others) {
+                return true;
+            }
+            match self.turn(heard, run) {
+                Some(rings) => heard = rings,
+                None => return false,
+            }
+        }
+        false
+    }
+}
+
+/// Whether the first of these servers has been sent anything, if there is one.
+fn are_used<T: Work>(servers: &[Server<T>]) -> bool {
+    match servers.first() {
+        Some(server) => server.has_rung(),
+        None => false,
     }
 }
 
 impl<T: Work> Seat<T> {
+    /// Whether it has sent anything.
+    pub fn has_sent(&self) -> bool {
+        self.rings != 0
+    }
+
     /// Sends work. It comes back where it cannot be sent.
     pub(crate) fn send(&mut self, work: T) -> Option<T>
         requires { IsIdle self.old }
