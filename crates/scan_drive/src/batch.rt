@@ -12,6 +12,9 @@ use scan_pool::{Seat, Work, run_all};
 use scan_values::NoMemory;
 use std::alloc::Global;
 
+// So many bytes take about as long to poll as a thread to start.
+const BYTES_FOR_A_START: usize = 1 << 17;
+
 /// Splits that one worker polls.
 #[derive(Drop)]
 pub(crate) struct Batch<W, R> {
@@ -88,6 +91,33 @@ fn gather<W: Drop, R: Drop>(
     Ok(jobs)
 }
 
+/// How many bytes have come of what these splits wanted last.
+fn came<W: Drop, R: Drop>(jobs: &[Job<W, R>]) -> usize {
+    let mut bytes: usize = 0;
+    for job in jobs {
+        bytes = bytes.saturating_add(job.came());
+    }
+    bytes
+}
+
+/// Among how many workers splits are divided: all, but two where no other thread has started yet and what has come for
+/// the splits would not pay for it.
+fn count_workers<W: SplitWork + Drop + Send>(
+    seats: &[Seat<Batch<W, W::Rows>>],
+    jobs: &[Job<W, W::Rows>],
+) -> usize
+    ensures { 0 < result }
+{
+    let all = seats.len().saturating_add(1);
+    let Some(second) = seats.get(1) else {
+        return all;
+    };
+    if second.has_sent() || came(jobs) >= BYTES_FOR_A_START {
+        return all;
+    }
+    2
+}
+
 /// Polls each of these splits once, divided in equal parts among the caller and the threads that serve the seats, and
 /// waits for all. What no thread has taken, the caller does.
 pub(crate) fn poll_jobs<W: SplitWork + Drop + Send, G: Gate>(
@@ -103,7 +133,7 @@ pub(crate) fn poll_jobs<W: SplitWork + Drop + Send, G: Gate>(
     if jobs.is_empty() {
         return Ok(jobs);
     }
-    let size = jobs.len().div_ceil(seats.len().saturating_add(1));
+    let size = jobs.len().div_ceil(count_workers(seats, jobs.as_slice()));
     let mut batches = divide(alloc, size, jobs)?;
     let poll = |batch: &mut Batch<W, W::Rows>|
         ensures { BatchWorked W.split W.comes W.items batch.entry.now batch.exit.now }

@@ -85,6 +85,17 @@ impl<W> Run<W> {
         }
     }
 
+    /// How many bytes have come of the ids that the last poll wanted.
+    pub(crate) fn came(&self) -> usize {
+        let mut bytes: usize = 0;
+        for id in self.wanted() {
+            if let Some(Arrival::Bytes(part)) = self.inbox.get(*id) {
+                bytes = bytes.saturating_add(part.as_slice().len());
+            }
+        }
+        bytes
+    }
+
     /// Takes what has arrived of an id that it waits for. After a refusal the run is as before.
     pub fn deliver(&mut self, id: SegmentId, arrival: Arrival) -> Result<(), NoMemory>
         requires { run_waits self.old id ≡ true }

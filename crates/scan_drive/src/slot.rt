@@ -85,6 +85,14 @@ impl<W: Drop, R: Drop> Slot<W, R> {
         }
     }
 
+    /// How many bytes have come of what its split wanted last.
+    pub(crate) fn came(&self) -> usize {
+        match &self.stage {
+            Stage::Reads(run) => run.came(),
+            Stage::Empty | Stage::Read(_) | Stage::Halted(_, _) => 0,
+        }
+    }
+
     /// Whether its split is read.
     pub(crate) fn has_rows(&self) -> bool
         ensures { result ≡ is_read self.now.stage }

@@ -41,6 +41,13 @@ pub(crate) struct Job<W, R> {
     short: bool,
 }
 
+impl<W: Drop, R: Drop> Job<W, R> {
+    /// How many bytes have come of what its split wanted last.
+    pub(crate) fn came(&self) -> usize {
+        self.slot.came()
+    }
+}
+
 /// A slot without a split.
 fn empty_slot<W: Drop, R: Drop>() -> Slot<W, R>
     ensures { result ≡ nothing }
