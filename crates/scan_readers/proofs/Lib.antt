@@ -5,6 +5,7 @@ pub mod SomePlace
 pub mod Flawed
 pub mod Evaluating
 pub mod PlansOf
+pub mod Narrow
 pub mod RowPlans
 pub mod RowWalk
 pub mod Making

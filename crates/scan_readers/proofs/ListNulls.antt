@@ -117,7 +117,7 @@ module _ (name : Name) (t : DataType) (rows : ℕ) (q : PType) (el : Layout) (sp
         overflow = λ store i below. overflow_alike e.scope e.expr _ _ 0 none;
         wants = λ store here first mask id holds below w. absurd cc;
         spoils = λ store here first mask id holds below w. absurd cc;
-        exact = tt;
+        exact = λ free. tt;
       }
 
 -- ---- lists that may be null
@@ -148,7 +148,7 @@ module _ (law : NecessaryIsNeeded) (name : Name) (t : DataType) (rows : ℕ) (q 
       wants = λ store here first mask id holds low w. validity_may law name t rows q el sp gs e u r xs y ks ls (λ (z : Place). z.id == id) (λ (z : Place). z.id == id) (λ z h. h) store first mask (form.3.1.1.0).0 scope w;
       spoils = λ store here first mask id holds low w. validity_may law name t rows q el sp gs e u r xs y ks ls (λ (z : Place). (z.id == id) && is_bad z (here id)) (λ (z : Place). (z.id == id) && has_flaw nulls store z)
           (λ z. bytes_flawed nulls (to_validity ∷ z.path) store here id z holds) store first mask (form.3.1.1.0).0 scope w;
-      exact = tt;
+      exact = λ free. tt;
     }
 
 -- ---- plans that are made of copies

@@ -295,7 +295,7 @@ module _ (law : NecessaryIsNeeded) (name : Name) (t : DataType) (rows : ℕ) (q 
     overflow = λ store i low. over_lists_overflow t n rows q el sp gs ls form.3.1.1 e p store i (λ j below. plan.value store j below);
     wants = λ store here first mask id holds low w. want_under n ls (lists (list_type t NonNullable) p o) store here first mask id scope form.3.1.1 (lists_want n ls p form scope is plan store here first mask id holds low) w;
     spoils = λ store here first mask id holds low w. spoil_under n ls (lists (list_type t NonNullable) p o) store here first mask id holds scope form.3.1.1 (lists_spoil n ls p form scope is plan store here first mask id holds low) w;
-    exact = tt;
+    exact = λ free. tt;
   }
 
   pub over_lengths_plan : (n : Nullability) (ls : Nodes) (f : Bound) (c : ListChildrenNeeded) → HasForm (list_layout t n rows q el sp gs ls) (list_type t n) → e.scope ≡ list_type t n → necessary e.expr ≡ c → (c ≡ Validity → ⊥) → IsOverLengths e f
@@ -309,5 +309,5 @@ module _ (law : NecessaryIsNeeded) (name : Name) (t : DataType) (rows : ℕ) (q 
     overflow = λ store i low. let calm = under_calm n ls (lengths o) store i refl in rw calm (by_lengths_row e f t n scope h rows q el sp gs ls store i form.3.1.1).1;
     wants = λ store here first mask id holds low w. want_under n ls (lengths o) store here first mask id scope form.3.1.1 (offsets_wants n ls store first mask id c scope is above) w;
     spoils = λ store here first mask id holds low w. spoil_under n ls (lengths o) store here first mask id holds scope form.3.1.1 (offsets_spoil n ls store here first mask id c holds (omega (arith, (form.2).0, low)) scope is above) w;
-    exact = tt;
+    exact = λ free. tt;
   }

@@ -46,7 +46,7 @@ rows_plan name a e = record {
   overflow = λ store i h. refl;
   wants = λ store here first mask id holds h w. absurd cc;
   spoils = λ store here first mask id holds h w. absurd cc;
-  exact = λ here is. nothing (reads e.scope e.expr);
+  exact = λ free here is. nothing (reads e.scope e.expr);
 }
   where
     nothing : (b : Bool) → ◌≡◌ {A = List Place} [] (if b then [] else [])
@@ -105,7 +105,7 @@ module _ (name : Name) (spelling : Spelling) (segments : List (ℕ × ℕ)) (e :
         let ps = places_of e.scope spelling segments in
         ap (list_any T) (all_needed e.scope e.expr spelling segments 0 first (first + length mask) (needed_here e.scope e.expr scalar h))
         ∙ leaf_touches T ps 0 first mask (any_mono (λ p. (p.id == id) && is_bad p (here id)) T (λ p. bytes_flawed (leaf_layout e.scope spelling segments) p.path store here id p holds) (leaf_wanted 0 ps (true_rows first mask)) w);
-    exact = λ here is. rw h refl;
+    exact = λ free here is. rw h refl;
   }
 
   reading_nothing : reads e.scope e.expr ≡ false → IsPlanOf (layout_state name (leaf_layout e.scope spelling segments)) e (plan_data e (constant e.scope e.expr))
@@ -118,7 +118,7 @@ module _ (name : Name) (spelling : Spelling) (segments : List (ℕ × ℕ)) (e :
     overflow = λ store i below. overflow_alike e.scope e.expr _ _ 0 h;
     wants = λ store here first mask id holds below w. absurd cc;
     spoils = λ store here first mask id holds below w. absurd cc;
-    exact = λ here is. rw h refl;
+    exact = λ free here is. rw h refl;
   }
 
   pub leaf_plan : is_scalar_type e.scope ≡ true → IsPlanOf (layout_state name (leaf_layout e.scope spelling segments)) e (plan_data e (leaf_tree e.scope spelling segments e))

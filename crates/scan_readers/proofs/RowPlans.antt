@@ -70,7 +70,7 @@ unnumbered_plan s number e p free is = record {
   overflow = λ store i h. is.overflow store i h ∙ any_row_overflows e.scope e.expr (s.value store i) (number_of s.first_number i) (number + i) free;
   wants = is.wants;
   spoils = is.spoils;
-  exact = tt;
+  exact = is.exact;
 }
 
 -- ---- what an expression is parted into, of which it is known that row numbers stand in it
@@ -158,7 +158,7 @@ module _ (s : ReaderState) (number : ℕ) (e : Bound) where
         overflow = λ store i h. spills store i h ∙ keeps.overflow (s.value store i) (number + i) 0;
         wants = parts_want d.items d.parts ns a lies;
         spoils = parts_spoil d.items d.parts ns a lies;
-        exact = tt;
+        exact = λ free. absurd (let z : true ≡ false = sym uses ∙ free in cc);
       }
     where
       spills : (store : Store) (i : ℕ) → i < s.rows → (overflow_in (plans ns) store i || overflows d.root.scope d.root.expr (struct (values_at (plans ns) store i)) 0) ≡ joined_row_overflows d (s.value store i) (number + i) 0

@@ -142,7 +142,7 @@ module _ (name : Name) (fs : Fields) (n : Nullability) (rows : ℕ) (kids : Node
     overflow = λ store i below. child_spills item p q c store i below ∙ keeps.overflow (struct_value n (row_values kids store i)) (item_value fs n kids store i) 0 (is_row fs n kids store i forms) (agrees fs n kids store i forms);
     wants = child_wants item p q c lies;
     spoils = child_spoils item p q c lies;
-    exact = tt;
+    exact = λ free. tt;
   }
 
   -- ---- several parts
@@ -209,7 +209,7 @@ module _ (name : Name) (fs : Fields) (n : Nullability) (rows : ℕ) (kids : Node
     overflow = λ store i below. spills store i below ∙ keeps.overflow (struct_value n (row_values kids store i)) (item_value fs n kids store i) 0 (is_row fs n kids store i forms) (agrees fs n kids store i forms);
     wants = parts_want d.items d.parts ps c lies;
     spoils = parts_spoil d.items d.parts ps c lies;
-    exact = tt;
+    exact = λ free. tt;
   }
     where
       spills : (store : Store) (i : ℕ) → i < rows → (overflow_in ps store i || overflows d.root.scope d.root.expr (struct (values_at ps store i)) 0) ≡ joined_overflows d (item_value fs n kids store i) 0

@@ -4,6 +4,7 @@ pub mod FieldNames
 pub mod PlanOf
 pub mod Kept
 pub mod Evaluations
+pub mod Laws
 pub mod RowsData
 pub mod LeafPlans
 pub mod Made

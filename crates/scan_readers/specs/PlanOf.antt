@@ -1,9 +1,10 @@
 -- What a reader makes of an expression.
-use Rattle.std.specs.Prelude.{◌≡◌, ◌≤◌, ◌<◌, ◌+◌, ◌==◌, ◌&&◌, ℕ, Bool, true, List, [], length, filter, IfSome, if◌then◌else◌}
+use Rattle.std.specs.Prelude.{◌≡◌, ◌≤◌, ◌<◌, ◌+◌, ◌==◌, ◌&&◌, ℕ, Bool, true, false, List, [], length, filter, IfSome, if◌then◌else◌}
 use Rattle.std.specs.List.{list_any}
 use Rattle.scan_segments.specs.Source.{Store}
 use Rattle.scan_spelling.specs.Places.{Place}
 use Rattle.scan_expr.specs.Bound.{Bound}
+use Rattle.scan_expr.specs.Expr.{uses_row_index}
 use Rattle.scan_expr.specs.Infer.{infer}
 use Rattle.scan_expr.specs.Needs.{needed}
 use Rattle.scan_plans.specs.Came.{Came, Holds}
@@ -36,7 +37,8 @@ held e holding is = if reads e.scope e.expr then holding is else []
 
 -- A plan of an expression over a reader's rows. Each row has the expression's value, and overflows where that does.
 -- What it wants the rows touch, at paths that the expression needs, and what it finds no good there is no good. It is one
--- over row numbers where the expression reads these alone.
+-- over row numbers where the expression reads these alone. Where it reads none it wants just the segments that a reader
+-- tells.
 pub record IsPlanOf (s : ReaderState) (e : Bound) (p : PlanData) : Type 0 where
   pub expr : p.expr ≡ e
   pub numbered : is_numbered p.tree ≡ numbers_alone s e.expr
@@ -49,4 +51,5 @@ pub record IsPlanOf (s : ReaderState) (e : Bound) (p : PlanData) : Type 0 where
       → may_want s e store first (first + length mask) id ≡ true
   pub spoils : (store : Store) (here : Came) (first : ℕ) (mask : List Bool) (id : ℕ) → Holds store here → first + length mask ≤ s.rows
       → spoiled p.tree here (true_rows first mask) id ≡ true → may_spoil s e store first (first + length mask) id ≡ true
-  pub exact : IfSome s.holding (λ holding. (here : Came) (is : List ℕ) → wanted p.tree here is ≡ held e holding is)
+  pub exact : uses_row_index e.expr ≡ false
+      → IfSome s.holding (λ holding. (here : Came) (is : List ℕ) → wanted p.tree here is ≡ held e holding is)

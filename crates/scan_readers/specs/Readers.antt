@@ -27,7 +27,7 @@ pub record ReaderState : Type 0 where
   pub touched : Store → ℕ → ℕ → List Place
   -- what a store has of a segment where it stands is no good
   pub flawed : Store → Place → Bool
-  -- the segments that rows want, where an expression that reads its scope wants just these
+  -- the segments that rows want, where an expression that reads its scope, and no row numbers, wants just these
   pub holding : Option (List ℕ → List Place)
   -- the rows at which it is split by masks in a range
   pub edges : List FieldMask → ℕ → ℕ → List ℕ

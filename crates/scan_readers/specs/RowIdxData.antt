@@ -1,5 +1,5 @@
 -- What a reader that numbers rows is.
-use Rattle.std.specs.Prelude.{◌+◌, ◌<◌, ◌^◌, ℕ, List, Some, None, if◌then◌else◌, refl}
+use Rattle.std.specs.Prelude.{◌+◌, ◌<◌, ◌^◌, ℕ, List, Some, if◌then◌else◌, refl}
 use Rattle.std.specs.Coded.{Coded, code_by, coded×, coded_list, coded_ℕ}
 use Rattle.scan_expr.specs.Expr.{uses_row_index}
 use Rattle.scan_plans.specs.PlanData.{PlanData, plan_data_code, EachPlan}
@@ -20,7 +20,7 @@ abbrev pub row_idx_code : {R : Type 0} → Coded R → Coded (RowIdxData R)
 row_idx_code {R} r = code_by (ℕ × (R × List PlanData)) (coded× coded_ℕ (coded× r (coded_list plan_data_code)))
     (λ a. (a.offset, (a.child, a.kept))) (λ p. record { offset = p.0; child = p.1.0; kept = p.1.1 }) (λ _. refl)
 
--- it has the other's rows, numbered from the offset on; what an expression wants of them it does not tell
+-- it has the other's rows, numbered from the offset on
 abbrev pub numbered_state : ℕ → ReaderState → ReaderState
 numbered_state offset s = record {
   name = s.name;
@@ -30,7 +30,7 @@ numbered_state offset s = record {
   value = s.value;
   touched = s.touched;
   flawed = s.flawed;
-  holding = None;
+  holding = s.holding;
   edges = s.edges;
   misses = s.misses;
 }

@@ -4,6 +4,7 @@
 
 mod kept;
 mod kind;
+mod laws;
 mod layout;
 mod leaf;
 mod list;
@@ -14,6 +15,7 @@ mod reading;
 mod row_idx;
 mod rows;
 
+pub use laws::plans_want_between_their_rows;
 pub use layout::Reader;
 pub use passing::LayoutReaderRef;
 pub use reader::LayoutReader;
