@@ -3,7 +3,7 @@ use Rattle.std.proofs.Common.{◌≡◌, ℕ, List, Bool, true, false, ◌∙◌
 use Rattle.std.specs.Prelude.{Option, None, Some, IfSome, Result, Ok, Err}
 use Rattle.scan_disk.specs.Given.{IsGiven}
 use Rattle.scan_disk.specs.declared.fault.DiskFault.{DiskFault}
-use Rattle.scan_disk.specs.declared.fault.DiskFault.TheVariants.{Short, Magic, FooterLength, Footer, Place, NoSegment, Digest, Failed, NoMemory}
+use Rattle.scan_disk.specs.declared.fault.DiskFault.TheVariants.{Short, Magic, FooterLength, FooterDigest, Footer, Place, NoSegment, Digest, Failed, NoMemory}
 
 -- a fact of what is told
 pub told_by : {T : Type 0} (o : Option T) (P Q : T → Type 0) → ((x : T) → P x → Q x) → IfSome o P → IfSome o Q
@@ -25,6 +25,7 @@ given_of told b bytes f g (Ok x) h p = says told g (f bytes) (Ok x) p h
 given_of told b bytes f g (Err Short) h p = says told g (f bytes) (Err Short) p h
 given_of told b bytes f g (Err Magic) h p = says told g (f bytes) (Err Magic) p h
 given_of told b bytes f g (Err FooterLength) h p = says told g (f bytes) (Err FooterLength) p h
+given_of told b bytes f g (Err FooterDigest) h p = says told g (f bytes) (Err FooterDigest) p h
 given_of told b bytes f g (Err Footer) h p = says told g (f bytes) (Err Footer) p h
 given_of told b bytes f g (Err Place) h p = says told g (f bytes) (Err Place) p h
 given_of told b bytes f g (Err NoSegment) h p = says told g (f bytes) (Err NoSegment) p h

@@ -10,7 +10,7 @@ use Rattle.scan_disk.specs.Places.{place_at}
 use Rattle.scan_disk.specs.Segments.{at_place, places_of, segment_of, store_of}
 use Rattle.scan_disk.specs.SourceView.{SourceView, state_of}
 use Rattle.scan_disk.specs.declared.fault.DiskFault.{DiskFault}
-use Rattle.scan_disk.specs.declared.fault.DiskFault.TheVariants.{Short, Magic, FooterLength, Footer, Place, NoSegment, Digest, Failed, NoMemory}
+use Rattle.scan_disk.specs.declared.fault.DiskFault.TheVariants.{Short, Magic, FooterLength, FooterDigest, Footer, Place, NoSegment, Digest, Failed, NoMemory}
 use Rattle.scan_disk.specs.declared.place.Place.{Place as Entry}
 
 -- places that mean the same hold the same
@@ -33,6 +33,7 @@ pub refusal_of : {T : Type 0} (told : Option (List â„•)) (b : Bool) (f : List â„
 refusal_of told b f Short read room h = h
 refusal_of told b f Magic read room h = h
 refusal_of told b f FooterLength read room h = h
+refusal_of told b f FooterDigest read room h = h
 refusal_of told b f Footer read room h = h
 refusal_of told b f Place read room h = h
 refusal_of told b f NoSegment read room h = h

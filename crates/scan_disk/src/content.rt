@@ -1,8 +1,10 @@
-//! The form of a file: a magic, the bytes of its segments, a footer, the footer's length, and the magic again.
+//! The form of a file: a magic, the bytes of its segments, a footer, the footer's SHA-256, its length, and the magic again.
 ghost use Rattle.std.specs.Prelude.{◌≡◌, ◌+◌, ◌-◌, ◌≤◌, Some, Ok, IfSome, IfOk, OnOk, length, false};
+ghost use Rattle.std.specs.Str.{bytes_eq};
+ghost use Rattle.sha2.specs.Sha256.{sha256};
 ghost use Rattle.scan_disk.specs.BytesAt.{part_at};
 ghost use Rattle.scan_disk.specs.Given.{IsGiven};
-ghost use Rattle.scan_disk.specs.Contents.{word_at, marks_of, footer_start, with_places, content_of};
+ghost use Rattle.scan_disk.specs.Contents.{word_at, marks_of, footer_start, with_places, footer_from, content_of};
 ghost use Rattle.scan_disk.specs.Footers.{footer_of};
 ghost use Rattle.scan_disk.specs.Segments.{or_place};
 
@@ -11,13 +13,17 @@ use crate::fault::DiskFault;
 use crate::footer::{Footer, read_footer_bytes};
 use scan_manifest::ParseFault;
 use scan_segments::ByteBuffer;
+use sha2::{Digest, Sha256};
 use std::alloc::Global;
 
 /// What a file begins and ends with.
-pub(crate) const MAGIC: [u8; 8] = *b"SIBLAG01";
+const MAGIC: [u8; 8] = *b"SIBLAG02";
 
-/// How many bytes the magics and the footer's length take.
-pub(crate) const FRAME: u64 = 24;
+/// How many bytes the magics, the footer's SHA-256 and its length take.
+const FRAME: u64 = 56;
+
+/// How many of these stand behind the footer.
+const BEHIND: u64 = 48;
 
 fn read_size<F: BytesAt>(file: &F) -> Result<u64, DiskFault>
     ensures { IsGiven (F.bytes file.now) (F.can_fail file.now) (λ bytes. Ok (length bytes)) result }
@@ -46,7 +52,7 @@ fn read_word<F: BytesAt>(file: &F, offset: u64) -> Result<[u8; 8], DiskFault>
 fn check_marks<F: BytesAt>(file: &F, size: u64) -> Result<(), DiskFault>
     requires { IfSome (F.bytes file.now) (λ bytes. length bytes ≡ size) }
     ensures given { IsGiven (F.bytes file.now) (F.can_fail file.now) marks_of result }
-    ensures framed { OnOk result (24 ≤ size) }
+    ensures framed { OnOk result (56 ≤ size) }
 {
     if size < FRAME {
         return Err(DiskFault::Short);
@@ -65,15 +71,15 @@ fn check_marks<F: BytesAt>(file: &F, size: u64) -> Result<(), DiskFault>
 /// Where the footer of a file of this size begins.
 fn read_start<F: BytesAt>(file: &F, size: u64) -> Result<u64, DiskFault>
     requires size { IfSome (F.bytes file.now) (λ bytes. length bytes ≡ size) }
-    requires framed { 24 ≤ size }
+    requires framed { 56 ≤ size }
     ensures given { IsGiven (F.bytes file.now) (F.can_fail file.now) footer_start result }
-    ensures before { IfOk result (λ start. start ≤ size - 16) }
+    ensures before { IfOk result (λ start. start ≤ size - 48) }
 {
     let length = u64::from_le_bytes(read_word(file, size - 16)?);
     if length > size - FRAME {
         return Err(DiskFault::FooterLength);
     }
-    Ok(size - 16 - length)
+    Ok(size - BEHIND - length)
 }
 
 /// So many bytes from a place on, in one read, into the buffer that is given.
@@ -81,15 +87,16 @@ pub(crate) fn read_part<F: BytesAt>(
     alloc: Global,
     file: &F,
     offset: u64,
-    length: u64,
+    count: u64,
 ) -> Result<ByteBuffer, DiskFault>
-    ensures { IsGiven (F.bytes file.now) (F.can_fail file.now)
-        (λ bytes. or_place (part_at offset length bytes)) result }
+    ensures given { IsGiven (F.bytes file.now) (F.can_fail file.now)
+        (λ bytes. or_place (part_at offset count bytes)) result }
+    ensures size { IfOk result (λ bytes. length bytes ≡ count) }
 {
-    let Ok(length) = usize::try_from(length) else {
+    let Ok(size) = usize::try_from(count) else {
         return Err(DiskFault::NoMemory);
     };
-    let mut bytes = vec![in alloc; 0u8; length]?;
+    let mut bytes = vec![in alloc; 0u8; size]?;
     match file.fill(offset, bytes.as_mut_slice()) {
         Ok(()) => Ok(ByteBuffer::new(alloc, bytes)?),
         Err(ReadFault::Outside) => Err(DiskFault::Place),
@@ -97,11 +104,18 @@ pub(crate) fn read_part<F: BytesAt>(
     }
 }
 
-/// What a footer that begins here says.
-fn footer_from(alloc: Global, bytes: &[u8], start: u64) -> Result<Footer, DiskFault>
-    ensures { IsGiven (Some bytes.now) false (λ text. with_places start (footer_of text)) result }
+/// Whether this is the SHA-256 of a text.
+fn is_digest(digest: &[u8], text: &[u8]) -> bool
+    ensures { result ≡ bytes_eq (sha256 text.now) digest.now }
 {
-    match read_footer_bytes(alloc, bytes) {
+    Sha256::digest(text).as_slice() == digest
+}
+
+/// What the text of a footer says that begins here.
+fn footer_text(alloc: Global, text: &[u8], start: u64) -> Result<Footer, DiskFault>
+    ensures { IsGiven (Some text.now) false (λ bytes. with_places start (footer_of bytes)) result }
+{
+    match read_footer_bytes(alloc, text) {
         Ok(footer) => {
             if footer.places.are_within(start) {
                 Ok(footer)
@@ -114,11 +128,23 @@ fn footer_from(alloc: Global, bytes: &[u8], start: u64) -> Result<Footer, DiskFa
     }
 }
 
-/// The footer of a file.
+/// What a footer says that begins here, and has its SHA-256 behind it.
+fn footer_from(alloc: Global, bytes: &[u8], start: u64) -> Result<Footer, DiskFault>
+    requires { 32 ≤ length bytes.now }
+    ensures { IsGiven (Some bytes.now) false (footer_from start) result }
+{
+    let (text, digest) = bytes.split_at(bytes.len() - 32);
+    if !is_digest(digest, text) {
+        return Err(DiskFault::FooterDigest);
+    }
+    footer_text(alloc, text, start)
+}
+
+/// The footer of a file. Its SHA-256 is looked at before it is read, whatever is asked for its segments.
 ///
 /// # Errors
-/// `Short`, `Magic`, `FooterLength`, `Footer` and `Place`, the first that holds of the file; `Failed` where a read
-/// failed; and `NoMemory`.
+/// `Short`, `Magic`, `FooterLength`, `FooterDigest`, `Footer` and `Place`, the first that holds of the file; `Failed`
+/// where a read failed; and `NoMemory`.
 pub fn read_footer<F: BytesAt>(alloc: Global, file: &F) -> Result<Footer, DiskFault>
     ensures { IsGiven (F.bytes file.now) (F.can_fail file.now) content_of result }
 {

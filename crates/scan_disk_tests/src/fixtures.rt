@@ -8,11 +8,12 @@ use scan_layout::{LayoutKind, LayoutNode};
 use scan_opener::{LayoutReaderFactory, Opening};
 use scan_segments::{ByteBuffer, Polled, SegmentId, SegmentSource};
 use scan_values::{DType, Nullability, PType};
+use sha2::{Digest, Sha256};
 use std::alloc::Global;
 use std::test::Fail;
 
 /// What a file begins and ends with.
-pub(crate) const MAGIC: &[u8] = b"SIBLAG01";
+pub(crate) const MAGIC: &[u8] = b"SIBLAG02";
 
 /// The segments 0, of 1 and a null, and 1, of -3, of i32 with nulls.
 pub(crate) const SEGMENTS: &[u8] = &[1, 0, 1, 0, 0, 0, 0, 0, 0, 0, 1, 0xfd, 0xff, 0xff, 0xff];
@@ -34,37 +35,61 @@ pub(crate) const SECOND_DIGEST: &str =
 /// What the footer says in front of its segments.
 pub(crate) const LAYOUT: &str = r#""dtype":"i32?","layout":{"leaf":[[0,2],[1,1]],"rows":3}"#;
 
-/// A file that begins with this magic, of this body and footer, in which the footer has this length.
+/// A file that begins with this magic, of this body and footer, whose footer has this digest and this length.
 pub(crate) fn file_of(
     alloc: Global,
     magic: &[u8],
     body: &[u8],
     footer: &[u8],
+    digest: &[u8],
     length: u64,
 ) -> Result<Vec<u8>, Fail> {
     let mut bytes = Vec::from_slice(alloc, magic)?;
     bytes.extend_from_slice(body)?;
     bytes.extend_from_slice(footer)?;
+    bytes.extend_from_slice(digest)?;
     bytes.extend_from_slice(&length.to_le_bytes())?;
     bytes.extend_from_slice(MAGIC)?;
     Ok(bytes)
 }
 
+/// A file of this body and footer, with the digest of another one.
+pub(crate) fn file_sealed(
+    alloc: Global,
+    body: &[u8],
+    footer: &[u8],
+    of: &[u8],
+) -> Result<Vec<u8>, Fail> {
+    let digest = Sha256::digest(of);
+    file_of(alloc, MAGIC, body, footer, &digest, footer.len() as u64)
+}
+
 /// A file of this body and footer.
 pub(crate) fn file_with(alloc: Global, body: &[u8], footer: &[u8]) -> Result<Vec<u8>, Fail> {
-    file_of(alloc, MAGIC, body, footer, footer.len() as u64)
+    file_sealed(alloc, body, footer, footer)
+}
+
+/// A footer that says these texts of its layout and of its segments.
+pub(crate) fn footer_saying(alloc: Global, layout: &str, segments: &str) -> Result<String, Fail> {
+    Ok(format!(in alloc; "{{{layout},\"segments\":[{segments}]}}")?)
 }
 
 /// A file of both segments, whose footer says these texts of its layout and of its segments.
 pub(crate) fn file_saying(alloc: Global, layout: &str, segments: &str) -> Result<Vec<u8>, Fail> {
-    let footer = format!(in alloc; "{{{layout},\"segments\":[{segments}]}}")?;
+    let footer = footer_saying(alloc, layout, segments)?;
     file_with(alloc, SEGMENTS, footer.as_bytes())
+}
+
+/// The footer of the whole file.
+pub(crate) fn whole_footer(alloc: Global) -> Result<String, Fail> {
+    let segments = format!(in alloc; "[0,8,10,\"{FIRST_DIGEST}\"],[1,18,5,\"{SECOND_DIGEST}\"]")?;
+    footer_saying(alloc, LAYOUT, segments.as_str())
 }
 
 /// The whole file.
 pub(crate) fn whole(alloc: Global) -> Result<Vec<u8>, Fail> {
-    let segments = format!(in alloc; "[0,8,10,\"{FIRST_DIGEST}\"],[1,18,5,\"{SECOND_DIGEST}\"]")?;
-    file_saying(alloc, LAYOUT, segments.as_str())
+    let footer = whole_footer(alloc)?;
+    file_with(alloc, SEGMENTS, footer.as_bytes())
 }
 
 /// A file in memory.

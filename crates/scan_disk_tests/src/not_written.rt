@@ -87,7 +87,7 @@ impl BytesOut for Failing {
 fn a_write_that_fails_is_told(rt: HostRuntime) -> Result<(), Fail> {
     let alloc = rt.alloc();
     let rows = bytes(alloc)?;
-    for left in 0..6 {
+    for left in 0..7 {
         let mut out = Failing { left };
         assert_eq!(rt;
             write_to(alloc, &mut out, &rows, 2, Spelling::One),
@@ -95,7 +95,7 @@ fn a_write_that_fails_is_told(rt: HostRuntime) -> Result<(), Fail> {
             "after {left}"
         );
     }
-    let mut out = Failing { left: 6 };
+    let mut out = Failing { left: 7 };
     assert_eq!(rt; write_to(alloc, &mut out, &rows, 2, Spelling::One), Ok(()));
     Ok(())
 }

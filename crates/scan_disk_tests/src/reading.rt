@@ -17,7 +17,7 @@ use std::test::Fail;
 
 /// The file, as a writer of the form in Python writes it.
 const WRITTEN: &str =
-    "5349424c414730310100010000000000000001fdffffff7b226474797065223a226933323f222c226c61796f7574223a7b226c656166223a5b5b302c325d2c5b312c315d5d2c22726f7773223a337d2c227365676d656e7473223a5b5b302c382c31302c2263373964666431363339636230316336653934373562656363643137643965303736636138306636326634633561353035613135383663633761336539333338225d2c5b312c31382c352c2265393430366663303735626338386162373730613266303065646263626338353232383838643536653237383964396164653135303933353362306136383433225d5d7dde000000000000005349424c41473031";
+    "5349424c414730320100010000000000000001fdffffff7b226474797065223a226933323f222c226c61796f7574223a7b226c656166223a5b5b302c325d2c5b312c315d5d2c22726f7773223a337d2c227365676d656e7473223a5b5b302c382c31302c2263373964666431363339636230316336653934373562656363643137643965303736636138306636326634633561353035613135383663633761336539333338225d2c5b312c31382c352c2265393430366663303735626338386162373730613266303065646263626338353232383838643536653237383964396164653135303933353362306136383433225d5d7dc146152b57100178867e476f8104f32504177636bb48da1cb17e46cfdec196aade000000000000005349424c41473032";
 
 #[test]
 fn a_file_is_read_to_its_layout_and_segments(rt: HostRuntime) -> Result<(), Fail> {
@@ -42,7 +42,7 @@ fn the_smallest_file_has_no_rows(rt: HostRuntime) -> Result<(), Fail> {
     let alloc = rt.alloc();
     let footer = r#"{"dtype":"u8","layout":{"leaf":[],"rows":0},"segments":[]}"#;
     let bytes = file_with(alloc, &[], footer.as_bytes())?;
-    assert_eq!(rt; bytes.len(), 82);
+    assert_eq!(rt; bytes.len(), 114);
     assert_eq!(rt;
         open(alloc, bytes.as_slice())?.as_str(),
         "i32? false, 0 rows, One"
@@ -124,7 +124,7 @@ fn asks_again(alloc: Global, source: &mut FileSource<MemoryFile>) -> Result<Stri
 #[test]
 fn an_opener_and_a_source_tell_what_they_did(rt: HostRuntime) -> Result<(), Fail> {
     let alloc = rt.alloc();
-    let file = Rc::new(alloc, memory(alloc, &[0; 24])?)?;
+    let file = Rc::new(alloc, memory(alloc, &[0; 56])?)?;
     let mut opener = FileOpener::new(Rc::clone(&file)?);
     assert_eq!(rt;
         (opener.refused(), opener.faults(), opener.polled()),
@@ -137,11 +137,11 @@ fn an_opener_and_a_source_tell_what_they_did(rt: HostRuntime) -> Result<(), Fail
         (opener.refused(), opener.faults(), opener.polled()),
         (Some(DiskFault::Magic), 2, 2)
     );
-    assert_eq!(rt; opener.file().size(), Ok(24));
+    assert_eq!(rt; opener.file().size(), Ok(56));
     let mut source = FileSource::new(alloc, memory(alloc, whole(alloc)?.as_slice())?, true);
     assert_eq!(rt; asks_again(alloc, &mut source)?.as_str(), FIRST);
     assert_eq!(rt; (source.refused(), source.fault_count()), (None, 0));
-    assert_eq!(rt; source.file().size(), Ok(261));
+    assert_eq!(rt; source.file().size(), Ok(293));
     Ok(())
 }
 

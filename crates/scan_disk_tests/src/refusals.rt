@@ -1,9 +1,10 @@
 //! Files that are refused, by name: files that are cut or changed, and footers that lie.
 use crate::fixtures::{
-    FIRST, FIRST_DIGEST, LAYOUT, SECOND, SECOND_DIGEST, SEGMENTS, file_of, file_saying, file_with,
-    memory, open, segment, segment_of, whole,
+    FIRST, FIRST_DIGEST, LAYOUT, SECOND, SECOND_DIGEST, SEGMENTS, file_of, file_saying,
+    file_sealed, file_with, memory, open, segment, segment_of, whole, whole_footer,
 };
 use scan_disk::FileSource;
+use sha2::{Digest, Sha256};
 use std::alloc::Global;
 use std::test::Fail;
 
@@ -12,7 +13,7 @@ fn a_file_cut_at_any_byte_is_short_or_lacks_its_magic(rt: HostRuntime) -> Result
     let alloc = rt.alloc();
     let bytes = whole(alloc)?;
     for n in 0..bytes.len() {
-        let wanted = if n < 24 { "Short" } else { "Magic" };
+        let wanted = if n < 56 { "Short" } else { "Magic" };
         let part = &bytes.as_slice()[..n];
         assert_eq!(rt; open(alloc, part)?.as_str(), wanted, "cut at {n}");
         assert_eq!(rt;
@@ -33,12 +34,43 @@ fn changed(alloc: Global, bytes: &[u8], at: usize, mask: u8) -> Result<Vec<u8>, 
     Ok(changed)
 }
 
-/// The first letter of a refusal, but `L` for that of the footer's length, and `x` where there is none.
+/// What a file gives for its two segments.
+fn both(alloc: Global, bytes: &[u8]) -> Result<(String, String), Fail> {
+    let mut source = FileSource::new(alloc, memory(alloc, bytes)?, true);
+    let first = segment_of(alloc, &mut source, 0)?;
+    let second = segment_of(alloc, &mut source, 1)?;
+    Ok((first, second))
+}
+
+/// Whether the whole file gives these for its two segments where the lowest bit of this byte is changed.
+fn gives(alloc: Global, at: usize, first: &str, second: &str) -> Result<bool, Fail> {
+    let bytes = changed(alloc, whole(alloc)?.as_slice(), at, 1)?;
+    let (found_first, found_second) = both(alloc, bytes.as_slice())?;
+    Ok(found_first.as_str() == first && found_second.as_str() == second)
+}
+
+#[test]
+fn a_byte_that_is_changed_is_refused_or_changes_no_segment(rt: HostRuntime) -> Result<(), Fail> {
+    let alloc = rt.alloc();
+    assert_eq!(rt; whole(alloc)?.len(), 293);
+    for (begin, end, first, second) in [
+        (0, 8, "Magic", "Magic"),
+        (8, 18, "Digest", SECOND),
+        (18, 23, FIRST, "Digest"),
+        (23, 278, "FooterDigest", "FooterDigest"),
+        (278, 285, "FooterLength", "FooterLength"),
+        (285, 293, "Magic", "Magic"),
+    ] {
+        for at in begin..end {
+            assert!(rt; gives(alloc, at, first, second)?, "byte {at}");
+        }
+    }
+    Ok(())
+}
+
+/// The first letter of a refusal, and `x` where there is none.
 fn letter_of(refusal: &str) -> &str {
     for (name, letter) in [
-        ("Short", "S"),
-        ("Magic", "M"),
-        ("FooterLength", "L"),
         ("Footer", "F"),
         ("Place", "P"),
         ("NoSegment", "N"),
@@ -61,41 +93,71 @@ fn push_letter(letters: &mut String, answer: &str, same: &str) -> Result<(), Fai
     Ok(())
 }
 
-/// What the file gives for its segments where the lowest bit of each of its bytes is changed in turn.
+/// What the file gives for its segments where the lowest bit of each byte of its footer is changed in turn, and its
+/// digest is that of the changed footer.
 fn letters(alloc: Global) -> Result<(String, String), Fail> {
-    let bytes = whole(alloc)?;
+    let footer = whole_footer(alloc)?;
     let mut first = String::new(alloc);
     let mut second = String::new(alloc);
-    for at in 0..bytes.len() {
-        let changed = changed(alloc, bytes.as_slice(), at, 1)?;
-        let mut source = FileSource::new(alloc, memory(alloc, changed.as_slice())?, true);
-        push_letter(
-            &mut first,
-            segment_of(alloc, &mut source, 0)?.as_str(),
-            FIRST,
-        )?;
-        push_letter(
-            &mut second,
-            segment_of(alloc, &mut source, 1)?.as_str(),
-            SECOND,
-        )?;
+    for at in 0..footer.len() {
+        let changed = changed(alloc, footer.as_bytes(), at, 1)?;
+        let bytes = file_with(alloc, SEGMENTS, changed.as_slice())?;
+        let (found_first, found_second) = both(alloc, bytes.as_slice())?;
+        push_letter(&mut first, found_first.as_str(), FIRST)?;
+        push_letter(&mut second, found_second.as_str(), SECOND)?;
     }
     Ok((first, second))
 }
 
-/// The first segment, by the form of a file.
+/// The first segment, by the form of a footer.
 const FIRST_LETTERS: &str =
-    "MMMMMMMMDDDDDDDDDD=====FFFFFFFFFFFFFFFFFFFFFFFFFFFFFFFFFFF=F=FFF=F=FFFFFFFFFF=FFFFFFFFFFFFFFFFFDFFDFFDDDDFDDDDDDDDDDDDDDDDDDDDDDDDDDDDDDFDDFDDFDDDFDDDFDDDDDDDFDDDDDDFFFFFFFPF=FF=====F========F====F=F=========================F===========F====FFFFFLLLLLLLMMMMMMMM";
+    "FFFFFFFFFFFFFFFFFFFFFFFFFFFFFFFFFFF=F=FFF=F=FFFFFFFFFF=FFFFFFFFFFFFFFFFFDFFDFFDDDDFDDDDDDDDDDDDDDDDDDDDDDDDDDDDDDFDDFDDFDDDFDDDFDDDDDDDFDDDDDDFFFFFFFPF=FF=====F========F====F=F=========================F===========F====FFFF";
 
 /// The second segment.
 const SECOND_LETTERS: &str =
-    "MMMMMMMM==========DDDDDFFFFFFFFFFFFFFFFFFFFFFFFFFFFFFFFFFF=F=FFF=F=FFFFFFFFFF=FFFFFFFFFFFFFFFFF=FF=FF====F==============================F==F==F===F===F=======F======FFFFFFFPFDFFDDDDDFDDDDDDDDFDDDDFDFDDDDDDDDDDDDDDDDDDDDDDDDDFDDDDDDDDDDDFDDDDFFFFFLLLLLLLMMMMMMMM";
+    "FFFFFFFFFFFFFFFFFFFFFFFFFFFFFFFFFFF=F=FFF=F=FFFFFFFFFF=FFFFFFFFFFFFFFFFF=FF=FF====F==============================F==F==F===F===F=======F======FFFFFFFPFDFFDDDDDFDDDDDDDDFDDDDFDFDDDDDDDDDDDDDDDDDDDDDDDDDFDDDDDDDDDDDFDDDDFFFF";
 
 #[test]
-fn a_byte_that_is_changed_is_refused_or_changes_no_segment(rt: HostRuntime) -> Result<(), Fail> {
+fn a_footer_that_is_changed_with_its_digest_is_refused_or_says_where_segments_are(
+    rt: HostRuntime,
+) -> Result<(), Fail> {
     let (first, second) = letters(rt.alloc())?;
     assert_eq!(rt; first.as_str(), FIRST_LETTERS);
     assert_eq!(rt; second.as_str(), SECOND_LETTERS);
+    Ok(())
+}
+
+/// A footer of two columns.
+const COLUMNS: &str =
+    r#"{"dtype":{"nullable":false,"struct":[["a","u8"],["b","u8"]]},"layout":{"rows":1,"struct":[{"leaf":[[0,1]],"rows":1},{"leaf":[[1,1]],"rows":1}]},"segments":[]}"#;
+
+/// What an opener answers of a file with that footer, in which one text is replaced by another, and with its digest.
+fn open_replaced(alloc: Global, from: &str, to: &str) -> Result<String, Fail> {
+    let footer = COLUMNS.replace(alloc, from, to)?;
+    let bytes = file_sealed(alloc, &[], footer.as_bytes(), COLUMNS.as_bytes())?;
+    open(alloc, bytes.as_slice())
+}
+
+#[test]
+fn another_well_formed_footer_is_refused(rt: HostRuntime) -> Result<(), Fail> {
+    let alloc = rt.alloc();
+    assert_eq!(rt;
+        open_replaced(alloc, "none", "")?.as_str(),
+        "i32? false, 1 rows"
+    );
+    for (from, to) in [
+        (r#"["a","u8"]"#, r#"["c","u8"]"#),
+        (r#"["a","u8"]"#, r#"["a","i8"]"#),
+        (r#"["a","u8"],["b","u8"]"#, r#"["b","u8"],["a","u8"]"#),
+        (r#"[[0,1]]"#, r#"[[1,1]]"#),
+        (r#"{"dtype""#, r#" {"dtype""#),
+    ] {
+        assert_eq!(rt;
+            open_replaced(alloc, from, to)?.as_str(),
+            "FooterDigest",
+            "{to}"
+        );
+    }
     Ok(())
 }
 
@@ -211,9 +273,11 @@ fn a_footer_that_says_none_is_refused(rt: HostRuntime) -> Result<(), Fail> {
     Ok(())
 }
 
-/// What an opener answers of a file of 40 bytes whose footer has this length, and which begins with this magic.
+/// What an opener answers of a file of 72 bytes whose footer, with the digest of `1`, has this length, and which begins
+/// with this magic.
 fn open_stated(alloc: Global, magic: &[u8], length: u64) -> Result<String, Fail> {
-    let bytes = file_of(alloc, magic, SEGMENTS, b"1", length)?;
+    let digest = Sha256::digest(b"1".as_slice());
+    let bytes = file_of(alloc, magic, SEGMENTS, b"1", &digest, length)?;
     open(alloc, bytes.as_slice())
 }
 
@@ -221,21 +285,22 @@ fn open_stated(alloc: Global, magic: &[u8], length: u64) -> Result<String, Fail>
 fn a_footer_of_another_length_and_another_version_are_refused(rt: HostRuntime) -> Result<(), Fail> {
     let alloc = rt.alloc();
     for (length, wanted) in [
-        (0, "Footer"),
+        (0, "FooterDigest"),
         (1, "Footer"),
-        (16, "Footer"),
+        (2, "FooterDigest"),
+        (16, "FooterDigest"),
         (17, "FooterLength"),
-        (24, "FooterLength"),
-        (40, "FooterLength"),
+        (48, "FooterLength"),
+        (72, "FooterLength"),
         (u64::MAX, "FooterLength"),
     ] {
         assert_eq!(rt;
-            open_stated(alloc, b"SIBLAG01", length)?.as_str(),
+            open_stated(alloc, b"SIBLAG02", length)?.as_str(),
             wanted,
             "{length}"
         );
         assert_eq!(rt;
-            open_stated(alloc, b"SIBLAG02", length)?.as_str(),
+            open_stated(alloc, b"SIBLAG01", length)?.as_str(),
             "Magic",
             "{length}"
         );

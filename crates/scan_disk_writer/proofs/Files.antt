@@ -23,7 +23,7 @@ use Rattle.scan_disk.specs.Segments.{at_place, segment_of, store_of}
 use Rattle.scan_disk.specs.declared.footer.Footer.{Footer}
 use Rattle.scan_disk.specs.declared.place.Place.{Place}
 use Rattle.scan_disk_writer.specs.Json.{json_of_dtype, json_of_layout, json_of_places, json_of_footer}
-use Rattle.scan_disk_writer.specs.FileBytes.{joined, places_from, framed, numbered, or_none, IdsFit}
+use Rattle.scan_disk_writer.specs.FileBytes.{joined, places_from, sealed, framed, numbered, or_none, IdsFit}
 use Rattle.scan_encode.specs.Encoded.{stored, Holds}
 use Rattle.scan_disk_writer.specs.Written.{IsFile, IsFileOf}
 use Rattle.scan_disk_writer.proofs.DTypesAgain.{dtype_again}
@@ -95,5 +95,5 @@ module _ (l : Layout) (segments : List (List ℕ)) (form : HasForm l (dtype_of l
       let held : (checks : Bool) (id : ℕ) → segment_of checks None id bytes ≡ or_none (slice_get segments id) = λ checks id.
       ap (step (λ places. at_place checks bytes (place_at places id))) (ap (step (λ f. Ok f.places)) content)
       ∙ (ap (at_place checks bytes) (at_number (places_from 8 segments) 0 id id (omega arith))
-      ∙ segment_here segments bytes magic (footer ++ (to_le_bytes w64 (length footer) ++ magic)) 8 checks id refl refl) in
+      ∙ segment_here segments bytes magic (sealed footer ++ (to_le_bytes w64 (length footer) ++ magic)) 8 checks id refl refl) in
       record { opens = opened; holds = held; rows = rows_are l segments bytes opened held }

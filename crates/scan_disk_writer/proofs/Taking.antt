@@ -6,7 +6,8 @@ use Rattle.std.specs.declared.alloc.Global.{Global}
 use Rattle.std.specs.declared.vec.Vec.{Vec}
 use Rattle.scan_encode.specs.SegmentsView.{bytes_of}
 use Rattle.scan_disk.specs.Contents.{magic}
-use Rattle.scan_disk_writer.specs.FileBytes.{end_bytes, joined}
+use Rattle.sha2.specs.Sha256.{sha256}
+use Rattle.scan_disk_writer.specs.FileBytes.{end_bytes, joined, sealed}
 use Rattle.scan_disk_writer.specs.Out.{behind}
 use Rattle.scan_disk_writer.specs.declared.fault.OutFault.{OutFault}
 
@@ -37,7 +38,13 @@ one_taken o p q raws i s v d e h k =
 pub all_taken : (o q : Option (List ℕ)) (raws : List (Vec ℕ Global)) → raws ≡ [] → behind (joined (bytes_of raws)) o ≡ q → o ≡ q
 all_taken o q raws e h = sym (behind_none o) ∙ (ap (λ z. behind (joined (bytes_of z)) o) (sym e) ∙ h)
 
+-- a footer, and then its digest
+pub sealed_as : (footer digest : List ℕ) (o p t : Option (List ℕ)) (r : Result ⊤ OutFault) → digest ≡ sha256 footer → p ≡ behind footer o → OnOk r (t ≡ behind digest p)
+    → OnOk r (t ≡ behind (sealed footer) o)
+sealed_as footer digest o p t (Ok x) e a b = b ∙ (then_rest o p footer digest a ∙ ap (λ z. behind (footer ++ z) o) e)
+sealed_as footer digest o p t (Err f) e a b = tt
+
 -- a word that says a length
-pub word_as : (footer word : List ℕ) (o t : Option (List ℕ)) (r : Result ⊤ OutFault) → word ≡ to_le_bytes w64 (length footer) → OnOk r (t ≡ behind (footer ++ (word ++ magic)) o)
+pub word_as : (footer word : List ℕ) (o t : Option (List ℕ)) (r : Result ⊤ OutFault) → word ≡ to_le_bytes w64 (length footer) → OnOk r (t ≡ behind (sealed footer ++ (word ++ magic)) o)
     → OnOk r (t ≡ behind (end_bytes footer) o)
-word_as footer word o t r e h = subst (λ z. OnOk r (t ≡ behind (footer ++ (z ++ magic)) o)) e h
+word_as footer word o t r e h = subst (λ z. OnOk r (t ≡ behind (sealed footer ++ (z ++ magic)) o)) e h

@@ -23,9 +23,13 @@ abbrev pub places_from : ℕ → List (List ℕ) → List Place
 places_from at [] = []
 places_from at (s ∷ segments) = placed at s ∷ places_from (at + length s) segments
 
--- the footer, its length and the last magic
+-- the footer and its digest
+abbrev pub sealed : List ℕ → List ℕ
+sealed footer = footer ++ sha256 footer
+
+-- both, the footer's length and the last magic
 abbrev pub end_bytes : List ℕ → List ℕ
-end_bytes footer = footer ++ (to_le_bytes w64 (length footer) ++ magic)
+end_bytes footer = sealed footer ++ (to_le_bytes w64 (length footer) ++ magic)
 
 -- a file of this body and this footer
 abbrev pub framed : List ℕ → List ℕ → List ℕ

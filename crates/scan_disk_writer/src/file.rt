@@ -5,7 +5,7 @@ ghost use Rattle.scan_values.specs.DataType.{depth_of};
 ghost use Rattle.scan_layout.specs.Form.{HasForm};
 ghost use Rattle.scan_layout.specs.Layout.{dtype_of};
 ghost use Rattle.scan_encode.specs.SegmentsView.{bytes_of};
-ghost use Rattle.scan_disk_writer.specs.FileBytes.{end_bytes, framed, joined, placed, places_from};
+ghost use Rattle.scan_disk_writer.specs.FileBytes.{end_bytes, framed, joined, placed, places_from, sealed};
 ghost use Rattle.scan_disk_writer.specs.Out.{behind, IsOut};
 ghost use Rattle.scan_disk_writer.specs.Written.{IsFile, IsRefused, IsServed, IsTooMuch};
 
@@ -19,7 +19,7 @@ use sha2::{Digest, Sha256};
 use std::alloc::Global;
 
 /// What a file begins and ends with.
-const MAGIC: [u8; 8] = *b"SIBLAG01";
+const MAGIC: [u8; 8] = *b"SIBLAG02";
 
 /// How deep the dtype of a file is at most.
 const DEEPEST: u32 = 42;
@@ -100,13 +100,23 @@ fn length_bytes(footer: &[u8]) -> [u8; 8]
     (footer.len() as u64).to_le_bytes()
 }
 
-/// Writes the footer, its length and the last magic.
+/// Writes a footer and its digest.
+fn append_sealed<W: BytesOut>(out: &mut W, footer: &[u8]) -> Result<(), OutFault>
+    ensures taken { OnOk result (W.taken out.new ≡ behind (sealed footer.now) (W.taken out.old)) }
+    ensures fails { IfErr result (IsOut W.can_fail) }
+{
+    let digest = Sha256::digest(footer);
+    out.append(footer)?;
+    out.append(&digest)
+}
+
+/// Writes a footer and its digest, its length and the last magic.
 fn append_end<W: BytesOut>(out: &mut W, footer: &[u8]) -> Result<(), OutFault>
     ensures taken { OnOk result (W.taken out.new ≡ behind (end_bytes footer.now) (W.taken out.old)) }
     ensures fails { IfErr result (IsOut W.can_fail) }
 {
     let word = length_bytes(footer);
-    out.append(footer)?;
+    append_sealed(out, footer)?;
     out.append(&word)?;
     out.append(&MAGIC)
 }
