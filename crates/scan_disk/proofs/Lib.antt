@@ -3,3 +3,4 @@ mod Givens
 mod Trees
 mod Contents
 mod Polls
+mod Opens

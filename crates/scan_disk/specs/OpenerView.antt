@@ -1,5 +1,5 @@
 -- An opener of a file, as contracts see it.
-use Rattle.std.specs.Prelude.{◌≡◌, ◌||◌, not, ℕ, List, Bool, Option, None, Some, is_some, option_and_then, Result, Ok, Err, refl}
+use Rattle.std.specs.Prelude.{◌≡◌, ◌≢◌, ◌||◌, not, ℕ, List, Bool, Option, None, Some, is_some, option_and_then, Result, Ok, Err, refl}
 use Rattle.std.specs.Coded.{Coded, code_by, coded×, coded_ℕ, coded_option}
 use Rattle.scan_opener.specs.Opener.{Given, layout_of, OpenerState}
 use Rattle.scan_opener.specs.declared.opener.Opening.{Opening}
@@ -8,6 +8,7 @@ use Rattle.scan_disk.specs.Contents.{content_of}
 use Rattle.scan_disk.specs.Faults.{fault_code}
 use Rattle.scan_disk.specs.Given.{IsGiven}
 use Rattle.scan_disk.specs.declared.fault.DiskFault.{DiskFault}
+use Rattle.scan_disk.specs.declared.fault.DiskFault.TheVariants as fault
 use Rattle.scan_disk.specs.declared.footer.Footer.{Footer}
 
 pub record OpenerView (F : Type 0) : Type 0 where
@@ -43,7 +44,8 @@ module _ {F : Type 0} (bytes : F → Option (List ℕ)) (can_fail : F → Bool) 
 
   -- a file that is refused has its cause beside it
   abbrev pub TellsCause : OpenerView F → OpenerView F → Opening → Type 0
-  TellsCause old new opening.Failed = (e : DiskFault) × (new.refused ≡ Some e) × IsGiven {T = Footer} (bytes old.file) (can_fail old.file) content_of (Err e)
+  TellsCause old new opening.Failed =
+      (e : DiskFault) × (new.refused ≡ Some e) × (e ≢ fault.NoMemory) × IsGiven {T = Footer} (bytes old.file) (can_fail old.file) content_of (Err e)
   TellsCause old new opening.Pending = ⊥
   TellsCause old new (opening.Opened layout) = new.refused ≡ old.refused
   TellsCause old new opening.Skipped = ⊥

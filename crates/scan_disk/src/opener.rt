@@ -72,11 +72,16 @@ impl<F: BytesAt> FileOpener<F> {
 }
 
 impl<F: BytesAt> LayoutReaderFactory for FileOpener<F> {
-    ghost use Rattle.scan_disk.specs.OpenerView.{opener_state};
+    ghost use Rattle.scan_disk.specs.OpenerView.{opener_state, TellsCause};
+    ghost use Rattle.scan_opener.specs.Opener.{IsPolledOpen};
 
     ghost opener = { opener_state F.bytes F.can_fail };
 
-    fn poll_open(&mut self, alloc: Global) -> Opening {
+    fn poll_open(&mut self, alloc: Global) -> Opening
+        ensures polled { IsPolledOpen (opener_state F.bytes F.can_fail self.old)
+            (opener_state F.bytes F.can_fail self.new) result }
+        ensures cause { TellsCause F.bytes F.can_fail self.old self.new result }
+    {
         self.polls = self.polls.saturating_add(1);
         match read_footer(alloc, &self.file) {
             Ok(footer) => Opening::Opened(footer.layout.into_root()),
