@@ -1,5 +1,5 @@
 -- The streams of a scan.
-use Rattle.std.specs.Prelude.{◌≡◌, ◌-◌, ◌==◌, ℕ, nat_le, Bool, true, false, not, List, [], ◌∷◌, map, take, if◌then◌else◌, Option, Some, None}
+use Rattle.std.specs.Prelude.{◌≡◌, ◌-◌, ◌==◌, ℕ, nat_le, Bool, true, false, not, List, [], ◌∷◌, length, map, min, take, if◌then◌else◌, Option, Some, None}
 use Rattle.std.specs.List.{flat_map}
 use Rattle.std.specs.declared.ops.Range.{Range}
 use Rattle.scan_values.specs.DataType.{DataType}
@@ -68,7 +68,7 @@ IsOwnSeat (Some n) seat = (t : SeatState) × (seat ≡ Some (seat_with t.budget 
 
 -- a stream of a scan, of which nothing has been read, with a seat
 pub record IsStreamWith {M : Type 0} (s : ScanData M) (r : Option (Range ℕ)) (seat : Option SeatState) (t : StreamData M) : Type 0 where
-  pub feed : t.feed ≡ new_feed (scan_dtype s) s.ordered (map new_split (streamed s r)) seat
+  pub feed : t.feed ≡ new_feed (scan_dtype s) s.ordered (min s.concurrency (length (streamed s r))) (map new_split (streamed s r)) seat
   pub step : t.step ≡ s.step
 
 -- the same with the whole of the scan's own limit

@@ -6,7 +6,7 @@ use Rattle.std.specs.Prelude.{◌⊎◌}
 use Rattle.scan_segments.specs.Source.{SourceState, Ends}
 use Rattle.scan_splits.specs.Wanted.{no_repeats}
 use Rattle.scan_streams.specs.Sources.{SourceMoves, WasAsked}
-use Rattle.scan_streams.specs.Desks.{Waiters, waiters_at, waits, is_in, added, Moves, Asks}
+use Rattle.scan_streams.specs.Desks.{Waiters, waiters_at, waits, is_in, added, is_awaited, AllAwaited, Moves, Asks}
 use Rattle.scan_streams.proofs.Desking.{moved, among_snoc}
 
 pub moves_none : (May : ℕ → Type 0) (s t : SourceState) → t.holds ≡ s.holds → t.asked ≡ s.asked → s.faults ≤ t.faults → t.turns ≤ s.turns → t.can_fail ≡ s.can_fail → ((id : ℕ) → t.live id ≡ true → s.live id ≡ true) → SourceMoves May s t
@@ -131,11 +131,24 @@ waits_added id place d e m q p = ap (λ o. is_in o p) (moved id (Some (added pla
         let off : eqb id q ≡ false = grind (arith, nat_tests) in
         or_false (is_in (waiters_at d q) p) ∙ ap (λ b. is_in (waiters_at d q) p || (b && eqb place p)) (sym off)
 
+added_awaited : (place : ℕ) (o : Option (List ℕ)) → is_awaited (Some (added place o)) ≡ true
+added_awaited place None = refl
+added_awaited place (Some []) = refl
+added_awaited place (Some (p ∷ ps)) = refl
+
+awaited_added : (id place : ℕ) (d e : Waiters) → Moves id (Some (added place (waiters_at d id))) d e → AllAwaited d → AllAwaited e
+awaited_added id place d e m h q = ap is_awaited (moved id (Some (added place (waiters_at d id))) d e m q) ∙ go (eqb q id)
+  where
+    go : (b : Bool) → is_awaited (cond b (Some (added place (waiters_at d id))) (waiters_at d q)) ≡ true
+    go true = added_awaited place (waiters_at d id)
+    go false = h q
+
 -- the rest of the ids is still to be asked for
 pub record Asking (rest ids : List ℕ) (place : ℕ) (old now : Waiters) : Type 0 where
   pub asked : (id p : ℕ) → (waits now id p || (is_among rest id && eqb place p)) ≡ (waits old id p || (is_among ids id && eqb place p))
   pub new : (id : ℕ) → is_among rest id ≡ true → waits now id place ≡ false
   pub once : no_repeats rest ≡ true
+  pub live : AllAwaited old → AllAwaited now
 
 turn : (w a b e : Bool) → ((w || (a && e)) || (b && e)) ≡ (w || ((a || b) && e))
 turn true a b e = refl
@@ -160,6 +173,7 @@ asking_next id rest ids place old now next h m =
       asked = λ q p. ap (λ b. b || (is_among rest q && eqb place p)) (waits_added id place now next m q p) ∙ turn (waits now q p) (eqb id q) (is_among rest q) (eqb place p) ∙ h.asked q p;
       new = λ q n. waits_added id place now next m q place ∙ apart q n off (eqb id q) refl;
       once = parts.1;
+      live = λ w. awaited_added id place now next m (h.live w);
     }
   where
     or_right : (a b : Bool) → b ≡ true → (a || b) ≡ true

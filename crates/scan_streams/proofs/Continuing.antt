@@ -9,7 +9,7 @@ use Rattle.scan_values.specs.Val.{Val, marked}
 use Rattle.scan_streams.specs.Advances.{Advances}
 use Rattle.scan_streams.specs.Desks.{Agree}
 use Rattle.scan_streams.specs.Looks.{MayAsk, Halts, step_items, step_dtype}
-use Rattle.scan_streams.specs.Readings.{splits_of, Standing}
+use Rattle.scan_streams.specs.Readings.{slot_count, splits_of, Standing}
 use Rattle.scan_streams.specs.Sources.{SourceMoves}
 use Rattle.scan_streams.specs.Splits.{SplitData, Goes, AllOf}
 use Rattle.scan_streams.specs.declared.fault.Halt.{Halt}
@@ -26,6 +26,7 @@ pub record Continues (old now : Reading) (s t : SourceState) : Type 0 where
   pub ordered : now.ordered ≡ old.ordered
   pub goes : Goes old.ordered s.holds [] (splits_of old) (splits_of now)
   pub moves : SourceMoves (MayAsk s.holds (splits_of old)) s t
+  pub begun : slot_count now ≡ slot_count old
 
 module _ (old now : Reading) (s t : SourceState) (h : Continues old now s t) where
   pub goes_on : (given : List Marked) (next : List SplitData) → Goes now.ordered t.holds given (splits_of now) next → Goes old.ordered s.holds given (splits_of old) next
@@ -42,8 +43,12 @@ module _ (old now : Reading) (s t : SourceState) (h : Continues old now s t) whe
   halts_on u x k = halts_back old.ordered (MayAsk s.holds (splits_of old)) [] (splits_of old) (splits_of now) s t u x h.goes h.moves k
 
   -- a step more that gives nothing
-  pub continues_on : (next : Reading) (u : SourceState) → Standing next → Agree u.live next.desk → next.ordered ≡ now.ordered → Goes now.ordered t.holds [] (splits_of now) (splits_of next) → SourceMoves (MayAsk t.holds (splits_of now)) t u → Continues old next s u
-  continues_on next u stands agree ordered goes moves = record { stands = stands; agree = agree; ordered = ordered ∙ h.ordered; goes = goes_on [] (splits_of next) goes; moves = moves_on u moves }
+  pub continues_on : (next : Reading) (u : SourceState) → Standing next → Agree u.live next.desk → next.ordered ≡ now.ordered → Goes now.ordered t.holds [] (splits_of now) (splits_of next) → SourceMoves (MayAsk t.holds (splits_of now)) t u → slot_count next ≡ slot_count now → Continues old next s u
+  continues_on next u stands agree ordered goes moves begun = record { stands = stands; agree = agree; ordered = ordered ∙ h.ordered; goes = goes_on [] (splits_of next) goes; moves = moves_on u moves; begun = begun ∙ h.begun }
+
+  -- as many are read at once
+  pub step_begun : (x : Step) (next : Reading) (u : SourceState) → Advances x now next t u → slot_count next ≡ slot_count old
+  step_begun x next u a = a.begun ∙ h.begun
 
   -- a step that is known
   pub step_goes : (x y : Step) (next : Reading) (u : SourceState) → x ≡ y → Advances x now next t u → Goes old.ordered s.holds (step_items y) (splits_of old) (splits_of next)
@@ -53,7 +58,7 @@ module _ (old now : Reading) (s t : SourceState) (h : Continues old now s t) whe
   step_type x y next u e a d all = subst (step_dtype d) e (a.dtype d (h.goes.dtype d all))
 
   pub step_continues : (x y : Step) (next : Reading) (u : SourceState) → x ≡ y → step_items y ≡ [] → Advances x now next t u → Agree u.live next.desk → next.ordered ≡ now.ordered → SourceMoves (MayAsk t.holds (splits_of now)) t u → Continues old next s u
-  step_continues x y next u e none a agree ordered moves = continues_on next u a.stands agree ordered (subst (λ given. Goes now.ordered t.holds given (splits_of now) (splits_of next)) (ap step_items e ∙ none) a.goes) moves
+  step_continues x y next u e none a agree ordered moves = continues_on next u a.stands agree ordered (subst (λ given. Goes now.ordered t.holds given (splits_of now) (splits_of next)) (ap step_items e ∙ none) a.goes) moves a.begun
 
 -- an array without rows gives nothing
 pub no_rows : (items : List Val) → (length items == 0) ≡ true → map marked items ≡ []

@@ -79,8 +79,8 @@ halted s t u old new h on over seat idle m halts = record {
 }
 
 -- what is given of an array that was read
-pub given_feeds : (s t : SourceState) (old mid new : FeedData) (a : ArrayData) (r : FeedPoll) → old.ended ≡ false → mid.seat ≡ old.seat → Goes old.ordered s.holds (map marked a.items) old.splits mid.splits → a.dtype ≡ old.dtype → 0 < length a.items → FeedsOf a mid new r → Feeds s t old new r
-given_feeds s t old mid new a r on seat g d some h = go r h
+pub given_feeds : (s t : SourceState) (old mid new : FeedData) (a : ArrayData) (r : FeedPoll) → old.ended ≡ false → mid.seat ≡ old.seat → mid.width ≡ old.width → Goes old.ordered s.holds (map marked a.items) old.splits mid.splits → a.dtype ≡ old.dtype → 0 < length a.items → FeedsOf a mid new r → Feeds s t old new r
+given_feeds s t old mid new a r on seat width g d some h = go r h
   where
     claims : (rows : ℕ) → Granted a rows mid new → ClaimsRows s.holds old new a rows
     claims rows k = record {
@@ -95,6 +95,6 @@ given_feeds s t old mid new a r on seat g d some h = go r h
 
     go : (q : FeedPoll) → FeedsOf a mid new q → Feeds s t old new q
     go feed.Pending k = absurd k
-    go (feed.Array x) k = (record { before = on; after = k.2 }, record { array = a; rows = k.0; claims = claims k.0 k.1; some = k.3; is = k.4 })
+    go (feed.Array x) k = (record { before = on; after = k.2; width = (k.1).width ∙ width }, record { array = a; rows = k.0; claims = claims k.0 k.1; some = k.3; is = k.4 })
     go feed.End k = (k.1, inr (a, claims 0 k.0, k.2))
     go (feed.Halt q) k = halts q k.3 k.0 k.1 k.2

@@ -4,6 +4,7 @@ pub mod Continuing
 pub mod Counting
 pub mod Desking
 pub mod Feeding
+pub mod Few
 pub mod Going
 pub mod Handing
 pub mod Looking

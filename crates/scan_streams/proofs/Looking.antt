@@ -1,5 +1,5 @@
 -- What a look at a split, and an arrival, does to it.
-use Rattle.std.proofs.Common.{◌≡◌, List, [], ◌∷◌, map, ◌||◌, refl, ap, ◌∙◌}
+use Rattle.std.proofs.Common.{◌≡◌, ◌+◌, List, [], ◌∷◌, drop, map, ◌||◌, refl, ap, ◌∙◌}
 use Rattle.scan_values.specs.DataType.{DataType}
 use Rattle.scan_values.specs.Marked.{Marked}
 use Rattle.scan_segments.specs.Source.{Store}
@@ -8,6 +8,7 @@ use Rattle.scan_plans.specs.Futures.{FutureData, SameFuture, future_damage, futu
 use Rattle.scan_plans.specs.Masks.{MaskData, SameMask, mask_of, mask_damage, mask_overflow}
 use Rattle.scan_plans.specs.MaskLists.{SameMasks, under, dtype_under, masks_damage, masks_overflow, nulled}
 use Rattle.scan_plans.specs.Meaning.{value_at, overflow_on, plan_dtype, true_rows}
+use Rattle.scan_plans.proofs.RowLemmas.{drop_twice}
 use Rattle.scan_streams.specs.Splits.{Extends}
 
 -- a store that holds what has arrived holds less
@@ -28,6 +29,7 @@ mask_later here more n m e s = record {
   may = s.may;
   lacking = λ most x id. s.lacking most (extends_then here more most e x) id;
   spoiling = λ most x id h. s.spoiling most (extends_then here more most e x) id h;
+  left = s.left;
 }
 
 pub masks_later : (here more : Came) (ns ms : List MaskData) → Extends here more → SameMasks here ns ms → SameMasks more ns ms
@@ -47,6 +49,7 @@ mask_then here l n m s t = record {
   may = λ id h. t.may id (s.may id h);
   lacking = λ more x id. s.lacking more x id ∙ t.lacking more x id;
   spoiling = λ more x id h. t.spoiling more x id (s.spoiling more x id h);
+  left = ((t.left).0 + (s.left).0, (s.left).1 ∙ ap (λ fs. drop (s.left).0 fs) (t.left).1 ∙ drop_twice (t.left).0 (s.left).0 m.filters);
 }
 
 masks_then : (here : Came) (ls ns ms : List MaskData) → SameMasks here ls ns → SameMasks here ns ms → SameMasks here ls ms
@@ -62,7 +65,7 @@ future_then here h g f s t = record { tree = s.tree ∙ t.tree; first = s.first 
 
 masks_self : (here : Came) (ms : List MaskData) → SameMasks here ms ms
 masks_self here [] = tt
-masks_self here (m ∷ ms) = (record { mask = λ store h. refl; overflow = λ store h. refl; damage = λ store h. refl; may = λ id h. h; lacking = λ more x id. refl; spoiling = λ more x id h. h }, masks_self here ms)
+masks_self here (m ∷ ms) = (record { mask = λ store h. refl; overflow = λ store h. refl; damage = λ store h. refl; may = λ id h. h; lacking = λ more x id. refl; spoiling = λ more x id h. h; left = (0, refl) }, masks_self here ms)
 
 pub future_self : (here : Came) (f : FutureData) → SameFuture here f f
 future_self here f = record { tree = refl; first = refl; masks = masks_self here (masks_in f) }

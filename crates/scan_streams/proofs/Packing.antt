@@ -99,7 +99,7 @@ next_done [] = refl
 next_done (f ∷ queue) = refl
 
 pub given_links : (d : Waiters) (xs : List Slot) (p : ℕ) (a : ArrayData) (queue : List FutureData) → p < length xs → slot_at xs p ≡ slot.Done a → Linked d xs → Linked d (set xs p (next_slot queue))
-given_links d xs p a queue lt is l id = at_set (λ q s. waits d id q ≡ slot_waits s id) xs p (next_slot queue) lt (l id p ∙ ap (λ s. slot_waits s id) is ∙ sym (next_waits queue id)) (λ q n. l id q)
+given_links d xs p a queue lt is l = record { same = λ id. at_set (λ q s. waits d id q ≡ slot_waits s id) xs p (next_slot queue) lt (l.same id p ∙ ap (λ s. slot_waits s id) is ∙ sym (next_waits queue id)) (λ q n. l.same id q); live = l.live }
 
 pub given_news : (xs : List Slot) (p : ℕ) (queue : List FutureData) (news : List ℕ) → p < length xs → HasNews xs news → HasNews (set xs p (next_slot queue)) (news ++ news_of queue p)
 given_news xs p queue news lt h = at_set (λ q s. is_fresh s ≡ true → is_among (news ++ news_of queue p) q ≡ true) xs p (next_slot queue) lt (here queue) (λ q n f. among_left news (news_of queue p) q (h q f))

@@ -140,10 +140,10 @@ lacking_wanted : (f : FutureData) (inbox : Arrivals) (ids : List ℕ) (id : ℕ)
 lacking_wanted f inbox ids id h n = (and_both (names_id id (future_wanted f (came inbox))) (is_none (came inbox id)) (sym (h.exact id) ∙ n)).0
 
 pub new_place : (d : Waiters) (slots : List Slot) (p : ℕ) (y : Slot) → Linked d slots → FoundWaits (slot_at slots p) y → (id : ℕ) → waits d id p ≡ false
-new_place d slots p y l f id = l id p ∙ ap (λ s. slot_waits s id) f.was ∙ ready_none f.run id f.ready
+new_place d slots p y l f id = l.same id p ∙ ap (λ s. slot_waits s id) f.was ∙ ready_none f.run id f.ready
 
 pub done_place : (d : Waiters) (slots : List Slot) (p : ℕ) (y : Slot) → Linked d slots → FoundDone (slot_at slots p) y → (id : ℕ) → waits d id p ≡ false
-done_place d slots p y l f id = l id p ∙ ap (λ s. slot_waits s id) f.was ∙ ready_none f.run id f.ready
+done_place d slots p y l f id = l.same id p ∙ ap (λ s. slot_waits s id) f.was ∙ ready_none f.run id f.ready
 
 -- the ids that a split is asked for may be asked
 pub may_ask : (holds : Option Store) (x y : Slot) (s t : SourceState) → FoundWaits x y → SourceMoves (Among (wanted_in y)) s t → SourceMoves (MayAsk holds (slot_split x)) s t
@@ -273,7 +273,7 @@ done_looked holds slots p y f = record {
 }
 
 pub waits_links : (d e : Waiters) (slots : List Slot) (p : ℕ) (y : Slot) → p < length slots → Linked d slots → FoundWaits (slot_at slots p) y → Asked (wanted_in y) p d e → Linked e (set slots p y)
-waits_links d e slots p y lt l f a id = at_set (λ q s. waits e id q ≡ slot_waits s id) slots p y lt here others
+waits_links d e slots p y lt l f a = record { same = λ id. at_set (λ q s. waits e id q ≡ slot_waits s id) slots p y lt (here id) (others id); live = a.1 l.live }
   where
     or_false : (b : Bool) → (b || false) ≡ b
     or_false true = refl
@@ -287,23 +287,23 @@ waits_links d e slots p y lt l f a id = at_set (λ q s. waits e id q ≡ slot_wa
     and_true true = refl
     and_true false = refl
 
-    lacks_all : (b : Bool) → is_among f.next.wanted id ≡ b → b ≡ (b && lacks f.next.inbox id)
-    lacks_all true n = sym (ap (λ i. lacks i id) f.inbox ∙ lacking_lacks (future_wanted f.run.future (came f.run.inbox)) f.run.inbox f.next.wanted f.lacking id n)
-    lacks_all false n = refl
+    lacks_all : (id : ℕ) (b : Bool) → is_among f.next.wanted id ≡ b → b ≡ (b && lacks f.next.inbox id)
+    lacks_all id true n = sym (ap (λ i. lacks i id) f.inbox ∙ lacking_lacks (future_wanted f.run.future (came f.run.inbox)) f.run.inbox f.next.wanted f.lacking id n)
+    lacks_all id false n = refl
 
-    here : waits e id p ≡ slot_waits y id
-    here =
+    here : (id : ℕ) → waits e id p ≡ slot_waits y id
+    here id =
         let on : eqb p p ≡ true = grind (arith, nat_tests) in
-        a id p ∙ ap (λ b. b || (is_among (wanted_in y) id && eqb p p)) (new_place d slots p y l f id) ∙ ap (λ b. is_among (wanted_in y) id && b) on ∙ and_true (is_among (wanted_in y) id)
-        ∙ ap (λ s. is_among (wanted_in s) id) f.now ∙ lacks_all (is_among f.next.wanted id) refl ∙ sym (ap (λ s. slot_waits s id) f.now)
+        a.0 id p ∙ ap (λ b. b || (is_among (wanted_in y) id && eqb p p)) (new_place d slots p y l f id) ∙ ap (λ b. is_among (wanted_in y) id && b) on ∙ and_true (is_among (wanted_in y) id)
+        ∙ ap (λ s. is_among (wanted_in s) id) f.now ∙ lacks_all id (is_among f.next.wanted id) refl ∙ sym (ap (λ s. slot_waits s id) f.now)
 
-    others : (q : ℕ) → q ≢ p → waits e id q ≡ slot_waits (slot_at slots q) id
-    others q n =
+    others : (id q : ℕ) → q ≢ p → waits e id q ≡ slot_waits (slot_at slots q) id
+    others id q n =
         let off : eqb p q ≡ false = grind (arith, nat_tests) in
-        a id q ∙ ap (λ b. waits d id q || (is_among (wanted_in y) id && b)) off ∙ ap (λ b. waits d id q || b) (and_false (is_among (wanted_in y) id)) ∙ or_false (waits d id q) ∙ l id q
+        a.0 id q ∙ ap (λ b. waits d id q || (is_among (wanted_in y) id && b)) off ∙ ap (λ b. waits d id q || b) (and_false (is_among (wanted_in y) id)) ∙ or_false (waits d id q) ∙ l.same id q
 
 pub done_links : (d : Waiters) (slots : List Slot) (p : ℕ) (y : Slot) → p < length slots → Linked d slots → FoundDone (slot_at slots p) y → Linked d (set slots p y)
-done_links d slots p y lt l f id = at_set (λ q s. waits d id q ≡ slot_waits s id) slots p y lt (done_place d slots p y l f id ∙ sym (ap (λ s. slot_waits s id) f.now)) (λ q n. l id q)
+done_links d slots p y lt l f = record { same = λ id. at_set (λ q s. waits d id q ≡ slot_waits s id) slots p y lt (done_place d slots p y l f id ∙ sym (ap (λ s. slot_waits s id) f.now)) (λ q n. l.same id q); live = l.live }
 
 pub waits_steps : (slots : List Slot) (p : ℕ) (y : Slot) → p < length slots → FoundWaits (slot_at slots p) y → slots_steps (set slots p y) ≤ slots_steps slots
 waits_steps slots p y lt f =

@@ -118,7 +118,7 @@ pub none_left : (o : Bool) (k : ℕ) (xs : List Slot) (fs : List FutureData) (ns
 none_left o k xs fs ns ds w h no_news no_wait no_turn no_done = go (le_or_lt (length xs) 0)
   where
     empty_at : (p : ℕ) → is_done (slot_at xs p) ≡ false → is_empty (slot_at xs p) ≡ true
-    empty_at p d = idle_empty (slot_at xs p) (fresh (is_fresh (slot_at xs p)) refl) (λ id. sym (h.links id p) ∙ ap (λ v. waits v id p) no_wait) d
+    empty_at p d = idle_empty (slot_at xs p) (fresh (is_fresh (slot_at xs p)) refl) (λ id. sym (h.links.same id p) ∙ ap (λ v. waits v id p) no_wait) d
       where
         fresh : (b : Bool) → is_fresh (slot_at xs p) ≡ b → is_fresh (slot_at xs p) ≡ false
         fresh true e = let bad : false ≡ true = ap (λ ms. is_among ms p) (sym no_news) ∙ h.has p e in absurd cc
@@ -173,7 +173,7 @@ started_packed (x ∷ xs) h = (λ e. let bad : false ≡ true = sym (ap is_empty
 
 pub stands_new : (o : Bool) (count : ℕ) (splits : List FutureData) (xs : List Slot) (fs : List FutureData) (ns : List ℕ) → Starts count splits xs fs ns → (count ≡ 0 → length splits ≡ 0) → Stands o 0 xs fs ns [] []
 stands_new o count splits xs fs ns h none = record {
-  links = λ id p. sym (started_waits xs h.started id p);
+  links = record { same = λ id p. sym (started_waits xs h.started id p); live = λ id. refl };
   has = h.has;
   lists = λ e p d. let bad : false ≡ true = sym (started_done xs h.started p) ∙ d in absurd cc;
   turn = λ lt. lt;

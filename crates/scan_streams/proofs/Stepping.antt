@@ -1,6 +1,7 @@
 -- What a step does.
 use Rattle.std.proofs.Common.{◌≡◌, ℕ, ◌+◌, ◌<◌, ◌≤◌, List, [], ◌∷◌, ◌++◌, length, set, map, Bool, true, false, Option, Some, None, Result, Ok, Err, IfOk, inl, inr, refl, sym, ap, ◌∙◌, subst, arith, length-append}
 use Rattle.std.specs.Prelude.{IfErr}
+use Rattle.std.proofs.lemmas.List.{length-set}
 use Rattle.scan_segments.specs.Source.{Store, SourceState}
 use Rattle.scan_values.specs.Arrays.{ArrayData}
 use Rattle.scan_values.specs.Val.{marked}
@@ -54,6 +55,7 @@ look_advances place old mid new s t h n l = record {
       let f = ap length n.news in
       omega (arith, a, b, c, d, e, f);
   dtype = λ d all. tt;
+  begun = looked_length s.holds place old.slots.items new.slots.items looked;
 }
   where
     looked : Looked s.holds place old.slots.items new.slots.items
@@ -98,6 +100,7 @@ advances_after x old mid new s t k h = record {
   goes = subst (λ (z : Bool × List SplitData). Goes z.0 s.holds (step_items x) z.1 (splits_of new)) (λ i. (k.ordered i, keeps_splits old mid k i)) h.goes;
   nearer = nearer_after x old mid new s t k h.nearer;
   dtype = λ d all. h.dtype d (subst (AllOf d) (sym (keeps_splits old mid k)) all);
+  begun = h.begun ∙ ap length k.slots;
 }
 
 -- ---- an array whose turn it is
@@ -165,6 +168,7 @@ give_advances place a old mid new s h t g = record {
       let e = t.fewer in
       omega (arith, sum, one, more, x, y, z, n, d, e);
   dtype = λ d all. (first.dtype d all).0;
+  begun = ap length slots ∙ length-set old.slots.items place (next_slot old.queue);
 }
   where
     is : slot_at old.slots.items place ≡ slot.Done a
@@ -225,6 +229,7 @@ pass_advances place old mid new s h t k off = go old.ordered refl
           let f = ap length (t.first e) in
           omega (arith, x, y, z, d, f);
       dtype = λ d all. tt;
+      begun = ap length (k.slots ∙ t.slots);
     }
 
 gives_advances : (x : Step) (place : ℕ) (old mid new : Reading) (s : SourceState) → Standing old → Turned old mid place → Gives place mid new x → Advances x old new s s
@@ -262,6 +267,7 @@ end_step o p old kept new s h n k m t none =
           (subst (λ (z : Bool × (List Slot × ℕ)). z.0 ≡ true → is_done (slot_at z.1.0 z.1.1) ≡ false) (λ i. (a.0.ordered i, (a.0.slots i, a.0.head i))) b.1)
           (subst (λ (z : Bool × List ℕ). z.0 ≡ false → z.1 ≡ []) (λ i. (a.0.ordered i, a.0.done i)) b.2);
       dtype = λ d h. tt;
+      begun = ap length all.slots;
     }
 
 live_standing : (came : Bool) (old new : Reading) (s t : SourceState) → Standing old → FetchesLive came old new s t → Standing new
@@ -279,12 +285,14 @@ fetch_advances step.More old new s t h some f = record {
   goes = live_goes true old new s t f;
   nearer = let a = f.fetched in let b = ap queue_steps f.queue in let c = ap length f.done in omega (arith, a, b, c);
   dtype = λ d all. tt;
+  begun = (f.goes).len;
 }
 fetch_advances step.Pending old new s t h some f = record {
   stands = live_standing false old new s t h f;
   goes = live_goes false old new s t f;
   nearer = f.fetched.2 some;
   dtype = λ d all. tt;
+  begun = (f.goes).len;
 }
 fetch_advances (step.Array a) old new s t h some f = absurd f
 fetch_advances step.End old new s t h some f = absurd f

@@ -18,7 +18,7 @@ use Rattle.scan_streams.specs.Runs.{lacks}
 use Rattle.std.specs.Ordering.{nat_cmp}
 use Rattle.std.specs.BTreeMap.{is_at}
 use Rattle.scan_streams.specs.Measures.{slots_steps}
-use Rattle.scan_streams.specs.Desks.{Waiters, waiters_at, is_in, Moves, Tells, live_ids}
+use Rattle.scan_streams.specs.Desks.{Waiters, waiters_at, is_in, Moves, Tells, live_ids, is_awaited}
 use Rattle.scan_streams.specs.Slots.{slot_at, slot_split, slot_waits, handed, handed_all, AllWait, HasNews}
 use Rattle.scan_streams.specs.Splits.{unread, Goes, Extends, SomeComesTo}
 use Rattle.scan_streams.specs.Looks.{SlotGoes, EachGoes, PolledOne, Fetched}
@@ -165,25 +165,32 @@ waits_handed (slot.Run r) id a q = ap (λ b. is_among r.wanted q && b) (lacks_af
 
 -- those that waited for what arrived wait for it
 pub wait_all : (id : ℕ) (places : List ℕ) (d : Waiters) (slots : List Slot) → Linked d slots → waiters_at d id ≡ Some places → AllWait id places slots
-wait_all id places d slots l is p m = sym (l id p) ∙ ap (λ o. is_in o p) is ∙ m
+wait_all id places d slots l is p m = sym (l.same id p) ∙ ap (λ o. is_in o p) is ∙ m
 
 pub links_after : (id : ℕ) (a : Arrival) (places : List ℕ) (d e : Waiters) (slots : List Slot) → Linked d slots → waiters_at d id ≡ Some places → Moves id None d e → no_repeats places ≡ true → Linked e (handed_all id a places slots)
-links_after id a places d e slots l is m once q p =
-    ap (λ o. is_in o p) (moved id None d e m q)
-    ∙ go (eqb q id) refl (is_among places p) refl
-    ∙ sym (ap (λ x. slot_waits x q) (handed_at id a places slots p (wait_all id places d slots l is) once))
+links_after id a places d e slots l is m once = record {
+  same = λ q p.
+      ap (λ o. is_in o p) (moved id None d e m q)
+      ∙ go q p (eqb q id) refl (is_among places p) refl
+      ∙ sym (ap (λ x. slot_waits x q) (handed_at id a places slots p (wait_all id places d slots l is) once));
+  live = λ q. ap is_awaited (moved id None d e m q) ∙ gone q (eqb q id);
+}
   where
-    go : (b : Bool) → eqb q id ≡ b → (c : Bool) → is_among places p ≡ c → is_in (cond b None (waiters_at d q)) p ≡ slot_waits (cond c (handed id a (slot_at slots p)) (slot_at slots p)) q
-    go true g true n =
+    gone : (q : ℕ) (b : Bool) → is_awaited (cond b None (waiters_at d q)) ≡ true
+    gone q true = refl
+    gone q false = l.live q
+
+    go : (q p : ℕ) (b : Bool) → eqb q id ≡ b → (c : Bool) → is_among places p ≡ c → is_in (cond b None (waiters_at d q)) p ≡ slot_waits (cond c (handed id a (slot_at slots p)) (slot_at slots p)) q
+    go q p true g true n =
         let on : eqb id q ≡ true = grind (arith, nat_tests) in
         sym (waits_handed (slot_at slots p) id a q ∙ ap (λ b. cond b false (slot_waits (slot_at slots p) q)) on)
-    go true g false n =
+    go q p true g false n =
         let same : q ≡ id = grind (arith, nat_tests) in
-        sym (ap (slot_waits (slot_at slots p)) same ∙ sym (l id p) ∙ ap (λ o. is_in o p) is ∙ n)
-    go false g true n =
+        sym (ap (slot_waits (slot_at slots p)) same ∙ sym (l.same id p) ∙ ap (λ o. is_in o p) is ∙ n)
+    go q p false g true n =
         let off : eqb id q ≡ false = grind (arith, nat_tests) in
-        l q p ∙ sym (waits_handed (slot_at slots p) id a q ∙ ap (λ b. cond b false (slot_waits (slot_at slots p) q)) off)
-    go false g false n = l q p
+        l.same q p ∙ sym (waits_handed (slot_at slots p) id a q ∙ ap (λ b. cond b false (slot_waits (slot_at slots p) q)) off)
+    go q p false g false n = l.same q p
 
 pub each_then : (o : Option Store) (a b c : List Slot) → EachGoes o a b → EachGoes o b c → EachGoes o a c
 each_then o a b c g h = record {

@@ -24,6 +24,7 @@ use Rattle.scan_streams.proofs.Going.{goes_refl, goes_then}
 pub record Waited (s u : SourceState) (a b : FeedData) : Type 0 where
   pub same : SameFeed a b
   pub ended : b.ended ≡ a.ended
+  pub width : b.width ≡ a.width
   pub seat : b.seat ≡ a.seat
   pub goes : Goes a.ordered s.holds [] a.splits b.splits
   pub source : SourceMoves (MayFeed s.holds a) s u
@@ -32,6 +33,7 @@ pub waited_none : (s : SourceState) (a : FeedData) → Waited s s a a
 waited_none s a = record {
   same = record { dtype = refl; ordered = refl };
   ended = refl;
+  width = refl;
   seat = refl;
   goes = goes_refl s.holds a.ordered a.splits;
   source = moves_self (MayFeed s.holds a) s;
@@ -103,7 +105,7 @@ module _ (s u : SourceState) (a b : FeedData) (w : Waited s u a b) where
 
   puts_off : (t : SourceState) (c : FeedData) → PutsOff u t b c → PutsOff s t a c
   puts_off t c k = record {
-    goes_on = record { before = sym w.ended ∙ k.goes_on.before; after = k.goes_on.after };
+    goes_on = record { before = sym w.ended ∙ k.goes_on.before; after = k.goes_on.after; width = k.goes_on.width ∙ w.width };
     turns = let m = w.source.turns in let n = k.turns in omega arith;
     goes = goes_before [] c.splits k.goes;
     seat = k.seat ∙ w.seat;
@@ -114,6 +116,7 @@ module _ (s u : SourceState) (a b : FeedData) (w : Waited s u a b) where
   waited_more t c k same m = record {
     same = same_before c same;
     ended = k.goes_on.after ∙ sym (sym w.ended ∙ k.goes_on.before);
+    width = k.goes_on.width ∙ w.width;
     seat = k.seat ∙ w.seat;
     goes = goes_before [] c.splits k.goes;
     source = moves_before t m;
@@ -130,7 +133,7 @@ module _ {M A F : Type 0} (answers : M → ArrayData → Result A F → Type 0) 
   -- the answer of the poll after them, from the first
   pub answers_before : (p : StreamPoll A F) → Answers answers u t b c p → Answers answers s t a c p
   answers_before poll.Pending k = puts_off s u a.feed b.feed w t c.feed k
-  answers_before (poll.Item x) k = (record { before = sym w.ended ∙ k.0.before; after = k.0.after }, maps_before (Ok x) k.1)
+  answers_before (poll.Item x) k = (record { before = sym w.ended ∙ k.0.before; after = k.0.after; width = k.0.width ∙ w.width }, maps_before (Ok x) k.1)
   answers_before poll.End k = (k.0, ends_before s u a.feed b.feed w c.feed k.1)
   answers_before (poll.Fault (fault.Map f)) k = (sym w.ended ∙ k.0, k.1, maps_before (Err f) k.2)
   answers_before (poll.Fault (fault.Setup f)) k = k

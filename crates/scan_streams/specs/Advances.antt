@@ -4,7 +4,7 @@ use Rattle.scan_values.specs.DataType.{DataType}
 use Rattle.scan_segments.specs.Source.{SourceState, Store}
 use Rattle.scan_streams.specs.Looks.{Looked, EachGoes, Fetched, Steps, step_items, step_dtype}
 use Rattle.scan_streams.specs.Measures.{slots_steps}
-use Rattle.scan_streams.specs.Readings.{Standing, Linked, ListsDone, splits_of}
+use Rattle.scan_streams.specs.Readings.{Standing, Linked, ListsDone, slot_count, splits_of}
 use Rattle.scan_streams.specs.Slots.{HasNews}
 use Rattle.scan_streams.specs.Splits.{Goes, AllOf}
 use Rattle.scan_streams.specs.declared.reading.Reading.{Reading}
@@ -47,9 +47,11 @@ FetchesOn old new s t step.Pending = FetchesLive false old new s t
 FetchesOn old new s t (step.Array a) = ⊥
 FetchesOn old new s t step.End = ⊥
 
--- a step: what is true between two steps stays, the splits go on, the end is nearer, and an array has their dtype
+-- a step: what is true between two steps stays, the splits go on, the end is nearer, an array has their dtype, and as
+-- many are read at once
 pub record Advances (step : Step) (old new : Reading) (s t : SourceState) : Type 0 where
   pub stands : Standing new
   pub goes : Goes old.ordered s.holds (step_items step) (splits_of old) (splits_of new)
   pub nearer : Steps step old new s t
   pub dtype : (d : DataType) → AllOf d (splits_of old) → step_dtype d step
+  pub begun : slot_count new ≡ slot_count old

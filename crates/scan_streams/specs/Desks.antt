@@ -28,6 +28,15 @@ is_in (Some places) place = is_among places place
 abbrev pub waits : Waiters → ℕ → ℕ → Bool
 waits d id place = is_in (waiters_at d id) place
 
+-- some place waits for an id, where it is live
+abbrev pub is_awaited : Option (List ℕ) → Bool
+is_awaited None = true
+is_awaited (Some []) = false
+is_awaited (Some (p ∷ ps)) = true
+
+abbrev pub AllAwaited : Waiters → Type 0
+AllAwaited d = (id : ℕ) → is_awaited (waiters_at d id) ≡ true
+
 -- the live requests of a source are those of the desk
 abbrev pub Agree : (ℕ → Bool) → Waiters → Type 0
 Agree live d = (id : ℕ) → live id ≡ is_some (waiters_at d id)

@@ -10,7 +10,7 @@ use Rattle.scan_segments.specs.Source.{SourceState, Store}
 use Rattle.scan_plans.specs.Came.{came, Holds}
 use Rattle.scan_plans.specs.Futures.{future_wanted, future_spoiled, future_overflow, GivesItems, SameFuture}
 use Rattle.scan_plans.specs.Given.{AreLacking}
-use Rattle.scan_streams.specs.Desks.{Waiters, waits}
+use Rattle.scan_streams.specs.Desks.{Waiters, waits, AllAwaited}
 use Rattle.scan_streams.specs.Measures.{slots_steps, steps_left}
 use Rattle.scan_streams.specs.Readings.{splits_of, next_slot, later, news_of, turn_after, Keeps}
 use Rattle.scan_streams.specs.Runs.{RunData, is_ready}
@@ -93,9 +93,9 @@ HaltsAt old halt.NoMemory = Unit {0}
 abbrev pub Among : List ℕ → ℕ → Type 0
 Among ids id = is_among ids id ≡ true
 
--- a place waits for each of these ids too
+-- a place waits for each of these ids too, and some place for each that is live
 abbrev pub Asked : List ℕ → ℕ → Waiters → Waiters → Type 0
-Asked ids place old new = (id p : ℕ) → waits new id p ≡ (waits old id p || (is_among ids id && nat_eq place p))
+Asked ids place old new = ((id p : ℕ) → waits new id p ≡ (waits old id p || (is_among ids id && nat_eq place p))) × (AllAwaited old → AllAwaited new)
 
 -- the slots after a look at one: its split goes on and does not wait for nothing, and the others are as before
 pub record Looked (holds : Option Store) (place : ℕ) (old new : List Slot) : Type 0 where

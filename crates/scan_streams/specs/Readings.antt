@@ -4,7 +4,7 @@ use Rattle.scan_values.specs.Arrays.{ArrayData}
 use Rattle.std.specs.List.{flat_map, list_all}
 use Rattle.scan_values.specs.Selections.{is_among}
 use Rattle.scan_plans.specs.Futures.{FutureData}
-use Rattle.scan_streams.specs.Desks.{Waiters, waits}
+use Rattle.scan_streams.specs.Desks.{Waiters, waits, AllAwaited}
 use Rattle.scan_streams.specs.Slots.{slot_at, slot_split, slot_waits, is_empty, is_done, HasNews}
 use Rattle.scan_streams.specs.Runs.{new_run}
 use Rattle.scan_streams.specs.Splits.{SplitData, new_split}
@@ -20,12 +20,19 @@ ring head slots = drop head slots ++ take head slots
 abbrev pub splits_in : ℕ → List Slot → List FutureData → List SplitData
 splits_in head slots queue = flat_map slot_split (ring head slots) ++ map new_split queue
 
+-- how many splits are read at once: one in each slot. Of those that are queued nothing has been read.
+abbrev pub slot_count : Reading → ℕ
+slot_count r = length r.slots.items
+
 abbrev pub splits_of : Reading → List SplitData
 splits_of r = splits_in r.head r.slots.items r.queue
 
--- the desk knows exactly which slots wait for what
-abbrev pub Linked : Waiters → List Slot → Type 0
-Linked d slots = (id place : ℕ) → waits d id place ≡ slot_waits (slot_at slots place) id
+-- what is live belongs to the slots
+pub record Linked (d : Waiters) (slots : List Slot) : Type 0 where
+  -- the desk knows exactly which slots wait for what
+  pub same : (id place : ℕ) → waits d id place ≡ slot_waits (slot_at slots place) id
+  -- some slot waits for each id that is live
+  pub live : AllAwaited d
 
 -- without an order the slots of arrays are listed
 abbrev pub ListsDone : Bool → List Slot → List ℕ → Type 0

@@ -50,10 +50,11 @@ pub record SameStream {M : Type 0} (old new : StreamData M) : Type 0 where
   pub feed : SameFeed old.feed new.feed
   pub step : new.step ≡ old.step
 
--- it has not ended, neither before nor after
+-- it has not ended, neither before nor after, and reads as many splits at once
 pub record GoesOn (old new : FeedData) : Type 0 where
   pub before : old.ended ≡ false
   pub after : new.ended ≡ false
+  pub width : new.width ≡ old.width
 
 -- nothing is live, and each later poll gives the end
 pub record HasEnded (new : FeedData) : Type 0 where
@@ -118,6 +119,7 @@ Feeds s t old new (feed.Halt h) = HaltsAll s t old new h
 -- what is given of an array that is there: all that is granted of it, the end where that is nothing, or want of memory
 pub record Granted (array : ArrayData) (rows : ℕ) (old new : FeedData) : Type 0 where
   pub splits : new.splits ≡ old.splits
+  pub width : new.width ≡ old.width
   pub granted : Grants old.seat (length array.items) rows new.seat
 
 abbrev pub FeedsOf : ArrayData → FeedData → FeedData → FeedPoll → Type 0

@@ -1,7 +1,7 @@
 //! The arrays of splits in turn, as many rows of each as a limit grants. After the Rust's `scan::repeated_scan` and `scan::limit`.
-ghost use Rattle.std.specs.Prelude.{◌≡◌, ◌<◌, ◌+◌, true, false, IfOk, length, map};
+ghost use Rattle.std.specs.Prelude.{◌≡◌, ◌<◌, ◌+◌, true, false, IfOk, length, map, min};
 ghost use Rattle.scan_segments.specs.Source.{none_live};
-ghost use Rattle.scan_streams.specs.Feeds.{new_feed, ended_feed};
+ghost use Rattle.scan_streams.specs.Feeds.{new_feed, ended_feed, ReadsFew};
 ghost use Rattle.scan_streams.specs.Grants.{Grants, HasRoom, is_spent};
 ghost use Rattle.scan_streams.specs.Looks.{MayAsk};
 ghost use Rattle.scan_streams.specs.Sources.{SourceMoves, NoId};
@@ -18,8 +18,8 @@ use scan_values::{DType, NoMemory};
 use std::alloc::Global;
 use std::marker::Model;
 
-/// The arrays of splits in turn, as many rows of each as a limit grants. Contracts see the splits that are still to be
-/// given, the ids that are live, the seat of the limit, and whether it has ended.
+/// The arrays of splits in turn, as many rows of each as a limit grants. Contracts see how many splits are read at once,
+/// the splits that are still to be given, the ids that are live, the seat of the limit, and whether it has ended.
 #[derive(Drop)]
 pub(crate) struct Feed {
     dtype: DType,
@@ -52,7 +52,7 @@ pub(crate) enum FeedPoll {
 }
 
 impl Feed {
-    /// Splits of which nothing has been read. So many are read at once.
+    /// Splits of which nothing has been read. So many are read at once, or all where they are fewer.
     pub(crate) fn new(
         alloc: Global,
         dtype: DType,
@@ -64,7 +64,8 @@ impl Feed {
         requires concurrency { 0 < concurrency }
         requires dtype { AllOf dtype (map new_split splits) }
         requires room { HasRoom claims (reach (map new_split splits)) }
-        ensures { IfOk result (λ f. f ≡ new_feed dtype ordered (map new_split splits) claims) }
+        ensures { IfOk result (λ f. f ≡ new_feed dtype ordered (min concurrency (length splits))
+            (map new_split splits) claims) }
     {
         let reading = Reading::new(alloc, splits, ordered, concurrency)?;
         Ok(Feed {
@@ -80,6 +81,13 @@ impl Feed {
         ensures { result.now ≡ self.now.dtype }
     {
         &self.dtype
+    }
+
+    /// Of the splits behind those that are read at once nothing has been read.
+    pub(crate) fn reads_few(&self)
+        ensures { ReadsFew self.now }
+    {
+        let _ended = self.ended;
     }
 
     /// The granted rows of the next array, once that is there. Before it halts or ends it drops what is live.

@@ -1,11 +1,11 @@
 //! Splits that are being read, a number of them at once, and their arrays in turn. After the Rust's
 //! `scan::repeated_scan`, which buffers tasks.
-ghost use Rattle.std.specs.Prelude.{◌≡◌, ◌<◌, [], IfOk, OnOk, IfErr, map};
+ghost use Rattle.std.specs.Prelude.{◌≡◌, ◌<◌, [], IfOk, OnOk, IfErr, length, map, min};
 ghost use Rattle.scan_values.specs.DataType.{DataType};
 ghost use Rattle.scan_streams.specs.Advances.{LooksOn, FetchesOn, Advances};
 ghost use Rattle.scan_streams.specs.Desks.{Agree};
 ghost use Rattle.scan_streams.specs.Looks.{Halts, MayAsk, Comes, Gives, next_items, next_dtype};
-ghost use Rattle.scan_streams.specs.Readings.{Standing, Linked, ListsDone, splits_of, turn_after, IsNews, IsTurn};
+ghost use Rattle.scan_streams.specs.Readings.{Standing, Linked, ListsDone, slot_count, splits_of, turn_after, IsNews, IsTurn};
 ghost use Rattle.scan_streams.specs.declared.fault.Halt.TheVariants as halt;
 ghost use Rattle.scan_streams.specs.Slots.{slot_at, slot_split};
 ghost use Rattle.scan_streams.specs.Sources.{SourceMoves, NoId};
@@ -60,7 +60,7 @@ pub(crate) enum Step {
 }
 
 impl Reading {
-    /// Splits of which nothing has been read. So many are read at once.
+    /// Splits of which nothing has been read. So many are read at once, or all where they are fewer.
     pub fn new(
         alloc: Global,
         splits: SplitQueue,
@@ -72,6 +72,7 @@ impl Reading {
         ensures splits { IfOk result (λ r. splits_of r ≡ map new_split splits) }
         ensures desk { IfOk result (λ r. r.desk ≡ []) }
         ensures ordered { IfOk result (λ r. r.ordered ≡ ordered) }
+        ensures begun { IfOk result (λ r. slot_count r ≡ min concurrency (length splits)) }
     {
         let mut queue = splits;
         let count = concurrency.min(queue.len());
@@ -102,6 +103,7 @@ impl Reading {
             (splits_of self.old) (splits_of self.new)) }
         ensures comes { IfOk result (λ n. Comes n self.new (S.state source.old) (S.state source.new)) }
         ensures dtype { IfOk result (λ n. (d : DataType) → AllOf d (splits_of self.old) → next_dtype d n) }
+        ensures begun { OnOk result (slot_count self.new ≡ slot_count self.old) }
         ensures halts { IfErr result (λ h. Halts (S.state source.old) (S.state source.new) (splits_of self.old) h) }
     {
         'steps: loop {
@@ -128,6 +130,7 @@ impl Reading {
         ensures desk { self.new.desk ≡ [] }
         ensures ordered { self.new.ordered ≡ self.old.ordered }
         ensures splits { splits_of self.new ≡ splits_of self.old }
+        ensures begun { slot_count self.new ≡ slot_count self.old }
         ensures agree { Agree (S.state source.new).live self.new.desk }
         ensures source { SourceMoves NoId (S.state source.old) (S.state source.new) }
     {

@@ -1,7 +1,7 @@
 //! A stream of what a map makes of the arrays of splits. After the Rust's `scan::repeated_scan`.
-ghost use Rattle.std.specs.Prelude.{◌≡◌, ◌<◌, IfOk, map};
+ghost use Rattle.std.specs.Prelude.{◌≡◌, ◌<◌, IfOk, length, map, min};
 ghost use Rattle.scan_segments.specs.Source.{none_live};
-ghost use Rattle.scan_streams.specs.Feeds.{new_feed};
+ghost use Rattle.scan_streams.specs.Feeds.{new_feed, ReadsFew};
 ghost use Rattle.scan_streams.specs.Grants.{HasRoom};
 ghost use Rattle.scan_streams.specs.Sources.{SourceMoves, NoId};
 ghost use Rattle.scan_streams.specs.Splits.{AllOf, new_split, reach};
@@ -19,8 +19,9 @@ use std::alloc::Global;
 use std::marker::Model;
 use std::sync::Arc;
 
-/// A stream of what a map makes of the arrays of splits, in split order or as they come. Contracts see what it reads (the
-/// splits that are still to be given, the ids that are live, the seat of its limit, and whether it has ended), and the map.
+/// A stream of what a map makes of the arrays of splits, in split order or as they come. Contracts see what it reads (how
+/// many splits at once, the splits that are still to be given, the ids that are live, the seat of its limit, and whether it
+/// has ended), and the map.
 #[derive(Drop)]
 pub struct ScanStream<M> {
     feed: Feed,
@@ -38,8 +39,8 @@ impl<M> Model for ScanStream<M> {
 }
 
 impl<M: MapStep + Drop> ScanStream<M> {
-    /// A stream of the arrays of these splits, of which so many are read at once. With claims each array's rows are claimed
-    /// before it is mapped.
+    /// A stream of the arrays of these splits, of which so many are read at once, or all where they are fewer. With claims
+    /// each array's rows are claimed before it is mapped.
     pub fn new(
         alloc: Global,
         dtype: DType,
@@ -53,7 +54,8 @@ impl<M: MapStep + Drop> ScanStream<M> {
         requires dtype { AllOf dtype (map new_split splits) }
         requires room { HasRoom claims (reach (map new_split splits)) }
         ensures { IfOk result (λ s. s ≡
-            stream_data (new_feed dtype ordered (map new_split splits) claims) step.value) }
+            stream_data (new_feed dtype ordered (min concurrency (length splits)) (map new_split splits) claims)
+            step.value) }
     {
         let feed = Feed::new(alloc, dtype, splits, ordered, concurrency, claims)?;
         Ok(ScanStream { feed, step })
@@ -64,6 +66,13 @@ impl<M: MapStep + Drop> ScanStream<M> {
         ensures { result.now ≡ (self.now.feed).dtype }
     {
         self.feed.dtype()
+    }
+
+    /// The law of what it reads: nothing of the splits behind the first so many as are read at once. It does nothing.
+    pub fn reads_few_at_once(&self)
+        ensures { ReadsFew (self.now.feed) }
+    {
+        self.feed.reads_few()
     }
 
     /// What the map makes of the next array, once that is there. A fault is given by the poll that meets it. Before a

@@ -54,7 +54,7 @@ returns-in-Ok-Array-clause-answer g c =
     let some : 0 < length a.items = subst (λ (n : Next). Comes n c.next.new.self s u) c.in-Ok-Array.field-0-is c.in-Ok-Array.ensures.comes in
     let old = feed_of c.self.inside.dtype r c.self.inside.claims c.self.inside.ended in
     let mid = feed_of c.self.inside.dtype c.next.new.self c.self.inside.claims c.self.inside.ended in
-    subst (λ (f : FeedData). Feeds s t f c.give.new.self c.give.result) c.self.view_is (given_feeds s t old mid c.give.new.self a c.give.result on refl goes dtype some c.give.ensures.answer)
+    subst (λ (f : FeedData). Feeds s t f c.give.new.self c.give.result) c.self.view_is (given_feeds s t old mid c.give.new.self a c.give.result on refl c.in-Ok-Array.ensures.begun goes dtype some c.give.ensures.answer)
 
 pub returns-in-Err-clause-answer : goal.returns-in-Err-clause-answer
 returns-in-Err-clause-answer g c =

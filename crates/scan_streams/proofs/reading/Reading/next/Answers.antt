@@ -1,6 +1,6 @@
 use Rattle.std.proofs.Common.{◌≡◌, true, refl, sym, ◌∙◌, rules}
 use Rattle.scan_streams.specs.declared.reading.Step.TheVariants as step
-use Rattle.scan_streams.proofs.Continuing.{moves_on, halts_on, step_goes, step_type, step_continues, no_rows}
+use Rattle.scan_streams.proofs.Continuing.{moves_on, halts_on, step_begun, step_goes, step_type, step_continues, no_rows}
 use Rattle.scan_streams.proofs.reading.Reading.next.Goals as goal
 
 pub returns-in-Err-clause-source : goal.returns-in-Err-clause-source
@@ -47,6 +47,21 @@ pub returns-then-not-is_empty-clause-dtype : goal.returns-then-not-is_empty-clau
 returns-then-not-is_empty-clause-dtype g c =
     let state = g.S.SegmentSource.state in
     step_type c.args.self.now c.steps.self (state c.args.source.now) (state c.steps.source) c.steps.invariant c.in-Ok.step (step.Array c.in-Array.array) c.advance.new.self (state c.advance.new.source) c.in-Array.is c.in-Ok.ensures.advances
+
+pub returns-in-Pending-clause-begun : goal.returns-in-Pending-clause-begun
+returns-in-Pending-clause-begun g c =
+    let state = g.S.SegmentSource.state in
+    step_begun c.args.self.now c.steps.self (state c.args.source.now) (state c.steps.source) c.steps.invariant c.in-Ok.step c.advance.new.self (state c.advance.new.source) c.in-Ok.ensures.advances
+
+pub returns-in-End-clause-begun : goal.returns-in-End-clause-begun
+returns-in-End-clause-begun g c =
+    let state = g.S.SegmentSource.state in
+    step_begun c.args.self.now c.steps.self (state c.args.source.now) (state c.steps.source) c.steps.invariant c.in-Ok.step c.advance.new.self (state c.advance.new.source) c.in-Ok.ensures.advances
+
+pub returns-then-not-is_empty-clause-begun : goal.returns-then-not-is_empty-clause-begun
+returns-then-not-is_empty-clause-begun g c =
+    let state = g.S.SegmentSource.state in
+    step_begun c.args.self.now c.steps.self (state c.args.source.now) (state c.steps.source) c.steps.invariant c.in-Ok.step c.advance.new.self (state c.advance.new.source) c.in-Ok.ensures.advances
 
 pub steps-preserved-in-More : goal.steps-preserved-in-More
 steps-preserved-in-More g c =
