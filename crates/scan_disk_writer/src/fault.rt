@@ -35,7 +35,7 @@ pub enum WriteFault {
     #[error("a dtype of a file is no more than 42 deep")]
     Depth,
     /// The layout is not well-formed.
-    #[error("the layout is not well-formed")]
+    #[error("the layout is not well-formed: {0}")]
     Layout(LayoutFault),
     /// The rows are not encoded.
     #[error("{0}")]
