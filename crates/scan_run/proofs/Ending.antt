@@ -1,7 +1,6 @@
 -- What the status of a run tells, at each of its ends.
 use Rattle.std.proofs.Common.{◌≡◌, ◌⊎◌, inl, inr, ℕ, refl, arith}
-use Rattle.scan_segments.specs.Faults.{Rose}
-use Rattle.scan_run.specs.Io.{InputState, OutputState}
+use Rattle.scan_run.specs.Io.{InputState, OutputState, OutputFailed}
 use Rattle.scan_run.specs.Run.{WroteNone}
 use Rattle.scan_run.specs.Stops.{Ends}
 use Rattle.scan_run.specs.Ran.{StatusTells}
@@ -9,7 +8,7 @@ use Rattle.scan_run.proofs.Generating.{other}
 use Rattle.scan_run.proofs.Running.{end_words, end_refused, end_unbound, end_unreadable, end_failing, end_io}
 
 -- words that are not `scan`
-pub tells_other : (s : ℕ) (i : InputState) (o o' : OutputState) → (s ≡ 0) ⊎ (s ≡ 1) ⊎ (s ≡ 6) ⊎ (s ≡ 7) → (s ≡ 6 → Rose o.faults o'.faults) → (s ≡ 1 → WroteNone o o') → StatusTells s i i o o'
+pub tells_other : (s : ℕ) (i : InputState) (o o' : OutputState) → (s ≡ 0) ⊎ (s ≡ 1) ⊎ (s ≡ 6) ⊎ (s ≡ 7) → (s ≡ 6 → OutputFailed o o') → (s ≡ 1 → WroteNone o o') → StatusTells s i i o o'
 tells_other s i o o' ends io none =
     let k = other s ends in
     record {
@@ -51,7 +50,7 @@ module _ (i i' : InputState) (o o' : OutputState) where
   }
 
   -- the output failed
-  pub tells_failed : Rose o.faults o'.faults → StatusTells 6 i i' o o'
+  pub tells_failed : OutputFailed o o' → StatusTells 6 i i' o o'
   tells_failed r = record {
     unread = λ e. absurd (omega arith);
     refused = λ e. absurd (omega arith);

@@ -7,6 +7,7 @@ pub mod Printing
 pub mod Stopping
 pub mod Running
 pub mod Ending
+pub mod Sures
 pub mod Numbers
 pub mod Making
 pub mod Cutting

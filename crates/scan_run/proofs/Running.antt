@@ -9,9 +9,8 @@ use Rattle.scan_run.proofs.Stopping.{text_printed}
 use Rattle.scan_manifest.specs.declared.manifest.Manifest.{Manifest}
 use Rattle.scan_run.specs.declared.run.Stop.{Stop}
 use Rattle.scan_run.specs.declared.run.Stop.TheVariants.{Unbound, Unreadable, Failed, NoMemory}
-use Rattle.scan_run.specs.Io.{InputState, OutputState}
-use Rattle.scan_segments.specs.Faults.{Rose}
-use Rattle.scan_run.specs.ReadAll.{GaveAll, TookMore}
+use Rattle.scan_run.specs.Io.{InputState, OutputState, InputFailed, OutputFailed}
+use Rattle.scan_run.specs.ReadAll.{GaveAll, IsLonger}
 use Rattle.scan_run.specs.WriteAll.{WroteFront}
 use Rattle.scan_manifest.specs.Manifest.{IsManifest}
 use Rattle.scan_run.specs.Run.{IsDone, IsRefused, IsFound, IsUnbound, IsUnreadable, IsFailing}
@@ -114,7 +113,7 @@ module _ (s : ℕ) (old new : InputState) where
   end_failing (inl (inr (inr e))) h = absurd (omega arith)
   end_failing (inr (m, stop, (bytes, g, k), i, e)) h = stop_failing old new bytes m stop g k i (sym e ∙ h)
 
-  pub end_io : (output output' : OutputState) → Ends s old new → s ≡ 6 → (Rose old.faults new.faults ⊎ Rose output.faults output'.faults) ⊎ TookMore 67108864 old new
+  pub end_io : (output output' : OutputState) → Ends s old new → s ≡ 6 → (InputFailed old new ⊎ OutputFailed output output') ⊎ IsLonger 67108864 old new
   end_io output output' (inl (inl (e, r))) h = absurd (omega arith)
   end_io output output' (inl (inr (inl (e, inl r)))) h = inl (inl r)
   end_io output output' (inl (inr (inl (e, inr t)))) h = inr t

@@ -1,5 +1,5 @@
 -- Texts that are written in pieces: what was sent, and what is kept.
-use Rattle.std.proofs.Common.{◌≡◌, ◌≢◌, ℕ, zero, suc, ◌+◌, ◌<◌, ◌≤◌, List, [], ◌∷◌, ◌++◌, length, take, drop, get_or, map, zip, refl, sym, ap, ◌∙◌, append_assoc, append-nil, arith, subst, Option, None, Some}
+use Rattle.std.proofs.Common.{◌≡◌, ◌≢◌, ℕ, zero, suc, ◌+◌, ◌<◌, ◌≤◌, List, [], ◌∷◌, ◌++◌, length, take, drop, get_or, map, zip, refl, sym, ap, ◌∙◌, append_assoc, append-nil, arith, subst, true, Option, None, Some}
 use Rattle.std.specs.Prelude.{option_map, All, slice_get, Result, Ok, Err, OnOk}
 use Rattle.std.specs.List.{flat_map}
 use Rattle.scan_values.specs.DataType.{DataType}
@@ -19,15 +19,15 @@ use Rattle.scan_run.specs.declared.output.WriteFault.TheVariants.{Failed}
 use Rattle.scan_run.proofs.Pieces.{mapped_nil, mapped_twice, nothing_wrote}
 
 pub sends_nothing : (k : List ℕ) (s : OutputState) → Sends [] k k s s
-sends_nothing k s = record { sent = []; parts = append-nil k; written = mapped_nil s.written; faults = omega arith; short = omega arith }
+sends_nothing k s = record { sent = []; parts = append-nil k; written = mapped_nil s.written; faults = omega arith; short = omega arith; can_fail = refl }
 
 -- the text is kept
 pub sends_kept : (x k l : List ℕ) (s : OutputState) → l ≡ k ++ x → Sends x k l s s
-sends_kept x k l s e = record { sent = []; parts = sym e; written = mapped_nil s.written; faults = omega arith; short = omega arith }
+sends_kept x k l s e = record { sent = []; parts = sym e; written = mapped_nil s.written; faults = omega arith; short = omega arith; can_fail = refl }
 
 -- what was kept was written, and the text is kept
 pub sends_whole : (x k l : List ℕ) (a b : OutputState) → b.written ≡ option_map (λ before. before ++ k) a.written → WroteFront k a b → l ≡ x → Sends x k l a b
-sends_whole x k l a b w f e = record { sent = k; parts = ap (λ t. k ++ t) (sym e); written = w; faults = f.faults; short = f.short }
+sends_whole x k l a b w f e = record { sent = k; parts = ap (λ t. k ++ t) (sym e); written = w; faults = f.faults; short = f.short; can_fail = f.can_fail }
 
 pub sends_then : (x y k m l : List ℕ) (a b c : OutputState) → Sends x k m a b → Sends y m l b c → Sends (x ++ y) k l a c
 sends_then x y k m l a b c p q = record {
@@ -36,10 +36,11 @@ sends_then x y k m l a b c p q = record {
   written = q.written ∙ ap (option_map (λ before. before ++ q.sent)) p.written ∙ mapped_twice a.written p.sent q.sent;
   faults = let f = p.faults in let g = q.faults in omega arith;
   short = let f = p.short in let g = q.short in omega arith;
+  can_fail = q.can_fail ∙ p.can_fail;
 }
 
 pub sends_front : (x k l : List ℕ) (a b : OutputState) → Sends x k l a b → WroteFront (k ++ x) a b
-sends_front x k l a b p = record { front = p.sent; rest = l; parts = p.parts; written = p.written; faults = p.faults; short = p.short }
+sends_front x k l a b p = record { front = p.sent; rest = l; parts = p.parts; written = p.written; faults = p.faults; short = p.short; can_fail = p.can_fail }
 
 pub front_then : (x y k m : List ℕ) (a b c : OutputState) → Sends x k m a b → WroteFront (m ++ y) b c → WroteFront (k ++ (x ++ y)) a c
 front_then x y k m a b c p w = record {
@@ -49,10 +50,11 @@ front_then x y k m a b c p w = record {
   written = w.written ∙ ap (option_map (λ before. before ++ w.front)) p.written ∙ mapped_twice a.written p.sent w.front;
   faults = let f = p.faults in let g = w.faults in omega arith;
   short = let f = p.short in let g = w.short in omega arith;
+  can_fail = w.can_fail ∙ p.can_fail;
 }
 
 pub front_more : (x y : List ℕ) (a b : OutputState) → WroteFront x a b → WroteFront (x ++ y) a b
-front_more x y a b w = record { front = w.front; rest = w.rest ++ y; parts = ap (λ t. t ++ y) w.parts ∙ append_assoc w.front w.rest y; written = w.written; faults = w.faults; short = w.short }
+front_more x y a b w = record { front = w.front; rest = w.rest ++ y; parts = ap (λ t. t ++ y) w.parts ∙ append_assoc w.front w.rest y; written = w.written; faults = w.faults; short = w.short; can_fail = w.can_fail }
 
 -- ---- a loop over parts of a text: so much of it was sent or kept, and this is left
 pub record SentSoFar (whole kept left rest : List ℕ) (old new : OutputState) : Type 0 where
@@ -138,18 +140,20 @@ front_last x k m a b c none p w =
 -- ---- what a writer has done at its exits
 module _ (x k l : List ℕ) (a b : OutputState) where
   pub wrote_ok : Sends x k l a b → Writes x k l a b (Ok tt)
-  wrote_ok s = record { ok = s; err = tt; failed = λ e. absurd cc }
+  wrote_ok s = record { ok = s; err = tt; failed = λ e. absurd cc; able = λ e. absurd cc }
 
-  pub wrote_err : (e : WriteFault) → WroteFront (k ++ x) a b → (◌≡◌ {A = Result (Unit {0}) WriteFault} (Err e) (Err Failed) → Rose a.faults b.faults) → Writes x k l a b (Err e)
-  wrote_err e w f = record { ok = tt; err = w; failed = f }
+  pub wrote_err : (e : WriteFault) → WroteFront (k ++ x) a b → (◌≡◌ {A = Result (Unit {0}) WriteFault} (Err e) (Err Failed) → Rose a.faults b.faults)
+      → (◌≡◌ {A = Result (Unit {0}) WriteFault} (Err e) (Err Failed) → a.can_fail ≡ true) → Writes x k l a b (Err e)
+  wrote_err e w f able = record { ok = tt; err = w; failed = f; able = able }
 
 -- the piece that is left was written, after all of a text was sent or kept
 pub writes_last : (x k m : List ℕ) (a b c : OutputState) (r : Result (Unit {0}) WriteFault) → k ≡ [] → Sends x k m a b → WroteFront m b c → OnOk r (c.written ≡ option_map (λ before. before ++ m) b.written)
-    → (r ≡ Err Failed → Rose b.faults c.faults) → WritesAll x a c r
-writes_last x k m a b c r none p w e f = record {
+    → (r ≡ Err Failed → Rose b.faults c.faults) → (r ≡ Err Failed → b.can_fail ≡ true) → WritesAll x a c r
+writes_last x k m a b c r none p w e f able = record {
   front = front_last x k m a b c none p w;
   ok = whole r e;
   failed = λ h. rose_later a.faults b.faults c.faults p.faults (f h);
+  able = λ h. sym p.can_fail ∙ able h;
 }
   where
     whole : (s : Result (Unit {0}) WriteFault) → OnOk s (c.written ≡ option_map (λ before. before ++ m) b.written) → OnOk s (c.written ≡ option_map (λ before. before ++ x) a.written)

@@ -21,7 +21,6 @@ use Rattle.scan_multi.specs.Damaged.{IsDamaged}
 use Rattle.scan_multi.specs.Lawful.{told, told_file, IsLawful, Tells, Agrees, IsIdle, AllGive}
 use Rattle.scan_multi.specs.Overflow.{OverflowsIn}
 use Rattle.scan_multi.specs.Request.{first_request_fault}
-use Rattle.scan_multi.proofs.Complete.{counted-rows}
 use Rattle.scan_opener.specs.declared.opener.MemoryOpener.{MemoryOpener}
 use Rattle.scan_drive.specs.declared.files.ScanFile.{ScanFile}
 use Rattle.scan_multi.specs.declared.scan.fault.RangeFault.TheVariants.{Reversed, Past}
@@ -85,9 +84,10 @@ some (x ∷ xs) k lt h = h x
 
 module _ (m : Manifest) (made new : List File) (are : AreFilesOf m.files made) (lawful : IsLawful memory_opener source_state made empty_cache) where
   -- a file of the manifest of which this holds, and which the scan comes to
-  record Found (Q : FileSpec → Type 0) : Type 0 where
+  record Found (place : ℕ) (Q : FileSpec → Type 0) : Type 0 where
     spec : FileSpec
     there : Contains m.files spec
+    is_there : there.0 ≡ place
     fact : Q spec
     before : IsReached m there.0
 
@@ -97,22 +97,23 @@ module _ (m : Manifest) (made new : List File) (are : AreFilesOf m.files made) (
 
   -- a fact of the file at a place, of what that is made of
   from_file : (place : ℕ) (P : File → File → Type 0) (Q : FileSpec → Type 0) → IsOfFile memory_opener source_state m.workers m.dtype m.request empty_cache made new place P
-      → ((spec : FileSpec) (f g : File) → IsFileOf spec f → P f g → Q spec) → Found Q
+      → ((spec : FileSpec) (f g : File) → IsFileOf spec f → P f g → Q spec) → Found place Q
   from_file place P Q at h = some made place at.there (λ f.
       let r = file_at m.files made are place f at.there in
-      record { spec = r.spec; there = r.there; fact = h r.spec (get_or made place f) (get_or new place f) r.is (at.fact f); before = subst (IsReached m) (sym r.place) (reached place P at) })
+      record { spec = r.spec; there = r.there; is_there = r.place; fact = h r.spec (get_or made place f) (get_or new place f) r.is (at.fact f); before = subst (IsReached m) (sym r.place) (reached place P at) })
 
   bad_file : (place : ℕ) (P : File → File → Type 0) → IsOfFile memory_opener source_state m.workers m.dtype m.request empty_cache made new place P
-      → ((spec : FileSpec) (f g : File) → IsFileOf spec f → P f g → IsBadFile m spec) → IsUnreadable m
-  bad_file place P at h = let r = from_file place P (IsBadFile m) at h in record { late = at.late; file = r.spec; there = r.there; bad = r.fact; before = r.before }
+      → ((spec : FileSpec) (f g : File) → IsFileOf spec f → P f g → IsBadFile m place spec) → IsUnreadable m
+  bad_file place P at h =
+      let r = from_file place P (IsBadFile m place) at h in
+      record { late = at.late; file = r.spec; there = r.there; bad = subst (λ k. IsBadFile m k r.spec) (sym r.is_there) r.fact; before = r.before }
 
   all_give : AllGive memory_opener source_state made
   all_give = All-weaker (Tells memory_opener source_state) (λ (f : File). IsSome (memory_opener f.opener).gives) (λ f t. t.gives) made lawful.tells
 
-  too_many : (place : ℕ) → 2 ^ 64 ≤ rows_in (counted m.request.ordered place (told memory_opener source_state made)) → 2 ^ 64 ≤ rows_in (map told_by m.files)
-  too_many place h =
-      let most = counted-rows m.request.ordered place (told memory_opener source_state made) in
-      subst (λ ts. 2 ^ 64 ≤ rows_in ts) (told_same m.files made are) (omega (arith, h, most))
+  too_many : (place : ℕ) → 2 ^ 64 ≤ rows_in (counted m.request.ordered place (told memory_opener source_state made))
+      → 2 ^ 64 ≤ rows_in (counted m.request.ordered place (map told_by m.files))
+  too_many place h = subst (λ ts. 2 ^ 64 ≤ rows_in (counted m.request.ordered place ts)) (told_same m.files made are) h
 
   -- each cause is one that the manifest shows
   pub stopped : (e : ScanFault) → HasCause memory_opener source_state m.workers m.dtype m.request empty_cache made new e → IsStop m (stop_of e)

@@ -3,13 +3,14 @@ use Rattle.std.specs.Prelude.{◌≡◌, List, [], ◌∷◌, Some, All}
 use Rattle.scan_segments.specs.Source.{none_live}
 use Rattle.scan_segments.specs.MemorySource.{source_state}
 use Rattle.scan_segments.specs.Cache.{empty_cache}
-use Rattle.scan_segments.specs.Script.{has_number}
+use Rattle.scan_segments.specs.Script.{ScriptState, has_number}
 use Rattle.scan_segments.specs.declared.memory_source.MemorySource.{MemorySource}
 use Rattle.scan_multi.specs.Lawful.{IsLawful, IsIdle}
 use Rattle.scan_opener.specs.Opener.{OpenerState}
 use Rattle.scan_opener.specs.OpenerMemory.{opener_state}
 use Rattle.scan_opener.specs.declared.opener.MemoryOpener.{MemoryOpener}
 use Rattle.scan_drive.specs.declared.files.ScanFile.{ScanFile}
+use Rattle.scan_manifest.specs.declared.manifest.Calls.{Calls}
 use Rattle.scan_manifest.specs.declared.manifest.FileSpec.{FileSpec}
 use Rattle.scan_run.specs.Run.{given_by, store_of}
 
@@ -25,6 +26,15 @@ pub record IsFileOf (spec : FileSpec) (f : ScanFile MemoryOpener MemorySource) :
   pub holds : (source_state f.source).holds ≡ Some (store_of spec.segments)
   pub source_can_fail : (source_state f.source).can_fail ≡ has_number spec.source.fail
   pub idle : (source_state f.source).live ≡ none_live
+
+-- these calls fail and wait, of which none was made yet
+abbrev pub script_of : Calls → ScriptState
+script_of calls = record { failing = calls.fail; pending = calls.pending; next = Some 0 }
+
+-- its opener and its source have the calls that the manifest names
+pub record HasScripts (spec : FileSpec) (f : ScanFile MemoryOpener MemorySource) : Type 0 where
+  pub opener : f.opener.script ≡ script_of spec.opener
+  pub source : f.source.script ≡ script_of spec.source
 
 -- the files of these, one by one
 abbrev pub AreFilesOf : List FileSpec → List (ScanFile MemoryOpener MemorySource) → Type 0

@@ -1,5 +1,5 @@
 -- What an input and an output are.
-use Rattle.std.specs.Prelude.{ℕ, List, Option}
+use Rattle.std.specs.Prelude.{◌≡◌, ℕ, Bool, true, List, Option}
 use Rattle.scan_segments.specs.Faults.{Rose}
 
 -- what an input is, as far as contracts see it
@@ -10,6 +10,8 @@ pub record InputState : Type 0 where
   pub taken : ℕ
   pub ends : ℕ
   pub faults : ℕ
+  -- whether a read of it may fail
+  pub can_fail : Bool
 
 -- what an output is, as far as contracts see it
 pub record OutputState : Type 0 where
@@ -18,6 +20,15 @@ pub record OutputState : Type 0 where
   -- how often it failed, and how often it found no memory: each up to the greatest number that is kept
   pub faults : ℕ
   pub short : ℕ
+  -- whether a write to it may fail
+  pub can_fail : Bool
+
+-- it failed, as it may
+abbrev pub InputFailed : InputState → InputState → Type 0
+InputFailed old new = Rose old.faults new.faults × (old.can_fail ≡ true)
+
+abbrev pub OutputFailed : OutputState → OutputState → Type 0
+OutputFailed old new = Rose old.faults new.faults × (old.can_fail ≡ true)
 
 -- the input was read to its end
 abbrev pub WasRead : InputState → InputState → Type 0

@@ -7,6 +7,7 @@ pub mod Memory
 pub mod Std
 pub mod Line
 pub mod Run
+pub mod Sure
 pub mod Printed
 pub mod FileOf
 pub mod Stops

@@ -1,6 +1,7 @@
 -- What an input and an output in memory answer by their scripts, and what each answer leaves.
 use Rattle.std.specs.Prelude.{◌≡◌, ◌⊎◌, ℕ, ◌+◌, List, ◌++◌, length, take, drop, min, Option, Some, option_map, nat_lt, if◌then◌else◌}
 use Rattle.scan_segments.specs.Faults.{capped, one_more}
+use Rattle.scan_segments.specs.Script.{ScriptState, has_number}
 use Rattle.scan_segments.specs.declared.script.Outcome.{Outcome}
 use Rattle.scan_segments.specs.declared.script.Outcome.TheVariants.{Goes, Waits, Fails}
 use Rattle.scan_run.specs.Io.{InputState, OutputState}
@@ -43,10 +44,11 @@ state_after_write bytes (output.Took n) s = record s { written = option_map (λ 
 state_after_write bytes output.Failed s = record s { faults = one_more s.faults }
 state_after_write bytes output.NoMemory s = record s { short = one_more s.short }
 
--- the bytes from a place on, as an input
-abbrev pub memory_input : List ℕ → ℕ → ℕ → ℕ → ℕ → InputState
-memory_input bytes at taken ends faults = record { left = Some (drop at bytes); taken = taken; ends = ends; faults = faults }
+-- the bytes from a place on, as an input: it can fail where a call of its script does
+abbrev pub memory_input : List ℕ → ScriptState → ℕ → ℕ → ℕ → ℕ → InputState
+memory_input bytes script at taken ends faults =
+    record { left = Some (drop at bytes); taken = taken; ends = ends; faults = faults; can_fail = has_number script.failing }
 
--- what was taken, as an output
-abbrev pub memory_output : List ℕ → ℕ → ℕ → OutputState
-memory_output bytes faults short = record { written = Some bytes; faults = faults; short = short }
+-- what was taken, as an output, likewise
+abbrev pub memory_output : List ℕ → ScriptState → ℕ → ℕ → OutputState
+memory_output bytes script faults short = record { written = Some bytes; faults = faults; short = short; can_fail = has_number script.failing }

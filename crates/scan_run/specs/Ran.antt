@@ -1,16 +1,18 @@
 -- What a run of the program has done, by its words and its status.
 use Rattle.std.specs.Prelude.{ℕ, ◌≡◌, ◌⊎◌, ◌<◌, List}
-use Rattle.scan_segments.specs.Faults.{Rose}
-use Rattle.scan_run.specs.Io.{InputState, OutputState}
-use Rattle.scan_run.specs.ReadAll.{TookMore}
+use Rattle.scan_run.specs.Io.{InputState, OutputState, InputFailed, OutputFailed}
+use Rattle.scan_run.specs.ReadAll.{IsLonger}
 use Rattle.scan_run.specs.Run.{IsDone, IsRefused, IsFound, IsUnbound, IsUnreadable, IsFailing, WroteNone}
 use Rattle.scan_run.specs.Stops.{WroteFrontOfLines}
 use Rattle.scan_run.specs.GeneratedLine.{IsGenerated, WroteFrontOfLine}
+use Rattle.scan_run.specs.Sure.{RunsOn, Answers}
 
 -- with the words `scan`
 pub record RanScan (status : ℕ) (input input' : InputState) (output output' : OutputState) : Type 0 where
   -- with 0 the lines were written
   pub done : status ≡ 0 → IsDone input input' output output'
+  -- over an input that tells its bytes, no more than are read, where neither it nor the output can fail: one status or 7
+  pub answers : (bytes : List ℕ) → RunsOn bytes input output → Answers bytes status
   -- whatever the status, what was written is a front of such lines
   pub front : WroteFrontOfLines input input' output output'
 
@@ -37,9 +39,9 @@ pub record StatusTells (status : ℕ) (input input' : InputState) (output output
   pub unreadable : status ≡ 4 → IsFound input input' IsUnreadable
   -- 5: an opener or a source failed
   pub failing : status ≡ 5 → IsFound input input' IsFailing
-  -- 6: the input or the output failed, or the input is too long
-  pub io : status ≡ 6 → (Rose input.faults input'.faults ⊎ Rose output.faults output'.faults) ⊎ TookMore 67108864 input input'
+  -- 6: the input or the output failed, which can, or the input is too long, as far as it tells its bytes
+  pub io : status ≡ 6 → (InputFailed input input' ⊎ OutputFailed output output') ⊎ IsLonger 67108864 input input'
   -- from 1 to 5: nothing was written
   pub nothing : 0 < status → status < 6 → WroteNone output output'
   -- 6: nothing was written where the output did not fail
-  pub unwritten : status ≡ 6 → Rose output.faults output'.faults ⊎ WroteNone output output'
+  pub unwritten : status ≡ 6 → OutputFailed output output' ⊎ WroteNone output output'

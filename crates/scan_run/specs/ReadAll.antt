@@ -14,6 +14,7 @@ pub record CameIn (bytes : List ℕ) (old new : InputState) : Type 0 where
   pub taken : RaisedBy (length bytes) old.taken new.taken
   pub ends : new.ends ≡ old.ends
   pub faults : old.faults ≤ new.faults
+  pub can_fail : new.can_fail ≡ old.can_fail
 
 -- these are all bytes of an input, which was read to its end
 pub record GaveAll (bytes : List ℕ) (old new : InputState) : Type 0 where
@@ -28,3 +29,8 @@ TookMore n old new = new.taken < 2 ^ 64 - 1 → old.taken + n < new.taken
 -- so many bytes were read at most, unless the count stands at its greatest value
 abbrev pub TookAtMost : ℕ → InputState → InputState → Type 0
 TookAtMost n old new = new.taken < 2 ^ 64 - 1 → new.taken ≤ old.taken + n
+
+-- more bytes were read than so many, which the input has, where it tells them
+pub record IsLonger (n : ℕ) (old new : InputState) : Type 0 where
+  pub took : TookMore n old new
+  pub told : IfSome old.left (λ bytes. n < length bytes)

@@ -11,6 +11,7 @@ use Rattle.scan_expr.specs.Infer.{infer}
 use Rattle.scan_opener.specs.Opener.{Given, skip, layout_of}
 use Rattle.scan_multi.specs.Answer.{Item, ToldFile, answer}
 use Rattle.scan_multi.specs.Before.{ReachesFile}
+use Rattle.scan_multi.specs.Causes.{counted}
 use Rattle.scan_multi.specs.Output.{ChunkData, Admits, given}
 use Rattle.scan_multi.specs.Request.{first_request_fault}
 use Rattle.scan_segments.specs.Script.{has_number}
@@ -90,15 +91,16 @@ pub record IsFound (input input' : InputState) (P : Manifest → Type 0) : Type 
 abbrev pub IsUnbound : Manifest → Type 0
 IsUnbound m = (e : ScanFault) × (first_request_fault m.workers m.dtype m.request ≡ Some e)
 
--- What is wrong with a file: its layout is of another dtype, or not well-formed, or has fewer rows than the range; a named
--- segment is missing or damaged; an expression overflows; or it stands among files of 2 ^ 64 rows or more.
-pub data IsBadFile (m : Manifest) (f : FileSpec) : Type 0 where
-  of_type : IsOfOtherType m.dtype (given_by f) → IsBadFile m f
-  of_layout : (fault : LayoutFault) → IsIllFormed m.dtype fault (given_by f) → IsBadFile m f
-  of_range : EndsPast m.dtype m.request (given_by f) → IsBadFile m f
-  of_segment : (id : ℕ) → IsDamaged m.dtype m.request (told_by f) id → IsBadFile m f
-  of_overflow : OverflowsIn m.dtype m.request (given_by f) (store_of f.segments) → IsBadFile m f
-  of_rows : 2 ^ 64 ≤ rows_in (map told_by m.files) → IsBadFile m f
+-- What is wrong with the file at a place: its layout is of another dtype, or not well-formed, or has fewer rows than the
+-- range; a named segment is missing or damaged; an expression overflows; or the files, in an ordered scan those up to this
+-- one, have 2 ^ 64 rows or more.
+pub data IsBadFile (m : Manifest) (place : ℕ) (f : FileSpec) : Type 0 where
+  of_type : IsOfOtherType m.dtype (given_by f) → IsBadFile m place f
+  of_layout : (fault : LayoutFault) → IsIllFormed m.dtype fault (given_by f) → IsBadFile m place f
+  of_range : EndsPast m.dtype m.request (given_by f) → IsBadFile m place f
+  of_segment : (id : ℕ) → IsDamaged m.dtype m.request (told_by f) id → IsBadFile m place f
+  of_overflow : OverflowsIn m.dtype m.request (given_by f) (store_of f.segments) → IsBadFile m place f
+  of_rows : 2 ^ 64 ≤ rows_in (counted m.request.ordered place (map told_by m.files)) → IsBadFile m place f
 
 -- the request itself has no fault
 abbrev pub HasNoFault : Manifest → Type 0
@@ -113,7 +115,7 @@ pub record IsUnreadable (m : Manifest) : Type 0 where
   pub late : HasNoFault m
   pub file : FileSpec
   pub there : Contains m.files file
-  pub bad : IsBadFile m file
+  pub bad : IsBadFile m there.0 file
   pub before : IsReached m there.0
 
 -- what of a file may fail, where a call of its script does: its opener, or the source of a file that is read

@@ -1,5 +1,5 @@
 -- What a read of a reader of std, or a write of a writer, gives, by what these tell of their bytes.
-use Rattle.std.specs.Prelude.{ℕ, List, take, Option, None}
+use Rattle.std.specs.Prelude.{ℕ, List, take, true, Option, None}
 use Rattle.std.specs.Io.KnownBytes.{Consumes, Appends, Keeps, IsAtEnd}
 use Rattle.scan_run.specs.Io.{InputState, OutputState}
 use Rattle.scan_run.specs.declared.input.InputRead.{InputRead}
@@ -21,8 +21,8 @@ WritesTo old new bytes output.NoMemory = ⊥
 
 -- an input that tells no bytes
 abbrev pub std_input : ℕ → ℕ → ℕ → InputState
-std_input taken ends faults = record { left = None; taken = taken; ends = ends; faults = faults }
+std_input taken ends faults = record { left = None; taken = taken; ends = ends; faults = faults; can_fail = true }
 
 -- an output that tells no bytes, and takes no memory
 abbrev pub std_output : ℕ → OutputState
-std_output faults = record { written = None; faults = faults; short = 0 }
+std_output faults = record { written = None; faults = faults; short = 0; can_fail = true }

@@ -7,9 +7,8 @@ use Rattle.scan_multi.specs.declared.scan.fault.ScanFault.TheVariants as fault
 use Rattle.scan_run.specs.declared.run.Stop.{Stop}
 use Rattle.scan_run.specs.declared.run.Stop.TheVariants.{Unbound, Unreadable, Failed, NoMemory}
 use Rattle.scan_manifest.specs.declared.manifest.Manifest.{Manifest}
-use Rattle.scan_run.specs.Io.{InputState, OutputState, WasRead}
-use Rattle.scan_segments.specs.Faults.{Rose}
-use Rattle.scan_run.specs.ReadAll.{GaveAll, TookMore}
+use Rattle.scan_run.specs.Io.{InputState, OutputState, InputFailed, WasRead}
+use Rattle.scan_run.specs.ReadAll.{GaveAll, IsLonger}
 use Rattle.scan_manifest.specs.Manifest.{IsManifest}
 use Rattle.scan_run.specs.Run.{IsScanned, printed, IsRefused, IsUnbound, IsUnreadable, IsFailing, WroteNone}
 
@@ -69,7 +68,7 @@ IsGiven m old new = (bytes : List ℕ) × GaveAll bytes old new × IsManifest by
 
 -- a status before there is a manifest
 abbrev pub Halts : ℕ → InputState → InputState → Type 0
-Halts s old new = ((s ≡ 2) × IsRefused old new) ⊎ ((s ≡ 6) × (Rose old.faults new.faults ⊎ TookMore 67108864 old new)) ⊎ (s ≡ 7)
+Halts s old new = ((s ≡ 2) × IsRefused old new) ⊎ ((s ≡ 6) × (InputFailed old new ⊎ IsLonger 67108864 old new)) ⊎ (s ≡ 7)
 
 -- a status before anything is written
 abbrev pub Ends : ℕ → InputState → InputState → Type 0

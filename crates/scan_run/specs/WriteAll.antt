@@ -10,6 +10,7 @@ pub record WroteFront (bytes : List ℕ) (old new : OutputState) : Type 0 where
   pub written : new.written ≡ option_map (λ before. before ++ front) old.written
   pub faults : old.faults ≤ new.faults
   pub short : old.short ≤ new.short
+  pub can_fail : new.can_fail ≡ old.can_fail
 
 -- Behind what was kept so far a text was made. A front of both was written, and the rest is kept now.
 pub record Sends (text kept left : List ℕ) (old new : OutputState) : Type 0 where
@@ -18,3 +19,4 @@ pub record Sends (text kept left : List ℕ) (old new : OutputState) : Type 0 wh
   pub written : new.written ≡ option_map (λ before. before ++ sent) old.written
   pub faults : old.faults ≤ new.faults
   pub short : old.short ≤ new.short
+  pub can_fail : new.can_fail ≡ old.can_fail

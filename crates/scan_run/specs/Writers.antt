@@ -1,5 +1,5 @@
 -- What a writer of lines does.
-use Rattle.std.specs.Prelude.{◌≡◌, List, ℕ, ◌++◌, Result, Err, OnOk, OnErr, option_map}
+use Rattle.std.specs.Prelude.{◌≡◌, List, ℕ, ◌++◌, true, Result, Err, OnOk, OnErr, option_map}
 use Rattle.scan_segments.specs.Faults.{Rose}
 use Rattle.scan_run.specs.Io.{OutputState}
 use Rattle.scan_run.specs.WriteAll.{WroteFront, Sends}
@@ -12,8 +12,9 @@ pub record Writes (text kept left : List ℕ) (old new : OutputState) (result : 
   pub ok : OnOk result (Sends text kept left old new)
   -- after a fault a front of both was written
   pub err : OnErr result (WroteFront (kept ++ text) old new)
-  -- `Failed` comes only where the output's count of faults rose
+  -- `Failed` comes only where the output's count of faults rose, of one that may fail
   pub failed : result ≡ Err Failed → Rose old.faults new.faults
+  pub able : result ≡ Err Failed → old.can_fail ≡ true
 
 -- a text was written
 pub record WritesAll (text : List ℕ) (old new : OutputState) (result : Result (Unit {0}) WriteFault) : Type 0 where
@@ -21,5 +22,6 @@ pub record WritesAll (text : List ℕ) (old new : OutputState) (result : Result 
   pub front : WroteFront text old new
   -- the whole of it
   pub ok : OnOk result (new.written ≡ option_map (λ before. before ++ text) old.written)
-  -- `Failed` comes only where the output's count of faults rose
+  -- `Failed` comes only where the output's count of faults rose, of one that may fail
   pub failed : result ≡ Err Failed → Rose old.faults new.faults
+  pub able : result ≡ Err Failed → old.can_fail ≡ true

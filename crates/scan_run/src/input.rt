@@ -1,5 +1,5 @@
 //! An input: bytes that come in pieces, until its end or a fault.
-ghost use Rattle.std.specs.Prelude.{◌≡◌, ◌≢◌, ◌<◌, ◌≤◌, ◌+◌, ◌-◌, ◌^◌, ◌↔◌, length, IfOk};
+ghost use Rattle.std.specs.Prelude.{◌≡◌, ◌≢◌, ◌<◌, ◌≤◌, ◌+◌, ◌-◌, ◌^◌, ◌↔◌, length, true, IfOk, IfSome};
 ghost use Rattle.scan_segments.specs.Faults.{Rose};
 ghost use Rattle.scan_run.specs.Io.{InputState};
 ghost use Rattle.scan_run.specs.Answers.{IsRead};
@@ -24,7 +24,7 @@ pub enum InputRead {
 
 /// An input that is read in pieces.
 pub trait Input {
-    /// The bytes still to come, what was taken, its ends and its faults.
+    /// The bytes still to come, what was taken, its ends and its faults, and whether it may fail.
     ghost input: { Self → InputState };
 
     /// Reads at most as many bytes as the buffer has.
@@ -57,10 +57,18 @@ impl From<AllocError> for ReadFault {
 
 /// The bytes of an input, read to its end. More than `MOST_BYTES` bytes are refused, and then no more are read: whatever
 /// is answered, at most 65,536 bytes were read beyond them.
+///
+/// # Errors
+///
+/// `Failed` only where the input's count of faults rose, of one that may fail; `TooLong` only where more bytes came than
+/// `MOST_BYTES`, which the input has, where it tells them; and `NoMemory`.
+#[tactic(auto, using(crate::proofs::Pieces::came_long))]
 pub fn read_all<I: Input>(alloc: Global, input: &mut I) -> Result<Vec<u8>, ReadFault>
     ensures ok { IfOk result (λ bytes. GaveAll bytes.items (I.input input.old) (I.input input.new)) }
     ensures failed { result ≡ Err ReadFault.Failed → Rose (I.input input.old).faults (I.input input.new).faults }
+    ensures able { result ≡ Err ReadFault.Failed → (I.input input.old).can_fail ≡ true }
     ensures long { result ≡ Err ReadFault.TooLong → TookMore MOST_BYTES (I.input input.old) (I.input input.new) }
+    ensures told { result ≡ Err ReadFault.TooLong → IfSome (I.input input.old).left (λ all. MOST_BYTES < length all) }
     ensures short { result ≢ Err ReadFault.NoMemory → result ≢ Err ReadFault.TooLong →
         TookAtMost MOST_BYTES (I.input input.old) (I.input input.new) }
     ensures bound { IfOk result (λ bytes. length bytes.items ≤ MOST_BYTES) }

@@ -47,20 +47,25 @@ pub(crate) fn no_numbers(alloc: Global) -> StrictSorted
 }
 
 impl Input for MemoryInput {
-    ghost input = { λ s. memory_input s.bytes.items s.at s.taken s.ends s.faults };
+    ghost input = { λ s. memory_input s.bytes.items s.script s.at s.taken s.ends s.faults };
 
+    #[tactic(auto, using(crate::proofs::MemoryPieces::fails_able))]
     fn read_some(&mut self, buf: &mut [u8]) -> InputRead
         requires { 0 < length buf.old }
         ensures read { IsRead
-            (memory_input self.old.bytes.items self.old.at self.old.taken self.old.ends self.old.faults)
-            (memory_input self.new.bytes.items self.new.at self.new.taken self.new.ends self.new.faults) buf.new result }
+            (memory_input self.old.bytes.items self.old.script self.old.at self.old.taken self.old.ends
+            self.old.faults)
+            (memory_input self.new.bytes.items self.new.script self.new.at self.new.taken self.new.ends
+            self.new.faults) buf.new result }
         ensures answer { result
             ≡ read_by (outcome_of self.old.script) (length buf.old) (drop self.old.at self.old.bytes.items) }
         ensures buffer { buf.new ≡ buffer_after result (drop self.old.at self.old.bytes.items) buf.old }
         ensures script { self.new.script ≡ stepped self.old.script }
-        ensures after { memory_input self.new.bytes.items self.new.at self.new.taken self.new.ends self.new.faults
+        ensures after { memory_input self.new.bytes.items self.new.script self.new.at self.new.taken self.new.ends
+            self.new.faults
             ≡ state_after_read result
-            (memory_input self.old.bytes.items self.old.at self.old.taken self.old.ends self.old.faults) }
+            (memory_input self.old.bytes.items self.old.script self.old.at self.old.taken self.old.ends
+            self.old.faults) }
     {
         if let Outcome::Fails = self.script.step() {
             self.faults = self.faults.saturating_add(1);

@@ -44,16 +44,19 @@ impl MemoryOutput {
 }
 
 impl Output for MemoryOutput {
-    ghost output = { λ s. memory_output s.bytes.items s.faults s.short };
+    ghost output = { λ s. memory_output s.bytes.items s.script s.faults s.short };
 
+    #[tactic(auto, using(crate::proofs::MemoryPieces::fails_able))]
     fn write_some(&mut self, bytes: &[u8]) -> OutputWrite
         requires { 0 < length bytes.now }
-        ensures written { IsWritten bytes.now (memory_output self.old.bytes.items self.old.faults self.old.short)
-            (memory_output self.new.bytes.items self.new.faults self.new.short) result }
+        ensures written { IsWritten bytes.now
+            (memory_output self.old.bytes.items self.old.script self.old.faults self.old.short)
+            (memory_output self.new.bytes.items self.new.script self.new.faults self.new.short) result }
         ensures answer { IsWriteBy (outcome_of self.old.script) (length bytes.now) result }
         ensures script { self.new.script ≡ stepped self.old.script }
-        ensures after { memory_output self.new.bytes.items self.new.faults self.new.short
-            ≡ state_after_write bytes.now result (memory_output self.old.bytes.items self.old.faults self.old.short) }
+        ensures after { memory_output self.new.bytes.items self.new.script self.new.faults self.new.short
+            ≡ state_after_write bytes.now result
+            (memory_output self.old.bytes.items self.old.script self.old.faults self.old.short) }
     {
         if let Outcome::Fails = self.script.step() {
             self.faults = self.faults.saturating_add(1);

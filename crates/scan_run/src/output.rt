@@ -1,5 +1,5 @@
 //! An output: it takes bytes in pieces, or fails.
-ghost use Rattle.std.specs.Prelude.{◌≡◌, ◌<◌, ◌++◌, length, option_map, OnOk};
+ghost use Rattle.std.specs.Prelude.{◌≡◌, ◌<◌, ◌++◌, length, option_map, true, OnOk};
 ghost use Rattle.scan_segments.specs.Faults.{Rose};
 ghost use Rattle.scan_run.specs.Io.{OutputState};
 ghost use Rattle.scan_run.specs.Answers.{IsWritten};
@@ -17,7 +17,7 @@ pub enum OutputWrite {
 
 /// An output that is written in pieces.
 pub trait Output {
-    /// The bytes that it took, its faults, and how often it found no memory.
+    /// The bytes that it took, its faults, how often it found no memory, and whether it may fail.
     ghost output: { Self → OutputState };
 
     /// Takes bytes from the front of these.
@@ -39,12 +39,13 @@ pub enum WriteFault {
 ///
 /// # Errors
 ///
-/// `Failed` and `NoMemory`, each only where the output's count of these rose.
+/// `Failed` and `NoMemory`, each only where the output's count of these rose, and `Failed` only of one that may fail.
 pub fn write_all<O: Output>(output: &mut O, bytes: &[u8]) -> Result<(), WriteFault>
     ensures front { WroteFront bytes.now (O.output output.old) (O.output output.new) }
     ensures ok { OnOk result ((O.output output.new).written ≡
         option_map (λ before. before ++ bytes.now) (O.output output.old).written) }
     ensures failed { result ≡ Err WriteFault.Failed → Rose (O.output output.old).faults (O.output output.new).faults }
+    ensures able { result ≡ Err WriteFault.Failed → (O.output output.old).can_fail ≡ true }
     ensures memory { result ≡ Err WriteFault.NoMemory → Rose (O.output output.old).short (O.output output.new).short }
 {
     let mut rest = bytes;

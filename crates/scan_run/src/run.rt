@@ -1,17 +1,17 @@
 //! The program's run, over any input and output.
 ghost use Rattle.std.specs.Prelude.{◌≡◌, ◌≢◌, ◌⊎◌, ◌↔◌, ◌<◌, ◌≤◌, ◌+◌, [], ◌∷◌, List, length, map, string_bytes, false, true, IfOk, IfErr, Some, None, if◌then◌else◌};
-ghost use Rattle.scan_segments.specs.Faults.{Rose};
 ghost use Rattle.scan_segments.specs.Cache.{empty_cache};
 ghost use Rattle.scan_caches.specs.Bounded.{bounded, keyed_state};
 ghost use Rattle.scan_opener.specs.Opener.{skip, layout_of};
 ghost use Rattle.scan_opener.specs.OpenerMemory.{given_of};
 ghost use Rattle.scan_multi.specs.Output.{ChunkData};
 ghost use Rattle.scan_multi.specs.declared.scan.fault.ScanFault.TheVariants as fault;
+ghost use Rattle.scan_run.specs.Io.{OutputFailed};
 ghost use Rattle.scan_run.specs.Run.{is_scan_words, IsScanned, WroteNone};
 ghost use Rattle.scan_run.specs.Stops.{stop_of, status_of, IsStop, IsGiven, Halts, IsReady, Ends};
 ghost use Rattle.scan_run.specs.Ran.{RanScan, RanOther, StatusTells};
 ghost use Rattle.scan_run.specs.GeneratedLine.{IsGenerated, WroteFrontOfLine, AskNothing};
-ghost use Rattle.scan_run.specs.FileOf.{IsFileOf, AreFilesOf, AreReady};
+ghost use Rattle.scan_run.specs.FileOf.{IsFileOf, HasScripts, AreFilesOf, AreReady};
 ghost use Rattle.scan_run.specs.AskedOf.{IsAsked};
 ghost use Rattle.scan_manifest.specs.Manifest.{all_agree};
 ghost use Rattle.scan_manifest.specs.declared.manifest.FileSpec.{FileSpec};
@@ -60,7 +60,8 @@ fn make_file(
     alloc: Global,
     spec: FileSpec,
 ) -> Result<ScanFile<MemoryOpener, MemorySource>, NoMemory>
-    ensures { IfOk result (λ f. IsFileOf spec f) }
+    ensures file { IfOk result (λ f. IsFileOf spec f) }
+    ensures scripts { IfOk result (λ f. HasScripts spec f) }
 {
     let FileSpec {
         id,
@@ -241,7 +242,7 @@ fn scan_made<R: Threads + Sync, G: Gate, S: BuildHasher + Copy + Drop>(
 }
 
 /// The manifest of an input that is read to its end, or a status.
-#[tactic(auto, using(crate::proofs::Stopping::files_agree))]
+#[tactic(auto, using(crate::proofs::Stopping::files_agree, crate::proofs::Sures::halts_failed, crate::proofs::Sures::halts_long))]
 fn take_manifest<I: Input>(alloc: Global, input: &mut I) -> Result<Manifest, u8>
     ensures ok { IfOk result (λ m. IsGiven m (I.input input.old) (I.input input.new)) }
     ensures agree { IfOk result (λ m. all_agree m.files ≡ true) }
@@ -292,7 +293,7 @@ fn run_generated<R: Threads + Sync, O: Output, G: Gate>(
 ) -> u8
     ensures done { result ≡ 0 → IsGenerated (map string_bytes words.now) (O.output output.old) (O.output output.new) }
     ensures words { (result ≡ 1) ↔ AskNothing (map string_bytes words.now) }
-    ensures io { result ≡ 6 → Rose (O.output output.old).faults (O.output output.new).faults }
+    ensures io { result ≡ 6 → OutputFailed (O.output output.old) (O.output output.new) }
     ensures nothing { result ≡ 1 → WroteNone (O.output output.old) (O.output output.new) }
     ensures front { WroteFrontOfLine (map string_bytes words.now) (O.output output.old) (O.output output.new) }
     ensures ends { (result ≡ 0) ⊎ (result ≡ 1) ⊎ (result ≡ 6) ⊎ (result ≡ 7) }

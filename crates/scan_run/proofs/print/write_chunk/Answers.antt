@@ -15,7 +15,7 @@ returns-in_err-front g c =
     let x = chunk_lines c.args.chunk.now in
     let s = g.O.Output.output c.args.output.now in
     let p = err_from_is_err_and c.from_residual.result c.from_residual.ensures.1 in
-    rw (p.1, p.2) (wrote_err x c.args.piece.now _ s s NoMemory (nothing_wrote (c.args.piece.now ++ x) s) (λ h. absurd cc))
+    rw (p.1, p.2) (wrote_err x c.args.piece.now _ s s NoMemory (nothing_wrote (c.args.piece.now ++ x) s) (λ h. absurd cc) (λ h. absurd cc))
 
 pub returns : goal.returns
 returns g c =

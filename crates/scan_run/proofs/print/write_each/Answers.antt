@@ -1,4 +1,4 @@
-use Rattle.std.proofs.Common.{◌≡◌, ◌+◌, drop, get_or, refl, sym, subst, arith}
+use Rattle.std.proofs.Common.{◌≡◌, ◌+◌, ◌∙◌, drop, get_or, refl, sym, subst, arith}
 use Rattle.std.proofs.lemmas.List.Elements.{All-get_or}
 use Rattle.std.proofs.lemmas.Result.{err_from_is_err_and}
 use Rattle.scan_multi.specs.Output.{ChunkData, IsChunk}
@@ -28,7 +28,8 @@ returns-in_err-write_chunk g c =
     let step = chunks_step c.args.chunks.now c.loop-chunk.chunk-index c.chunk-item.result (omega arith) c.chunk-item.is in
     let front = sent_front x c.args.piece.now c.loop-chunk.piece (chunk_lines c.chunk-item.result) _ _ old mid now c.loop-chunk.invariant step c.in_err-write_chunk.ensures.err in
     let p = err_from_is_err_and c.from_residual.result c.from_residual.ensures.1 in
-    rw (p.1, p.2) (wrote_err x c.args.piece.now _ old now _ front (λ h. rose_later old.faults _ _ c.loop-chunk.invariant.sends.faults (c.in_err-write_chunk.ensures.failed h)))
+    rw (p.1, p.2) (wrote_err x c.args.piece.now _ old now _ front (λ h. rose_later old.faults _ _ c.loop-chunk.invariant.sends.faults (c.in_err-write_chunk.ensures.failed h))
+    (λ h. sym c.loop-chunk.invariant.sends.can_fail ∙ c.in_err-write_chunk.ensures.able h))
 
 pub returns : goal.returns
 returns g c =

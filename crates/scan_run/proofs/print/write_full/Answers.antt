@@ -21,11 +21,11 @@ returns-in-Err-put_long_row g c =
     let a = g.O.Output.output c.args.output.now in
     let b = g.O.Output.output c.write_all.new.output in
     let x = line_of c.args.heads.now c.args.front.now c.args.row (get_or (vals_in c.args.cells.now) c.args.i null_val) in
-    wrote_err x c.args.piece.now _ a b NoMemory (front_more c.args.piece.now x a b (subst (λ t. WroteFront t a b) c.as_slice.ensures c.write_all.ensures.front)) (λ h. absurd cc)
+    wrote_err x c.args.piece.now _ a b NoMemory (front_more c.args.piece.now x a b (subst (λ t. WroteFront t a b) c.as_slice.ensures c.write_all.ensures.front)) (λ h. absurd cc) (λ h. absurd cc)
 
 pub returns-in-Err : goal.returns-in-Err
 returns-in-Err g c =
     let a = g.O.Output.output c.args.output.now in
     let b = g.O.Output.output c.write_all.new.output in
     let x = line_of c.args.heads.now c.args.front.now c.args.row (get_or (vals_in c.args.cells.now) c.args.i null_val) in
-    wrote_err x c.args.piece.now _ a b c.in-Err.fault (front_more c.args.piece.now x a b (subst (λ t. WroteFront t a b) c.as_slice.ensures c.write_all.ensures.front)) c.in-Err.ensures.failed
+    wrote_err x c.args.piece.now _ a b c.in-Err.fault (front_more c.args.piece.now x a b (subst (λ t. WroteFront t a b) c.as_slice.ensures c.write_all.ensures.front)) c.in-Err.ensures.failed c.in-Err.ensures.able

@@ -1,4 +1,4 @@
-use Rattle.std.proofs.Common.{◌≡◌, ◌+◌, drop, get_or, refl, arith}
+use Rattle.std.proofs.Common.{◌≡◌, ◌+◌, ◌∙◌, drop, get_or, refl, sym, arith}
 use Rattle.std.proofs.lemmas.Result.{err_from_is_err_and}
 use Rattle.scan_columns.specs.Cells.{vals_in}
 use Rattle.scan_values.specs.Val.{null_val}
@@ -34,7 +34,8 @@ returns-in_err-write_row g c =
     let step = rows_step c.args.heads.now c.args.front.now c.args.rows.now vs i (omega arith) c.requires in
     let front = sent_front x c.args.piece.now c.loop-i.piece (line_of c.args.heads.now c.args.front.now row (get_or vs i null_val)) _ _ old mid now c.loop-i.invariant step c.in_err-write_row.ensures.err in
     let p = err_from_is_err_and c.from_residual.result c.from_residual.ensures.1 in
-    rw (p.1, p.2) (wrote_err x c.args.piece.now _ old now _ front (λ h. rose_later old.faults _ _ c.loop-i.invariant.sends.faults (c.in_err-write_row.ensures.failed h)))
+    rw (p.1, p.2) (wrote_err x c.args.piece.now _ old now _ front (λ h. rose_later old.faults _ _ c.loop-i.invariant.sends.faults (c.in_err-write_row.ensures.failed h))
+    (λ h. sym c.loop-i.invariant.sends.can_fail ∙ c.in_err-write_row.ensures.able h))
 
 pub returns : goal.returns
 returns g c =

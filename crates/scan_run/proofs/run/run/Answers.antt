@@ -3,6 +3,7 @@ use Rattle.std.proofs.Common.{Err, refl, sym, ap, ◌∙◌, inl, arith, rules}
 use Rattle.scan_run.proofs.Running.{end_done, end_words, end_below, ready_done, ready_front, ready_chunks}
 use Rattle.scan_run.proofs.Ending.{tells_other, tells_end, tells_done, tells_failed, tells_short}
 use Rattle.scan_run.proofs.Generating.{clash, other}
+use Rattle.scan_run.proofs.Sures.{answers_of}
 use Rattle.scan_run.proofs.run.run.Goals as goal
 
 pub write_output-requires : goal.write_output-requires
@@ -35,7 +36,12 @@ returns-in-Ok-write_output-clause-scan g c =
     let i' = g.I.Input.input c.take_output.new.input in
     let o = g.O.Output.output c.args.output.now in
     let o' = g.O.Output.output c.write_output.new.output in
-    λ s. record { done = λ e. ready_done c.in-Ok.out.chunks i i' o o' c.in-Ok.ensures.ok c.in-Ok-write_output.ensures.ok; front = ready_front c.in-Ok.out.chunks i i' o o' c.in-Ok.ensures.ok c.write_output.ensures.front }
+    let done = ready_done c.in-Ok.out.chunks i i' o o' c.in-Ok.ensures.ok c.in-Ok-write_output.ensures.ok in
+    λ s. record {
+      done = λ e. done;
+      answers = λ bytes on. answers_of bytes i i' o o' on 0 (tells_done i i' o o') (λ e. done) (λ e. omega arith) (omega arith);
+      front = ready_front c.in-Ok.out.chunks i i' o o' c.in-Ok.ensures.ok c.write_output.ensures.front;
+    }
 
 pub returns-in-Ok-write_output-clause-other : goal.returns-in-Ok-write_output-clause-other
 returns-in-Ok-write_output-clause-other g c = λ s. clash c.is_scan.result _ c.is_scan.ensures c.if-not-is_scan.false s
@@ -59,7 +65,12 @@ returns-in-Err-Failed-clause-scan g c =
     let i' = g.I.Input.input c.take_output.new.input in
     let o = g.O.Output.output c.args.output.now in
     let o' = g.O.Output.output c.write_output.new.output in
-    λ s. record { done = λ e. absurd (omega arith); front = ready_front c.in-Ok.out.chunks i i' o o' c.in-Ok.ensures.ok c.write_output.ensures.front }
+    let failed = (c.in-Err-Failed.ensures.failed (ap Err c.in-Err-Failed.field-0-is), c.in-Err-Failed.ensures.able (ap Err c.in-Err-Failed.field-0-is)) in
+    λ s. record {
+      done = λ e. absurd (omega arith);
+      answers = λ bytes on. answers_of bytes i i' o o' on 6 (tells_failed i i' o o' failed) (λ e. absurd (omega arith)) (λ e. omega arith) (omega arith);
+      front = ready_front c.in-Ok.out.chunks i i' o o' c.in-Ok.ensures.ok c.write_output.ensures.front;
+    }
 
 pub returns-in-Err-Failed-clause-other : goal.returns-in-Err-Failed-clause-other
 returns-in-Err-Failed-clause-other g c = λ s. clash c.is_scan.result _ c.is_scan.ensures c.if-not-is_scan.false s
@@ -68,7 +79,7 @@ pub returns-in-Err-Failed-clause-words : goal.returns-in-Err-Failed-clause-words
 returns-in-Err-Failed-clause-words g c = (λ e. absurd (omega arith), λ h. clash c.is_scan.result _ c.is_scan.ensures c.if-not-is_scan.false h.0)
 
 pub returns-in-Err-Failed-clause-status : goal.returns-in-Err-Failed-clause-status
-returns-in-Err-Failed-clause-status g c = tells_failed _ _ _ _ (c.in-Err-Failed.ensures.failed (ap Err c.in-Err-Failed.field-0-is))
+returns-in-Err-Failed-clause-status g c = tells_failed _ _ _ _ (c.in-Err-Failed.ensures.failed (ap Err c.in-Err-Failed.field-0-is), c.in-Err-Failed.ensures.able (ap Err c.in-Err-Failed.field-0-is))
 
 pub returns-in-Err-Failed-clause-stops : goal.returns-in-Err-Failed-clause-stops
 returns-in-Err-Failed-clause-stops g c = c.take_output.ensures.stops
@@ -83,7 +94,11 @@ returns-in-Ok-clause-scan g c =
     let i' = g.I.Input.input c.take_output.new.input in
     let o = g.O.Output.output c.args.output.now in
     let o' = g.O.Output.output c.write_output.new.output in
-    λ s. record { done = λ e. absurd (omega arith); front = ready_front c.in-Ok.out.chunks i i' o o' c.in-Ok.ensures.ok c.write_output.ensures.front }
+    λ s. record {
+      done = λ e. absurd (omega arith);
+      answers = λ bytes on. answers_of bytes i i' o o' on 7 (tells_short i i' o o') (λ e. absurd (omega arith)) (λ e. omega arith) (omega arith);
+      front = ready_front c.in-Ok.out.chunks i i' o o' c.in-Ok.ensures.ok c.write_output.ensures.front;
+    }
 
 pub returns-in-Ok-clause-other : goal.returns-in-Ok-clause-other
 returns-in-Ok-clause-other g c = λ s. clash c.is_scan.result _ c.is_scan.ensures c.if-not-is_scan.false s
@@ -103,7 +118,15 @@ returns-in-Ok-clause-statuses g c = omega arith
 -- ---- an end before anything is written
 pub returns-clause-scan : goal.returns-clause-scan
 returns-clause-scan g c =
-    λ s. record { done = λ e. absurd (end_done c.in-Err.status (g.I.Input.input c.args.input.now) (g.I.Input.input c.take_output.new.input) c.in-Err.ensures.end e); front = inl refl }
+    let i = g.I.Input.input c.args.input.now in
+    let i' = g.I.Input.input c.take_output.new.input in
+    let o = g.O.Output.output c.args.output.now in
+    let end = c.in-Err.ensures.end in
+    λ s. record {
+      done = λ e. absurd (end_done c.in-Err.status i i' end e);
+      answers = λ bytes on. answers_of bytes i i' o o on c.in-Err.status (tells_end c.in-Err.status i i' o end) (λ e. absurd (end_done c.in-Err.status i i' end e)) (end_words c.in-Err.status i i' end) (end_below c.in-Err.status i i' end);
+      front = inl refl;
+    }
 
 pub returns-clause-other : goal.returns-clause-other
 returns-clause-other g c = λ s. clash c.is_scan.result _ c.is_scan.ensures c.if-not-is_scan.false s

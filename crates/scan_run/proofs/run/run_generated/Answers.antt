@@ -52,7 +52,7 @@ pub returns-in-Err-Failed-clause-words : goal.returns-in-Err-Failed-clause-words
 returns-in-Err-Failed-clause-words g c = (λ e. absurd (omega arith), λ h. absurd (h c.in-Some.rows c.in-Some.spelling c.in-Some.ensures.some))
 
 pub returns-in-Err-Failed-clause-io : goal.returns-in-Err-Failed-clause-io
-returns-in-Err-Failed-clause-io g c = λ e. c.in-Err-Failed.ensures.failed (ap Err c.in-Err-Failed.field-0-is)
+returns-in-Err-Failed-clause-io g c = λ e. (c.in-Err-Failed.ensures.failed (ap Err c.in-Err-Failed.field-0-is), c.in-Err-Failed.ensures.able (ap Err c.in-Err-Failed.field-0-is))
 
 pub returns-in-Err-Failed-clause-nothing : goal.returns-in-Err-Failed-clause-nothing
 returns-in-Err-Failed-clause-nothing g c = λ e. absurd (omega arith)
