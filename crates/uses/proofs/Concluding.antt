@@ -1,5 +1,5 @@
 -- What a caller concludes of what a scan says.
-use Rattle.std.proofs.Common.{◌≡◌, ℕ, zero, suc, ◌+◌, ◌<◌, List, [], ◌∷◌, ◌++◌, Bool, true, false, Option, None, Some, refl, sym, ap, ap₂, ◌∙◌, subst, length, get_or, map, length-append, drop_of_length-le, ◌≤◌, min, arith}
+use Rattle.std.proofs.Common.{◌≡◌, ◌≢◌, ◌⊎◌, inl, inr, ℕ, zero, suc, ◌+◌, ◌<◌, List, [], ◌∷◌, ◌++◌, Bool, true, false, Option, None, Some, refl, sym, ap, ap₂, ◌∙◌, subst, length, get_or, map, length-append, drop_of_length-le, ◌≤◌, min, arith}
 use Rattle.std.specs.Prelude.{All, take, drop, unwrap_or, Result, Ok, Err}
 use Rattle.std.proofs.lemmas.List.{length-map}
 use Rattle.std.proofs.lemmas.List.Concat.{flat_map-cons}
@@ -11,6 +11,7 @@ use Rattle.vortex_scan.specs.Expr.Expr.{Expr}
 use Rattle.vortex_scan.specs.Expr.declared.request.ScanRequest.{ScanRequest}
 use Rattle.vortex_scan.specs.Segments.Cache.{CacheState}
 use Rattle.vortex_scan.specs.Segments.Faults.{capped}
+use Rattle.vortex_scan.specs.Segments.Script.{ScriptState, has_number}
 use Rattle.vortex_scan.specs.Segments.Source.{SourceState}
 use Rattle.vortex_scan.specs.Segments.declared.segment.SegmentKey.{SegmentKey}
 use Rattle.vortex_scan.specs.Opener.Opener.{OpenerState}
@@ -27,6 +28,7 @@ use Rattle.scan_manifest.specs.declared.manifest.Manifest.{Manifest}
 use Rattle.scan_run.specs.Io.{InputState}
 use Rattle.scan_run.specs.Memory.{memory_input, memory_output}
 use Rattle.scan_run.specs.Run.{IsDone, IsRefused, printed}
+use Rattle.scan_run.specs.Sure.{Answers, IsSure, RunsOn}
 use Rattle.uses.specs.Uses.{rows_in, wanted, first_of, AreLinesOf}
 
 -- ---- counting
@@ -105,8 +107,8 @@ abbrev pub code_of : {A : Type 0} → Result A ℕ → ℕ
 code_of (Ok x) = 0
 code_of (Err n) = n
 
-module _ (bytes held before after : List ℕ) (at taken ends faults f s f' s' : ℕ) (input' : InputState) (same : drop at held ≡ bytes) where
-  pub lines-are : before ≡ [] → IsDone (memory_input held at taken ends faults) input' (memory_output before f s) (memory_output after f' s') → AreLinesOf bytes after
+module _ (bytes held before after : List ℕ) (script out out' : ScriptState) (at taken ends faults f s f' s' : ℕ) (input' : InputState) (same : drop at held ≡ bytes) where
+  pub lines-are : before ≡ [] → IsDone (memory_input held script at taken ends faults) input' (memory_output before out f s) (memory_output after out' f' s') → AreLinesOf bytes after
   lines-are none did = record {
     manifest = did.manifest;
     is = subst (λ z. IsManifest z did.manifest) same did.is;
@@ -115,6 +117,20 @@ module _ (bytes held before after : List ℕ) (at taken ends faults f s f' s' : 
     written = ap (λ o. unwrap_or o []) did.written ∙ ap (λ z. z ++ printed did.manifest did.chunks) none;
   }
 
-module _ (bytes held : List ℕ) (at taken ends faults : ℕ) (input' : InputState) (same : drop at held ≡ bytes) where
-  pub is-none : IsRefused (memory_input held at taken ends faults) input' → (m : Manifest) → IsManifest bytes m → ⊥
+module _ (bytes held : List ℕ) (script : ScriptState) (at taken ends faults : ℕ) (input' : InputState) (same : drop at held ≡ bytes) where
+  pub is-none : IsRefused (memory_input held script at taken ends faults) input' → (m : Manifest) → IsManifest bytes m → ⊥
   is-none none m i = none.is m (subst (λ z. IsManifest z m) (sym same) i)
+
+  -- over an input and an output that never fail
+  module _ (before : List ℕ) (out : ScriptState) (f s : ℕ) (never : script.failing ≡ []) (never' : out.failing ≡ []) (few : length bytes ≤ 67108864) where
+    runs-on : RunsOn bytes (memory_input held script at taken ends faults) (memory_output before out f s)
+    runs-on = record { told = ap Some same; few = few; reads = ap has_number never; writes = ap has_number never' }
+
+    -- a valid scan whose calls never fail ends with no other status than 0 and 7
+    pub no-other : (status : ℕ) → ((b : List ℕ) → RunsOn b (memory_input held script at taken ends faults) (memory_output before out f s) → Answers b status)
+        → (m : Manifest) → IsManifest bytes m → IsSure m → status ≢ 0 → status ≡ 7
+    no-other status answers m is sure not = by ((answers bytes runs-on).lines m is sure)
+      where
+        by : (status ≡ 0) ⊎ (status ≡ 7) → status ≡ 7
+        by (inl e) = absurd (not e)
+        by (inr e) = e

@@ -1,8 +1,9 @@
 //! A writer of lines.
-ghost use Rattle.std.specs.Prelude.{◌≡◌, IfOk, Err, true, map, string_bytes};
+ghost use Rattle.std.specs.Prelude.{◌≡◌, ◌≤◌, IfOk, IfErr, Err, true, length, map, string_bytes};
 ghost use Rattle.scan_manifest.specs.declared.manifest.Manifest.{Manifest};
 ghost use Rattle.scan_manifest.specs.Manifest.{IsManifest};
 ghost use Rattle.scan_run.specs.Run.{is_scan_words};
+ghost use Rattle.scan_run.specs.Sure.{IsSure};
 ghost use Rattle.uses.specs.Uses.{AreLinesOf};
 
 use crate::never::never;
@@ -23,7 +24,9 @@ fn scan_words(alloc: Global) -> Result<Vec<String>, NoMemory>
 }
 
 /// The lines that the program writes for the bytes of a manifest, or its status. Lines are those of an output that the
-/// manifest admits; a status of 2 means that the bytes are no manifest. The cache hashes the manifest's names by `hasher`.
+/// manifest admits; a status of 2 means that the bytes are no manifest. A manifest whose scan is valid, and none of whose
+/// openers and sources has a call that fails, is refused for want of memory alone. The cache hashes the manifest's names by
+/// `hasher`.
 #[tactic(none)]
 pub fn lines_of<R: Threads + Sync, S: BuildHasher + Copy + Drop>(
     rt: &R,
@@ -33,6 +36,8 @@ pub fn lines_of<R: Threads + Sync, S: BuildHasher + Copy + Drop>(
 ) -> Result<Vec<u8>, u8>
     ensures lines { IfOk result (λ lines. AreLinesOf manifest.items lines.items) }
     ensures refused { result ≡ Err 2 → (m : Manifest) → ¬ IsManifest manifest.items m }
+    ensures valid { length manifest.items ≤ 67_108_864 → (m : Manifest) → IsManifest manifest.items m → IsSure m →
+        IfErr result (λ status. status ≡ 7) }
 {
     let Ok(words) = scan_words(alloc) else {
         return Err(7);
