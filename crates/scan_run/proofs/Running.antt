@@ -1,6 +1,6 @@
 -- What a run has done at each of its ends.
 use Rattle.std.proofs.Common.{◌≡◌, ◌≢◌, ◌⊎◌, inl, inr, ℕ, ◌<◌, List, ◌++◌, Option, None, Some, refl, sym, ap, ◌∙◌, subst, arith}
-use Rattle.std.specs.Prelude.{IfSome, option_map, length, All}
+use Rattle.std.specs.Prelude.{IfSome, option_map, All}
 use Rattle.scan_values.specs.DataType.{DataType}
 use Rattle.scan_expr.specs.Infer.{infer}
 use Rattle.scan_multi.specs.Output.{ChunkData, IsChunk}

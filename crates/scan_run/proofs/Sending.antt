@@ -1,12 +1,12 @@
 -- Texts that are written in pieces: what was sent, and what is kept.
-use Rattle.std.proofs.Common.{◌≡◌, ◌≢◌, ℕ, zero, suc, ◌+◌, ◌<◌, ◌≤◌, List, [], ◌∷◌, ◌++◌, length, take, drop, get_or, map, zip, refl, sym, ap, ◌∙◌, append_assoc, append-nil, arith, subst, true, Option, None, Some}
-use Rattle.std.specs.Prelude.{option_map, All, slice_get, Result, Ok, Err, OnOk}
+use Rattle.std.proofs.Common.{◌≡◌, ℕ, zero, suc, ◌+◌, ◌<◌, ◌≤◌, List, [], ◌∷◌, ◌++◌, length, drop, get_or, map, zip, refl, sym, ap, ◌∙◌, append_assoc, append-nil, arith, subst, true, Some}
+use Rattle.std.specs.Prelude.{option_map, Result, Ok, Err, OnOk}
 use Rattle.std.specs.List.{flat_map}
 use Rattle.scan_values.specs.DataType.{DataType}
 use Rattle.scan_values.specs.Val.{Val, null_val}
 use Rattle.scan_segments.specs.Faults.{Rose}
 use Rattle.scan_multi.specs.Answer.{Item}
-use Rattle.scan_multi.specs.Output.{ChunkData, chunk_items, IsChunk}
+use Rattle.scan_multi.specs.Output.{ChunkData, IsChunk}
 use Rattle.scan_lines.specs.Line.{line_of}
 use Rattle.scan_lines.specs.Heads.{lines_of_rows}
 use Rattle.scan_run.specs.Io.{OutputState}
@@ -16,7 +16,7 @@ use Rattle.scan_run.specs.WriteAll.{WroteFront, Sends}
 use Rattle.scan_run.specs.Writers.{Writes, WritesAll}
 use Rattle.scan_run.specs.declared.output.WriteFault.{WriteFault}
 use Rattle.scan_run.specs.declared.output.WriteFault.TheVariants.{Failed}
-use Rattle.scan_run.proofs.Pieces.{mapped_nil, mapped_twice, nothing_wrote}
+use Rattle.scan_run.proofs.Pieces.{mapped_nil, mapped_twice}
 
 pub sends_nothing : (k : List ℕ) (s : OutputState) → Sends [] k k s s
 sends_nothing k s = record { sent = []; parts = append-nil k; written = mapped_nil s.written; faults = omega arith; short = omega arith; can_fail = refl }

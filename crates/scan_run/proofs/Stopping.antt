@@ -1,5 +1,5 @@
 -- The scan of a manifest's files: why it stops, and what it prints.
-use Rattle.std.proofs.Common.{◌≡◌, ◌⊎◌, inl, inr, ℕ, zero, suc, ◌+◌, ◌^◌, ◌<◌, ◌≤◌, List, [], ◌∷◌, ◌++◌, length, get_or, map, true, false, Option, None, Some, refl, sym, ap, ◌∙◌, subst, arith}
+use Rattle.std.proofs.Common.{◌≡◌, ℕ, zero, suc, ◌^◌, ◌<◌, ◌≤◌, List, [], ◌∷◌, ◌++◌, length, get_or, map, true, Option, None, Some, refl, sym, ap, ◌∙◌, subst, arith}
 use Rattle.std.specs.Prelude.{IfSome, IsSome, IfOk, Result, All, Contains, unwrap_or}
 use Rattle.std.proofs.lemmas.Result.{IfOk-weaker}
 use Rattle.std.specs.List.{AllByRecursion}
@@ -34,7 +34,7 @@ use Rattle.scan_manifest.proofs.CallerLemmas.{manifest_agrees, places_same}
 use Rattle.scan_run.specs.declared.run.Asked.{Asked}
 use Rattle.scan_run.specs.AskedOf.{IsAsked}
 use Rattle.scan_run.specs.FileOf.{memory_opener, IsFileOf, AreFilesOf, AreReady}
-use Rattle.scan_run.specs.Run.{CanFail, given_by, store_of, told_by, lines_of, IsScanned, HasNoFault, IsBadFile, IsReached, IsUnreadable, of_opener, of_source, of_type, of_layout, of_range, of_segment, of_overflow, of_rows}
+use Rattle.scan_run.specs.Run.{CanFail, given_by, store_of, told_by, lines_of, IsScanned, IsBadFile, IsReached, IsUnreadable, of_opener, of_source, of_type, of_layout, of_range, of_segment, of_overflow, of_rows}
 use Rattle.scan_run.specs.Printed.{chunks_lines}
 use Rattle.scan_run.specs.Stops.{stop_of, IsStop, IsTextOf}
 

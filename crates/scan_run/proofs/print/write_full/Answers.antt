@@ -1,4 +1,4 @@
-use Rattle.std.proofs.Common.{◌≡◌, ◌++◌, get_or, sym, subst}
+use Rattle.std.proofs.Common.{◌≡◌, ◌++◌, get_or, subst}
 use Rattle.scan_columns.specs.Cells.{vals_in}
 use Rattle.scan_values.specs.Val.{null_val}
 use Rattle.scan_lines.specs.Line.{line_of}

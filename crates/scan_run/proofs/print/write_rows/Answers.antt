@@ -1,4 +1,4 @@
-use Rattle.std.proofs.Common.{◌≡◌, ◌+◌, ◌∙◌, drop, get_or, refl, sym, arith}
+use Rattle.std.proofs.Common.{◌∙◌, get_or, refl, sym, arith}
 use Rattle.std.proofs.lemmas.Result.{err_from_is_err_and}
 use Rattle.scan_columns.specs.Cells.{vals_in}
 use Rattle.scan_values.specs.Val.{null_val}

@@ -1,5 +1,6 @@
 -- What a run has done at each of its ends: words that are not `scan`, the lines written, a write that failed, no memory, and an end before anything is written.
 use Rattle.std.proofs.Common.{Err, refl, sym, ap, ◌∙◌, inl, arith, rules}
+use Rattle.scan_run.specs.Io.{OutputFailed}
 use Rattle.scan_run.proofs.Running.{end_done, end_words, end_below, ready_done, ready_front, ready_chunks}
 use Rattle.scan_run.proofs.Ending.{tells_other, tells_end, tells_done, tells_failed, tells_short}
 use Rattle.scan_run.proofs.Generating.{clash, other}
@@ -65,7 +66,7 @@ returns-in-Err-Failed-clause-scan g c =
     let i' = g.I.Input.input c.take_output.new.input in
     let o = g.O.Output.output c.args.output.now in
     let o' = g.O.Output.output c.write_output.new.output in
-    let failed = (c.in-Err-Failed.ensures.failed (ap Err c.in-Err-Failed.field-0-is), c.in-Err-Failed.ensures.able (ap Err c.in-Err-Failed.field-0-is)) in
+    let failed : OutputFailed o o' = (c.in-Err-Failed.ensures.failed (ap Err c.in-Err-Failed.field-0-is), c.in-Err-Failed.ensures.able (ap Err c.in-Err-Failed.field-0-is)) in
     λ s. record {
       done = λ e. absurd (omega arith);
       answers = λ bytes on. answers_of bytes i i' o o' on 6 (tells_failed i i' o o' failed) (λ e. absurd (omega arith)) (λ e. omega arith) (omega arith);
