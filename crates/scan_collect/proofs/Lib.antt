@@ -1,0 +1,9 @@
+pub mod Alike
+pub mod Claiming
+pub mod Ending
+pub mod Joining
+pub mod Meaning
+pub mod Polling
+pub mod Preparing
+pub mod Reach
+pub mod Running

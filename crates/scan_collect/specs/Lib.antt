@@ -1,0 +1,4 @@
+pub mod Asked
+pub mod Gathers
+pub mod Reads
+pub mod Rows

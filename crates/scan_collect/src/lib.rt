@@ -1,0 +1,11 @@
+//! What streams, iterators and scans give from their first poll to their end.
+#![tactic(auto)]
+
+mod iterator;
+mod scan;
+mod stream;
+mod turn;
+
+pub use iterator::read_iterator;
+pub use scan::{read_rows, read_rows_from};
+pub use stream::read_stream;
