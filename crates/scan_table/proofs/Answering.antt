@@ -96,7 +96,7 @@ abbrev PastBy : Parts → Type 0
 PastBy p = (measure : ℕ) × IsFirstPast (measured_from 0 p.measures) (rows_by p) measure
 
 abbrev ReadsBy : Parts → Type 0
-ReadsBy p = (f : FileSpec) → Contains p.files f → IsBadFile (manifest_by p) f → ⊥
+ReadsBy p = (f : FileSpec) (there : Contains p.files f) → IsBadFile (manifest_by p) there.0 f → ⊥
 
 abbrev WorksBy : Parts → Type 0
 WorksBy p = (f : FileSpec) → Contains p.files f → CanFail (manifest_by p) f → ⊥

@@ -149,7 +149,7 @@ module _ (status : ℕ) (input input' : InputState) (output output' : OutputStat
 -- the table has no fault, and each of its files can be read and never fails
 pub record IsSound (j : Job) : Type 0 where
   pub passes : first_table_fault j.workers j.dtype j.spec ≡ None
-  pub reads : (f : FileSpec) → Contains j.files f → IsBadFile (scanned_by j) f → ⊥
+  pub reads : (f : FileSpec) (there : Contains j.files f) → IsBadFile (scanned_by j) there.0 f → ⊥
   pub works : (f : FileSpec) → Contains j.files f → CanFail (scanned_by j) f → ⊥
 
 -- These bytes were to come. No read and no write failed, and no more bytes came than are read.
