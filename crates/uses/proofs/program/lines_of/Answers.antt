@@ -1,5 +1,7 @@
 use Rattle.std.proofs.Common.{◌≡◌, ◌≢◌, [], ap, map, true, refl, arith, rules}
 use Rattle.std.specs.Prelude.{string_bytes}
+use Rattle.scan_run.specs.Io.{InputState}
+use Rattle.scan_run.specs.Memory.{memory_input}
 use Rattle.scan_run.specs.Run.{is_scan_words}
 use Rattle.uses.proofs.Concluding.{code_of, lines-are, is-none, no-other}
 use Rattle.uses.proofs.program.lines_of.Goals as goal
@@ -34,7 +36,8 @@ returns-clause-valid g c few m is sure =
     let reads : input.script.failing ≡ [] = search rules in
     let writes : output.script.failing ≡ [] = search rules in
     let some : c.run-status.result ≢ 0 = search rules in
-    no-other c.args.manifest.items input.bytes.items input.script input.at input.taken input.ends input.faults _ c.new-input.ensures.bytes output.bytes.items output.script output.faults output.short reads writes few
+    let state : InputState = memory_input input.bytes.items input.script input.at input.taken input.ends input.faults in
+    no-other c.args.manifest.items input.bytes.items input.script input.at input.taken input.ends input.faults state c.new-input.ensures.bytes output.bytes.items output.script output.faults output.short reads writes few
     c.run-status.result (c.run-status.ensures.scan scan).answers m is sure some
 
 pub returns-clause-refused : goal.returns-clause-refused
