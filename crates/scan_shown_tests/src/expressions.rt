@@ -5,7 +5,8 @@ use std::alloc::Global;
 use std::test::Fail;
 
 /// The dtype that they are bound to.
-const DTYPE: &str = r#"{"struct":[["a","i32"],["b",{"struct":[["x","utf8"]]}],["f","bool"],["id","u64"],["l",{"list":"i32"}],["t","utf8?"],["v","i32"]]}"#;
+const DTYPE: &str =
+    r#"{"struct":[["a","i32"],["b",{"struct":[["x","utf8"]]}],["f","bool"],["id","u64"],["l",{"list":"i32"}],["t","utf8?"],["v","i32"]]}"#;
 
 /// A projection as a manifest says it, and what is shown.
 const PROJECTIONS: [(&str, &str); 10] = [
@@ -61,7 +62,10 @@ fn expressions_are_shown(rt: HostRuntime) -> Result<(), Fail> {
     let alloc = rt.alloc();
     for (projection, text) in PROJECTIONS {
         assert!(rt; shown(alloc, projection)?.as_str() == text, "{projection}");
-        assert!(rt; shown_bound(alloc, projection)?.as_str() == text, "{projection}");
+        assert!(rt;
+            shown_bound(alloc, projection)?.as_str() == text,
+            "{projection}"
+        );
     }
     Ok(())
 }
