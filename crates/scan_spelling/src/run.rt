@@ -330,7 +330,7 @@ fn all_there(alloc: Global, count: usize) -> Result<Vec<bool>, AllocError>
     Ok(valid)
 }
 
-/// The items at which the mask is true, moved to the front.
+/// The items at which the mask is true, moved to the front, in room of their own number.
 fn kept<T: Copy>(items: Vec<T>, mask: &[bool]) -> Vec<T>
     requires { length mask.now ≡ length items.items }
     ensures { result.items ≡ items_where_true mask.now items.items }
@@ -342,6 +342,7 @@ fn kept<T: Copy>(items: Vec<T>, mask: &[bool]) -> Vec<T>
         count += mask[i] as usize;
     }
     items.truncate(count);
+    items.shrink_to_fit();
     items
 }
 
