@@ -10,6 +10,7 @@ pub mod Iterating
 pub mod Leading
 pub mod Masking
 pub mod Naming
+pub mod OneProof
 pub mod Owning
 pub mod Picking
 pub mod Preparing
@@ -21,4 +22,4 @@ pub mod Turning
 pub mod Turns
 pub mod Written
 mod Limiting
-mod Streaming
+pub mod Streaming

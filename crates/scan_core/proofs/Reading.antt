@@ -30,13 +30,13 @@ range_join a (suc m) n =
     let rest : range_with_len a (suc (m + n)) ≡ range_with_len a (suc m) ++ range_with_len ((a + 1) + m) n = ap (λ xs. a ∷ xs) (range_join (a + 1) m n) in
     subst (λ b. range_with_len a (suc m + n) ≡ range_with_len a (suc m) ++ range_with_len b n) on (subst (λ k. range_with_len a k ≡ range_with_len a (suc m) ++ range_with_len ((a + 1) + m) n) more rest)
 
-numbers_join : (a m b : ℕ) → a ≤ m → m ≤ b → numbers a b ≡ numbers a m ++ numbers m b
+pub numbers_join : (a m b : ℕ) → a ≤ m → m ≤ b → numbers a b ≡ numbers a m ++ numbers m b
 numbers_join a m b p q =
     let long : (m - a) + (b - m) ≡ b - a = omega arith in
     let on : a + (m - a) ≡ m = omega arith in
     subst (λ k. range_with_len a k ≡ range_with_len a (m - a) ++ range_with_len m (b - m)) long (subst (λ c. range_with_len a ((m - a) + (b - m)) ≡ range_with_len a (m - a) ++ range_with_len c (b - m)) on (range_join a (m - a) (b - m)))
 
-no_numbers : (a b : ℕ) → b ≤ a → numbers a b ≡ []
+pub no_numbers : (a b : ℕ) → b ≤ a → numbers a b ≡ []
 no_numbers a b l = let none : 0 ≡ b - a = omega arith in subst (λ k. range_with_len a k ≡ []) none refl
 
 module _ (p : ℕ → Bool) where

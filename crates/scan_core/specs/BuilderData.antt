@@ -36,23 +36,6 @@ pub record BuilderData (R M : Type 0) : Type 0 where
   pub concurrency : ℕ
   pub step : M
 
--- with another step
-abbrev pub with_map : {R M N : Type 0} → BuilderData R M → N → BuilderData R N
-with_map b n = record {
-  reader = b.reader;
-  projection = b.projection;
-  filter = b.filter;
-  ordered = b.ordered;
-  range = b.range;
-  selection = b.selection;
-  offset = b.offset;
-  split_by = b.split_by;
-  natural = b.natural;
-  limit = b.limit;
-  concurrency = b.concurrency;
-  step = n;
-}
-
 -- shared boundaries, where there are any
 abbrev pub boundaries_in : Option (Arc (Vec ℕ Global) Global) → Option (List ℕ)
 boundaries_in = option_map (λ a. a.value.items)
@@ -105,8 +88,3 @@ asked_masks p f = map path_mask (firsts (scan_paths p f))
 abbrev pub chosen_points : ReaderState → SplitBy → List FieldMask → Option (Range ℕ) → Option (List ℕ) → List ℕ
 chosen_points s by masks r (Some bs) = bs
 chosen_points s by masks r None = boundaries by s masks (range_or_all r s.rows)
-
--- the same builder, over a reader of the same rows
-pub record SameBuilder {R M : Type 0} (state : R → ReaderState) (new old : BuilderData R M) : Type 0 where
-  pub builder : new ≡ record old { reader = new.reader }
-  pub rows : state new.reader ≡ state old.reader

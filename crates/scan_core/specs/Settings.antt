@@ -18,3 +18,19 @@ builder_by r s = record {
   concurrency = s.concurrency;
   step = s.step;
 }
+
+-- with another step
+abbrev pub with_map : {M N : Type 0} → ScanSettings M → N → ScanSettings N
+with_map s n = record {
+  projection = s.projection;
+  filter = s.filter;
+  ordered = s.ordered;
+  row_range = s.row_range;
+  selection = s.selection;
+  row_offset = s.row_offset;
+  split_by = s.split_by;
+  natural_splits = s.natural_splits;
+  limit = s.limit;
+  concurrency = s.concurrency;
+  step = n;
+}

@@ -3,6 +3,8 @@ ghost use Rattle.std.specs.Prelude.{◌≡◌, IfOk};
 ghost use Rattle.scan_segments.specs.Source.{none_live};
 ghost use Rattle.scan_core.specs.LazyData.{IsIterOf};
 ghost use Rattle.scan_core.specs.Setup.{Refuses, range_fault};
+ghost use Rattle.scan_streams.specs.Grants.{HasRoom};
+ghost use Rattle.scan_streams.specs.Splits.{reach};
 ghost use Rattle.scan_core.specs.Streaming.{IsStreamOf};
 
 use crate::repeated::RepeatedScan;
@@ -22,6 +24,7 @@ impl<E: Drop> RepeatedScan<Identity<E>> {
         row_range: Option<Range<u64>>,
     ) -> Result<ScanStream<Identity<E>>, SetupFault>
         ensures stream { IfOk result (λ t. IsStreamOf self.old row_range t) }
+        ensures room { IfOk result (λ t. HasRoom (t.feed).seat (reach (t.feed).splits)) }
         ensures fault { Refuses result (range_fault row_range self.old.rows) }
         ensures same { self.new ≡ self.old }
     {
@@ -40,6 +43,7 @@ impl<E: Drop> RepeatedScan<Identity<E>> {
     ) -> Result<ArrayIter<Identity<E>, S>, SetupFault>
         requires idle { (S.state source).live ≡ none_live }
         ensures iter { IfOk result (λ i. IsIterOf self.old row_range source i) }
+        ensures room { IfOk result (λ i. HasRoom ((i.stream).feed).seat (reach ((i.stream).feed).splits)) }
         ensures fault { Refuses result (range_fault row_range self.old.rows) }
         ensures same { self.new ≡ self.old }
     {

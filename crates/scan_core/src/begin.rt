@@ -4,7 +4,7 @@ ghost use Rattle.scan_core.specs.LazyData.{builder_dtype, IsStreamOfBuilder};
 ghost use Rattle.scan_core.specs.LazyState.{state_fault, Comes, IsBegun};
 ghost use Rattle.scan_core.specs.Setup.{setup_fault};
 
-use crate::builder::ScanBuilder;
+use crate::kept_builder::KeptBuilder;
 use scan_readers::LayoutReader;
 use scan_streams::{MapStep, ScanStream, SetupFault};
 use scan_values::DType;
@@ -12,26 +12,26 @@ use std::alloc::Global;
 
 /// A builder whose scan is set up later, or never. It is dropped by hand, so that no drop of what keeps it looks into it.
 pub(crate) struct Waiting<'r, R: LayoutReader, M: Drop> {
-    builder: ScanBuilder<'r, R, M>,
+    builder: KeptBuilder<'r, R, M>,
 }
 
 impl<'r, R: LayoutReader, M: Drop> Waiting<'r, R, M> {
     /// A builder that waits.
-    pub(crate) fn new(builder: ScanBuilder<'r, R, M>) -> Self
+    pub(crate) fn new(builder: KeptBuilder<'r, R, M>) -> Self
         ensures { result.builder ≡ builder.entry }
     {
         Waiting { builder }
     }
 
     /// The builder, to be looked at.
-    pub(crate) fn builder(&self) -> &ScanBuilder<'r, R, M>
+    pub(crate) fn builder(&self) -> &KeptBuilder<'r, R, M>
         ensures { result.now ≡ self.now.builder }
     {
         &self.builder
     }
 
     /// The builder, to be set up.
-    pub(crate) fn into_builder(self) -> ScanBuilder<'r, R, M>
+    pub(crate) fn into_builder(self) -> KeptBuilder<'r, R, M>
         ensures { result ≡ self.entry.builder }
     {
         let Waiting { builder } = self;
@@ -87,7 +87,7 @@ pub(crate) fn asked<'r, R: LayoutReader + Drop, M: MapStep + Drop>(
 /// What comes of a builder: the stream of all that it scans, or why there is none.
 pub(crate) fn begin<'r, R: LayoutReader + Drop, M: MapStep + Drop>(
     alloc: Global,
-    builder: ScanBuilder<'r, R, M>,
+    builder: KeptBuilder<'r, R, M>,
 ) -> State<'r, R, M>
     ensures { IsBegun R.state builder.entry result }
 {
@@ -100,7 +100,7 @@ pub(crate) fn begin<'r, R: LayoutReader + Drop, M: MapStep + Drop>(
 /// The same of a builder with whose settings nothing is wrong.
 fn begin_lawful<'r, R: LayoutReader + Drop, M: MapStep + Drop>(
     alloc: Global,
-    builder: ScanBuilder<'r, R, M>,
+    builder: KeptBuilder<'r, R, M>,
 ) -> State<'r, R, M>
     requires { setup_fault builder (R.state builder.reader).rows ≡ None }
     ensures { IsBegun R.state builder.entry result }
@@ -114,7 +114,7 @@ fn begin_lawful<'r, R: LayoutReader + Drop, M: MapStep + Drop>(
 /// The same of one whose projection is of this dtype.
 fn begin_of<'r, R: LayoutReader + Drop, M: MapStep + Drop>(
     alloc: Global,
-    builder: ScanBuilder<'r, R, M>,
+    builder: KeptBuilder<'r, R, M>,
     dtype: DType,
 ) -> State<'r, R, M>
     requires lawful { setup_fault builder (R.state builder.reader).rows ≡ None }
@@ -130,7 +130,7 @@ fn begin_of<'r, R: LayoutReader + Drop, M: MapStep + Drop>(
 /// The stream of all that a builder scans with whose settings nothing is wrong.
 fn stream_of<'r, R: LayoutReader + Drop, M: MapStep + Drop>(
     alloc: Global,
-    builder: ScanBuilder<'r, R, M>,
+    builder: KeptBuilder<'r, R, M>,
 ) -> Result<ScanStream<M>, SetupFault>
     requires { setup_fault builder (R.state builder.reader).rows ≡ None }
     ensures { IfOk result (λ t. IsStreamOfBuilder (R.state builder.entry.reader) builder.entry t) }

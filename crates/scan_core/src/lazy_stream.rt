@@ -6,9 +6,11 @@ ghost use Rattle.scan_streams.specs.Streams.{LiveAs};
 ghost use Rattle.scan_core.specs.LazyData.{waits, is_waiting, lazy_dtype, lazy_live, IsStarted, LazyApplies, MayAskLazy};
 ghost use Rattle.scan_core.specs.LazyData.{PollsLazy, PollsStarted};
 ghost use Rattle.scan_core.specs.LazyState.{lazy_state};
+ghost use Rattle.scan_core.specs.Settings.{builder_by};
 
 use crate::begin::{State, Waiting, asked};
-use crate::builder::ScanBuilder;
+use crate::builder::LentReader;
+use crate::settings::ScanSettings;
 use scan_readers::LayoutReader;
 use scan_segments::SegmentSource;
 use scan_streams::{Identity, MapStep, SetupFault, StreamFault, StreamPoll};
@@ -34,21 +36,21 @@ impl<'r, R: LayoutReader, M: Drop> Model for LazyScanStream<'r, R, M> {
     ghost view = { λ a. lazy_state a.state };
 }
 
-impl<'r, R: LayoutReader + Drop, M: MapStep + Drop> ScanBuilder<'r, R, M> {
+impl<'r, R: LayoutReader + Drop, M: MapStep + Drop> LentReader<'r, R, ScanSettings<M>> {
     /// A stream of all that it scans, which is set up at the first poll.
     pub fn into_stream(self) -> LazyScanStream<'r, R, M>
-        ensures { result ≡ waits self.entry }
+        ensures { result ≡ waits (builder_by self.entry.reader.now self.entry.settings) }
     {
         LazyScanStream {
-            state: State::Waiting(Waiting::new(self)),
+            state: State::Waiting(Waiting::new(self.into_kept())),
         }
     }
 }
 
-impl<'r, R: LayoutReader + Drop, E: Drop> ScanBuilder<'r, R, Identity<E>> {
+impl<'r, R: LayoutReader + Drop, E: Drop> LentReader<'r, R, ScanSettings<Identity<E>>> {
     /// A stream of the arrays of all that it scans, by `into_stream`.
     pub fn into_array_stream(self) -> LazyScanStream<'r, R, Identity<E>>
-        ensures { result ≡ waits self.entry }
+        ensures { result ≡ waits (builder_by self.entry.reader.now self.entry.settings) }
     {
         self.into_stream()
     }

@@ -5,6 +5,7 @@ mod array_streams;
 mod begin;
 mod builder;
 mod field_masks;
+mod kept_builder;
 mod laws;
 mod lazy_stream;
 mod name_set;
@@ -18,7 +19,7 @@ mod split_rows;
 mod splits;
 mod threads;
 
-pub use builder::ScanBuilder;
+pub use builder::{LentReader, ScanBuilder};
 pub use field_masks::referenced_field_masks;
 pub use laws::{
     order_of_conjuncts_changes_no_row, order_of_conjuncts_spoils_no_more,
@@ -34,7 +35,7 @@ pub use scan_streams::{
     ArrayIter, Claims, Identity, MapStep, Mapped, ScanPlans, ScanStream, SetupFault, StreamFault,
     StreamPoll,
 };
-pub use settings::ScanSettings;
+pub use settings::{OverReader, ScanSettings};
 pub use split::{SplitFuture, SplitPoll};
 pub use split_by::SplitBy;
 pub use splits::{intersect_ranges, span_of, split_ranges};

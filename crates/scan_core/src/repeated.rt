@@ -68,8 +68,9 @@ impl<M> RepeatedScan<M> {
     ) -> RepeatedScan<M>
         requires { IsScan (scan_data plans.value row_count boundaries.value.items options.row_range
             options.selection.value options.limit options.ordered options.concurrency step.value) }
-        ensures { result ≡ scan_data plans.value row_count boundaries.value.items options.row_range
+        ensures made { result ≡ scan_data plans.value row_count boundaries.value.items options.row_range
             options.selection.value options.limit options.ordered options.concurrency step.value }
+        ensures stands { IsScan result }
     {
         RepeatedScan {
             plans,
@@ -145,7 +146,8 @@ impl<M: Drop> RepeatedScan<M> {
     /// # Errors
     /// `NoMemory` alone.
     pub fn with_some_limit(&self, limit: Option<u64>) -> Result<RepeatedScan<M>, NoMemory>
-        ensures { IfOk result (λ s. s ≡ record self.now { limit = limit }) }
+        ensures made { IfOk result (λ s. s ≡ record self.now { limit = limit }) }
+        ensures stands { IfOk result (λ s. IsScan s) }
     {
         let options = ScanOptions {
             row_range: copy_of(&self.options.row_range),
@@ -248,6 +250,7 @@ impl<M: MapStep + Drop> RepeatedScan<M> {
         row_range: Option<Range<u64>>,
     ) -> Result<ScanStream<M>, SetupFault>
         ensures stream { IfOk result (λ t. IsStreamOf self.old row_range t) }
+        ensures room { IfOk result (λ t. HasRoom (t.feed).seat (reach (t.feed).splits)) }
         ensures fault { Refuses result (range_fault row_range self.old.rows) }
         ensures same { self.new ≡ self.old }
     {
@@ -272,6 +275,7 @@ impl<M: MapStep + Drop> RepeatedScan<M> {
         requires none { self.old.limit ≡ None }
         requires room { most_in row_range self.old.rows ≤ claims.room }
         ensures stream { IfOk result (λ t. IsStreamWith self.old row_range (Some claims) t) }
+        ensures room { IfOk result (λ t. HasRoom (t.feed).seat (reach (t.feed).splits)) }
         ensures fault { Refuses result (range_fault row_range self.old.rows) }
         ensures same { self.new ≡ self.old }
     {
@@ -290,7 +294,8 @@ impl<M: MapStep + Drop> RepeatedScan<M> {
     ) -> Result<ScanStream<M>, NoMemory>
         requires past { is_past row_range self.now.rows ≡ false }
         requires room { HasRoom claims (most_in row_range self.now.rows) }
-        ensures { IfOk result (λ t. IsStreamWith self.now row_range claims t) }
+        ensures stream { IfOk result (λ t. IsStreamWith self.now row_range claims t) }
+        ensures room { IfOk result (λ t. HasRoom (t.feed).seat (reach (t.feed).splits)) }
     {
         let queue = self.queue(alloc, row_range)?;
         let dtype = self.plans.dtype().try_clone(alloc)?;

@@ -4,9 +4,11 @@ ghost use Rattle.scan_segments.specs.Source.{none_live};
 ghost use Rattle.scan_core.specs.LazyData.{is_waiting, waits};
 ghost use Rattle.scan_core.specs.LazyIter.{iter_dtype, IsIdle, IsIterStarted, IterApplies, NextsLazy, NextsStarted};
 ghost use Rattle.scan_core.specs.LazyIterState.{iter_fault, iter_state, over_source, IsFresh, IterComes};
+ghost use Rattle.scan_core.specs.Settings.{builder_by};
 
 use crate::begin::{State, Waiting, begin};
-use crate::builder::ScanBuilder;
+use crate::builder::LentReader;
+use crate::settings::ScanSettings;
 use scan_readers::LayoutReader;
 use scan_segments::SegmentSource;
 use scan_streams::{ArrayIter, Identity, MapStep, SetupFault, StreamFault};
@@ -48,27 +50,27 @@ impl<'r, R: LayoutReader, M: Drop, S: SegmentSource> Model for ScanIter<'r, R, M
     ghost invariant = { λ a. IsIdle S.state (iter_state a.state) };
 }
 
-impl<'r, R: LayoutReader + Drop, M: MapStep + Drop> ScanBuilder<'r, R, M> {
+impl<'r, R: LayoutReader + Drop, M: MapStep + Drop> LentReader<'r, R, ScanSettings<M>> {
     /// What the map makes of the arrays of all that it scans, over a source that has no live request. The scan is set up
     /// at the first call.
     pub fn into_iter<S: SegmentSource + Drop>(self, source: S) -> ScanIter<'r, R, M, S>
         requires idle { (S.state source).live ≡ none_live }
-        ensures { result ≡ waits (self.entry, source) }
+        ensures { result ≡ waits (builder_by self.entry.reader.now self.entry.settings, source) }
     {
         ScanIter {
-            state: IterState::Waiting(Waiting::new(self), source),
+            state: IterState::Waiting(Waiting::new(self.into_kept()), source),
         }
     }
 }
 
-impl<'r, R: LayoutReader + Drop, E: Drop> ScanBuilder<'r, R, Identity<E>> {
+impl<'r, R: LayoutReader + Drop, E: Drop> LentReader<'r, R, ScanSettings<Identity<E>>> {
     /// The arrays of all that it scans, by `into_iter`.
     pub fn into_array_iter<S: SegmentSource + Drop>(
         self,
         source: S,
     ) -> ScanIter<'r, R, Identity<E>, S>
         requires idle { (S.state source).live ≡ none_live }
-        ensures { result ≡ waits (self.entry, source) }
+        ensures { result ≡ waits (builder_by self.entry.reader.now self.entry.settings, source) }
     {
         self.into_iter(source)
     }

@@ -1,6 +1,7 @@
 //! What opens the files of a scan. After the Rust's `scan::multi` and `scan::layout`, whose calls are async functions.
 ghost use Rattle.std.specs.Prelude.{◌≡◌, IfOk, None};
 ghost use Rattle.scan_core.specs.Given.{Rises};
+ghost use Rattle.scan_core.specs.Settings.{builder_by};
 ghost use Rattle.scan_file.specs.FileAsks.{IsAsk, asked_dtype, file_ask};
 ghost use Rattle.scan_file.specs.FileScans.{IsAskedOf, IsNewBuilder};
 ghost use Rattle.scan_file.specs.Opened.{IsOpened};
@@ -69,10 +70,11 @@ impl FileOpener {
         alloc: Global,
         builder: ScanBuilder<'r, R, M>,
     ) -> Result<ScanBuilder<'r, R, M>, NoMemory>
-        requires dtype { (R.state builder.reader).dtype ≡ asked_dtype self.now }
-        requires new { IsNewBuilder builder }
-        requires all { builder.range ≡ None }
-        ensures { IfOk result (λ b. IsAskedOf self.now builder.entry.reader b) }
+        requires dtype { (R.state builder.reader.now).dtype ≡ asked_dtype self.now }
+        requires new { IsNewBuilder (builder_by builder.reader.now builder.settings) }
+        requires all { builder.settings.row_range ≡ None }
+        ensures { IfOk result (λ b. IsAskedOf self.now builder.entry.reader.now
+            (builder_by b.reader.now b.settings)) }
     {
         let builder = builder
             .with_projection(self.projection.try_clone(alloc)?)

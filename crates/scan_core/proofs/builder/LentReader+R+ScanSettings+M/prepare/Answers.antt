@@ -1,0 +1,9 @@
+use Rattle.scan_core.specs.BuilderData.{boundaries_in}
+use Rattle.scan_core.proofs.OneProof.{builder_is}
+use Rattle.scan_core.proofs.builder.LentReader+R+ScanSettings+M.prepare.Goals as goal
+
+pub set_up-requires : goal.set_up-requires
+set_up-requires g c = record { over = builder_is (g.R.LayoutReader.state c.args.self.reader.now) c.args.self.settings.projection c.args.self.settings.filter (boundaries_in c.args.self.settings.natural_splits) c.args.self.over }
+
+pub returns-clause-builder : goal.returns-clause-builder
+returns-clause-builder g c = builder_is (g.R.LayoutReader.state c.args.self.reader.now) c.args.self.settings.projection c.args.self.settings.filter (boundaries_in c.args.self.settings.natural_splits) c.args.self.over
