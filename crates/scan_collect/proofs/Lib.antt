@@ -4,6 +4,4 @@ pub mod Ending
 pub mod Joining
 pub mod Meaning
 pub mod Polling
-pub mod Preparing
-pub mod Reach
 pub mod Running

@@ -14,6 +14,7 @@ use Rattle.scan_limit.specs.Budget.{most}
 use Rattle.scan_limit.specs.Seats.{SeatState}
 use Rattle.scan_plans.specs.Futures.{FutureData, items_of}
 use Rattle.scan_streams.specs.Feeds.{FeedData}
+use Rattle.scan_streams.specs.Grants.{HasRoom}
 use Rattle.scan_streams.specs.Iters.{IterData}
 use Rattle.scan_streams.specs.Plans.{has_filter}
 use Rattle.scan_streams.specs.Splits.{AllHold, Alike, new_split, one_part, parts_left, reach}
@@ -22,18 +23,16 @@ use Rattle.scan_streams.specs.declared.fault.StreamFault.{StreamFault}
 use Rattle.scan_streams.specs.declared.setup.SetupFault.{SetupFault}
 use Rattle.scan_readers.specs.Readers.{ReaderState}
 use Rattle.scan_core.specs.BuilderData.{BuilderData, IsBuilder}
-use Rattle.scan_core.specs.Given.{Rises, SplitsGiveWhatIsAsked, asked_values}
+use Rattle.scan_core.specs.Given.{Rises, SplitsGiveWhatIsAsked, asked_values, values_of}
 use Rattle.scan_core.specs.LazyData.{IsIterOf}
 use Rattle.scan_core.specs.Prepared.{IsPrepared}
-use Rattle.scan_core.specs.RowRanges.{most_in}
-use Rattle.scan_core.specs.ScanData.{ScanData, IsScan}
+use Rattle.scan_core.specs.ScanData.{ScanData, IsScan, splits_of}
 use Rattle.scan_core.specs.Setup.{Refuses}
 use Rattle.scan_core.specs.Streaming.{IsOwnSeat, IsStreamOf, first_of, limit_after, limit_before, limit_if, streamed, values_in, StreamsGiveTheFirstRows}
 use Rattle.scan_collect.specs.Asked.{RefusedBy, StopsRows, StopsScan}
 use Rattle.scan_collect.specs.Reads.{IsAlone, IsFresh, IsReadOf, MayStop, StopsBy, joined, limit_in}
 use Rattle.scan_collect.specs.Rows.{GivesFirst}
 use Rattle.scan_collect.proofs.Alike.{joined_alike}
-use Rattle.scan_collect.proofs.Reach.{streamed_reach}
 use Rattle.scan_collect.proofs.Joining.{joined_both, length_first, take_both, take_none}
 
 -- ---- nothing was read of a stream that a scan executes
@@ -41,22 +40,24 @@ new_hold : (store : Store) (fs : List FutureData) → AllHold store (map new_spl
 new_hold store [] = tt
 new_hold store (f ∷ fs) = (λ id bytes e. absurd (let z : None ≡ Some bytes = sym (ap (option_map content) (finite.get-empty nat_cmp id)) ∙ e in cc), new_hold store fs)
 
-seat_alone : (limit : Option ℕ) (seat : Option SeatState) (n : ℕ) → IsOwnSeat limit seat → n ≤ most → IsAlone seat n
+seat_alone : (limit : Option ℕ) (seat : Option SeatState) (n : ℕ) → IsOwnSeat limit seat → HasRoom seat n → IsAlone seat n
 seat_alone None seat n h l = subst (λ (o : Option SeatState). IsAlone o n) (sym h) tt
-seat_alone (Some k) seat n h l = subst (λ (o : Option SeatState). IsAlone o n) (sym h.1) (refl, l)
+seat_alone (Some k) seat n h l =
+    let few : n ≤ most = subst (λ (o : Option SeatState). HasRoom o n) h.1 l in
+    subst (λ (o : Option SeatState). IsAlone o n) (sym h.1) (refl, few)
 
 seat_limit : (limit : Option ℕ) (seat : Option SeatState) → IsOwnSeat limit seat → limit_in seat ≡ limit
 seat_limit None seat h = ap limit_in h
 seat_limit (Some k) seat h = ap limit_in h.1 ∙ ap Some h.2
 
 module _ {M : Type 0} (s : ScanData M) (r : Option (Range ℕ)) (t : StreamData M) (is : IsStreamOf s r t) where
-  pub stream_fresh : (store : Store) → reach (map new_split (streamed s r)) ≤ most → IsFresh store t.feed
-  stream_fresh store few =
+  pub stream_fresh : (store : Store) → HasRoom (t.feed).seat (reach (t.feed).splits) → IsFresh store t.feed
+  stream_fresh store room =
       let made = (is.stream).feed in
       record {
         begun = ap (λ (f : FeedData). f.ended) made;
         holds = subst (λ (f : FeedData). AllHold store f.splits) (sym made) (new_hold store (streamed s r));
-        alone = seat_alone (limit_after s) (t.feed).seat (reach (t.feed).splits) is.seat (subst (λ (f : FeedData). reach f.splits ≤ most) (sym made) few);
+        alone = seat_alone (limit_after s) (t.feed).seat (reach (t.feed).splits) is.seat room;
       }
 
 -- ---- its values
@@ -133,53 +134,50 @@ both_limits true false limit asked values h = h
 both_limits false true limit asked values h = h
 both_limits false false limit asked values h = before_some limit asked values h
 
--- ---- a scan that a builder set up
-most_within : (r : Option (Range ℕ)) (n : ℕ) → most_in r n ≤ n
-most_within None n = omega arith
-most_within (Some r) n = omega arith
-
+-- ---- a scan
 -- a stream of it over an idle source
 pub stream_live : {M : Type 0} (s : ScanData M) (r : Option (Range ℕ)) (t : StreamData M) (live : ℕ → Bool) → IsStreamOf s r t → live ≡ none_live → LiveAs live (t.feed).live
 stream_live s r t live is h = λ id. ap (λ (f : ℕ → Bool). f id) h ∙ ap (λ (f : FeedData). is_among f.live id) (sym (is.stream).feed)
 
-pub scan_gives : {M : Type 0} (s : ScanData M) (t : StreamData M) (store : Store) (values : List Marked)
-    → IsScan s → IsStreamOf s None t → s.rows ≤ most → (IsFresh store t.feed → IsReadOf store t.feed values) → GivesFirst s.ordered (limit_after s) (values_in (streamed s None) store) values
-scan_gives s t store values is made few read =
-    let reached : reach (map new_split (streamed s None)) ≤ s.rows = streamed_reach s None is refl in
-    stream_gives s None t made store values (read (stream_fresh s None t made store (omega (arith, reached, few))))
+scan_gives : {M : Type 0} (s : ScanData M) (r : Option (Range ℕ)) (t : StreamData M) (store : Store) (values : List Marked)
+    → StreamsGiveTheFirstRows M → IsStreamOf s r t → HasRoom (t.feed).seat (reach (t.feed).splits) → (IsFresh store t.feed → IsReadOf store t.feed values)
+    → GivesFirst s.ordered s.limit (values_of (splits_of s r) store) values
+scan_gives s r t store values first made room read =
+    let given = stream_gives s r t made store values (read (stream_fresh s r t made store room)) in
+    let all : GivesFirst s.ordered (limit_after s) (first_of (limit_before s) (values_of (splits_of s r) store)) values = subst (λ (xs : List Marked). GivesFirst s.ordered (limit_after s) xs values) (first s r store) given in
+    both_limits s.ordered (has_filter s.plans) s.limit (values_of (splits_of s r) store) values all
 
-pub rows_given : {R M : Type 0} (state : ReaderState) (b : BuilderData R M) (s : ScanData M) (store : Store) (values : List Marked)
-    → SplitsGiveWhatIsAsked R M → StreamsGiveTheFirstRows M → IsBuilder state b.projection b.filter b.natural → Rises b.selection → IsPrepared state b s → IsScan s
-    → GivesFirst s.ordered (limit_after s) (values_in (streamed s None) store) values → GivesFirst b.ordered b.limit (asked_values state b None store) values
-rows_given state b s store values law first builder rises is scan h =
+rows_given : {R M : Type 0} (state : ReaderState) (b : BuilderData R M) (s : ScanData M) (store : Store) (values : List Marked)
+    → SplitsGiveWhatIsAsked R M → IsBuilder state b.projection b.filter b.natural → Rises b.selection → IsPrepared state b s → IsScan s
+    → GivesFirst s.ordered s.limit (values_of (splits_of s None) store) values → GivesFirst b.ordered b.limit (asked_values state b None store) values
+rows_given state b s store values law builder rises is scan h =
     let asked = asked_values state b None store in
-    let all : values_in (streamed s None) store ≡ first_of (limit_before s) asked = first s None store ∙ ap (first_of (limit_before s)) (law state b s None builder rises is scan refl store) in
-    let given : GivesFirst s.ordered (limit_after s) (first_of (limit_before s) asked) values = subst (λ (xs : List Marked). GivesFirst s.ordered (limit_after s) xs values) all h in
-    subst (λ (z : Bool × Option ℕ). GivesFirst z.0 z.1 asked values) (λ i. (is.ordered i, is.limit i))
-    (both_limits s.ordered (has_filter s.plans) s.limit asked values given)
+    let given : GivesFirst s.ordered s.limit asked values = subst (λ (xs : List Marked). GivesFirst s.ordered s.limit xs values) (law state b s None builder rises is scan refl store) h in
+    subst (λ (z : Bool × Option ℕ). GivesFirst z.0 z.1 asked values) (λ i. (is.ordered i, is.limit i)) given
 
 -- ---- what a call answers
-pub scan_read : {M V F : Type 0} (s : ScanData M) (t : StreamData M) (holds : Option Store) (values : V → List Marked) (result : Result V F) → IsScan s → s.rows ≤ most → IsStreamOf s None t
+pub scan_read : {M V F : Type 0} (s : ScanData M) (r : Option (Range ℕ)) (t : StreamData M) (holds : Option Store) (values : V → List Marked) (result : Result V F)
+    → StreamsGiveTheFirstRows M → IsStreamOf s r t → HasRoom (t.feed).seat (reach (t.feed).splits)
     → IfOk result (λ v. (store : Store) → holds ≡ Some store → IsFresh store t.feed → IsReadOf store t.feed (values v))
-    → IfOk result (λ v. (store : Store) → holds ≡ Some store → GivesFirst s.ordered (limit_after s) (values_in (streamed s None) store) (values v))
-scan_read s t holds values (Ok v) is few made h = λ store told. scan_gives s t store (values v) is made few (h store told)
-scan_read s t holds values (Err f) is few made h = tt
+    → IfOk result (λ v. (store : Store) → holds ≡ Some store → GivesFirst s.ordered s.limit (values_of (splits_of s r) store) (values v))
+scan_read s r t holds values (Ok v) first made room h = λ store told. scan_gives s r t store (values v) first made room (h store told)
+scan_read s r t holds values (Err f) first made room h = tt
 
 pub rows_read : {R M V F : Type 0} (state : ReaderState) (b : BuilderData R M) (s : ScanData M) (holds : Option Store) (values : V → List Marked) (result : Result V F)
-    → SplitsGiveWhatIsAsked R M → StreamsGiveTheFirstRows M → IsBuilder state b.projection b.filter b.natural → Rises b.selection → IsPrepared state b s → IsScan s
-    → IfOk result (λ v. (store : Store) → holds ≡ Some store → GivesFirst s.ordered (limit_after s) (values_in (streamed s None) store) (values v))
+    → SplitsGiveWhatIsAsked R M → IsBuilder state b.projection b.filter b.natural → Rises b.selection → IsPrepared state b s → IsScan s
+    → IfOk result (λ v. (store : Store) → holds ≡ Some store → GivesFirst s.ordered s.limit (values_of (splits_of s None) store) (values v))
     → IfOk result (λ v. (store : Store) → holds ≡ Some store → GivesFirst b.ordered b.limit (asked_values state b None store) (values v))
-rows_read state b s holds values (Ok v) law first builder rises is scan h = λ store told. rows_given state b s store (values v) law first builder rises is scan (h store told)
-rows_read state b s holds values (Err f) law first builder rises is scan h = tt
+rows_read state b s holds values (Ok v) law builder rises is scan h = λ store told. rows_given state b s store (values v) law builder rises is scan (h store told)
+rows_read state b s holds values (Err f) law builder rises is scan h = tt
 
 -- the same over a source of its own
-module _ {M S V F : Type 0} (s : ScanData M) (state : S → SourceState) (source : S) (i : IterData M S) (is : IsIterOf s None source i) where
-  pub iter_read : (values : V → List Marked) (result : Result V F) → IsScan s → s.rows ≤ most
+module _ {M S V F : Type 0} (s : ScanData M) (r : Option (Range ℕ)) (state : S → SourceState) (source : S) (i : IterData M S) (is : IsIterOf s r source i) where
+  pub iter_read : (values : V → List Marked) (result : Result V F) → StreamsGiveTheFirstRows M → HasRoom ((i.stream).feed).seat (reach ((i.stream).feed).splits)
       → IfOk result (λ v. (store : Store) → (state i.source).holds ≡ Some store → IsFresh store (i.stream).feed → IsReadOf store (i.stream).feed (values v))
-      → IfOk result (λ v. (store : Store) → (state source).holds ≡ Some store → GivesFirst s.ordered (limit_after s) (values_in (streamed s None) store) (values v))
-  iter_read values result stands few h =
-      let P : S → Type 0 = λ x. IfOk result (λ v. (store : Store) → (state x).holds ≡ Some store → GivesFirst s.ordered (limit_after s) (values_in (streamed s None) store) (values v)) in
-      subst P is.1 (scan_read s i.stream (state i.source).holds values result stands few is.0 h)
+      → IfOk result (λ v. (store : Store) → (state source).holds ≡ Some store → GivesFirst s.ordered s.limit (values_of (splits_of s r) store) (values v))
+  iter_read values result first room h =
+      let P : S → Type 0 = λ x. IfOk result (λ v. (store : Store) → (state x).holds ≡ Some store → GivesFirst s.ordered s.limit (values_of (splits_of s r) store) (values v)) in
+      subst P is.1 (scan_read s r i.stream (state i.source).holds values result first is.0 room h)
 
 -- ---- why it stops
 pub refused : (o : Option SetupFault) (f : SetupFault) → Refuses {T = ℕ} (Err f) o → RefusedBy o f

@@ -7,5 +7,5 @@ mod stream;
 mod turn;
 
 pub use iterator::read_iterator;
-pub use scan::{read_rows, read_rows_from};
+pub use scan::{read_rows, read_rows_from, read_scan, read_scan_from};
 pub use stream::read_stream;

@@ -1,5 +1,7 @@
 pub mod Bare
 pub mod Binding
+pub mod Covering
 pub mod Preparing
 pub mod Starting
 pub mod Stepping
+pub mod Together

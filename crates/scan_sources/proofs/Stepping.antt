@@ -37,4 +37,5 @@ stepped {M} now s n e k left behind seat rest r is h range same =
       rows = h.rows;
       size = h.size;
       room = subst (λ (z : Option SeatState). HasRoom z (e - r.end)) (sym same) room;
+      scan = h.scan;
     }

@@ -1,5 +1,6 @@
 pub mod Empties
 pub mod Faults
+pub mod Parts
 pub mod Plain
 pub mod Requests
 pub mod Scans

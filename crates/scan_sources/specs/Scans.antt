@@ -69,6 +69,7 @@ pub record IsReaderScan {M : Type 0} (s : ReaderScan M) : Type 0 where
   pub rows : s.end ≤ s.scan.rows
   pub size : 0 < s.size
   pub room : HasRoom s.seat (s.end - s.next)
+  pub scan : IsScan s.scan
 
 -- nothing is left of a limit
 abbrev pub is_used : Option ℕ → Bool

@@ -10,7 +10,7 @@ use Rattle.scan_streams.specs.Plans.{has_filter}
 use Rattle.scan_streams.specs.Streams.{StreamData}
 use Rattle.scan_core.specs.RowRanges.{IsRange}
 use Rattle.scan_core.specs.ScanCode.{range_code, scan_code}
-use Rattle.scan_core.specs.ScanData.{ScanData}
+use Rattle.scan_core.specs.ScanData.{ScanData, IsScan}
 use Rattle.scan_core.specs.Streaming.{IsStreamOf, IsStreamWith}
 use Rattle.scan_sources.specs.Requests.{cut_by}
 use Rattle.scan_sources.specs.declared.precision.Precision.{Precision}
@@ -44,6 +44,7 @@ pub record IsSplit {M : Type 0} (p : ReaderSplit M) : Type 0 where
   pub rows : IsRange p.scan.rows p.range
   pub limit : p.scan.limit ≡ own_limit p.seat p.limit
   pub room : HasRoom p.seat (p.range.end - p.range.start)
+  pub scan : IsScan p.scan
 
 -- a number of rows, which a filter may lessen
 abbrev pub estimate : Bool → ℕ → Precision ℕ

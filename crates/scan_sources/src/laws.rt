@@ -1,4 +1,5 @@
 //! Laws of the parts of scans. Each is the contract of a function that calls the laws it rests on.
+ghost use Rattle.scan_sources.specs.Parts.{PartsCoverTheScan, PartsGiveTheScan};
 ghost use Rattle.scan_sources.specs.Scans.{PartsGiveTheirRows};
 
 use scan_core::{splits_give_what_is_asked, streams_give_the_first_rows};
@@ -11,4 +12,20 @@ pub fn splits_give_their_rows<M>()
 {
     splits_give_what_is_asked::<(), M>();
     streams_give_the_first_rows::<M>();
+}
+
+/// The parts that a scan of one reader gives, one after the other, follow each other from the first row that was in no part
+/// yet: no row is left out or stands in two. Once the scan is over and something is left of its limit, they end with its
+/// rows.
+pub fn parts_cover_the_scan<M>()
+    ensures { PartsCoverTheScan M }
+{}
+
+/// Without a limit the parts together give what the scan is asked for: the values of the request's projection at the selected
+/// rows of the request's range, from the first row of the parts to the last, at which the filter is true, in the order of
+/// the rows.
+pub fn parts_give_the_scan<M>()
+    ensures { PartsGiveTheScan M }
+{
+    splits_give_their_rows::<M>();
 }

@@ -3,6 +3,7 @@ ghost use Rattle.std.specs.Prelude.{◌≡◌, ◌≤◌, ◌<◌, ◌^◌, IfOk
 ghost use Rattle.scan_expr.specs.Bound.{bound_of};
 ghost use Rattle.scan_core.specs.BuilderData.{IsOver, IsFilter, range_or_all};
 ghost use Rattle.scan_core.specs.RowRanges.{is_past};
+ghost use Rattle.scan_core.specs.ScanData.{IsScan};
 ghost use Rattle.scan_sources.specs.Faults.{Refuses, expr_refusal, filter_refusal, bind_refusal};
 ghost use Rattle.scan_sources.specs.Requests.{IsBoundOver, IsScanOfRequest, asked_count, bound_request, cut_by, is_bare_struct, reads_nothing, request_dtype, shared_limit};
 
@@ -125,6 +126,7 @@ impl BoundScanRequest {
         requires over { IsBoundOver (R.state reader.old).dtype self }
         requires range { is_past self.row_range (R.state reader.old).rows ≡ false }
         ensures scan { IfOk result (λ s. IsScanOfRequest (R.state reader.old) self s) }
+        ensures stands { IfOk result (λ s. IsScan s) }
         ensures same { R.state reader.new ≡ R.state reader.old }
     {
         let BoundScanRequest {

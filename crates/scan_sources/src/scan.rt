@@ -95,7 +95,8 @@ impl LayoutReaderScan {
     /// scan gets the whole limit, and those of an unordered one share it. None at the end, where no row is left, or
     /// nothing of the limit. A call that finds no memory changes nothing.
     pub fn next_partition(&mut self, alloc: Global) -> Result<Option<LayoutReaderSplit>, NoMemory>
-        ensures { GivesPart self.old self.new result }
+        ensures gives { GivesPart self.old self.new result }
+        ensures lies { IsReaderScan self.old }
     {
         if self.is_over() {
             return Ok(None);
@@ -112,7 +113,8 @@ impl LayoutReaderScan {
 
     /// Whether no row is left, or nothing of the limit.
     fn is_over(&self) -> bool
-        ensures { result ≡ is_over self.now }
+        ensures over { result ≡ is_over self.now }
+        ensures lies { IsReaderScan self.now }
     {
         self.end_row <= self.next_row || is_used(self.remaining_limit)
     }

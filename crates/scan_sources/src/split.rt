@@ -1,7 +1,9 @@
 //! Parts of scans of one reader. After the Rust's `scan::layout`.
 ghost use Rattle.std.specs.Prelude.{◌≡◌, IfOk, None, is_some};
 ghost use Rattle.scan_core.specs.Setup.{Refuses};
+ghost use Rattle.scan_streams.specs.Grants.{HasRoom};
 ghost use Rattle.scan_streams.specs.Plans.{has_filter};
+ghost use Rattle.scan_streams.specs.Splits.{reach};
 ghost use Rattle.scan_sources.specs.Splits.{IsSplit, IsStreamOfSplit, estimate, reader_split, selected_count, split_count};
 ghost use Rattle.scan_sources.specs.declared.precision.Precision.TheVariants as precision;
 
@@ -118,6 +120,7 @@ impl LayoutReaderSplit {
     /// `NoMemory` alone.
     pub fn execute(self, alloc: Global) -> Result<ScanStream<Identity<()>>, SetupFault>
         ensures stream { IfOk result (λ t. IsStreamOfSplit self t) }
+        ensures room { IfOk result (λ t. HasRoom (t.feed).seat (reach (t.feed).splits)) }
         ensures fault { Refuses result None }
     {
         let LayoutReaderSplit {
