@@ -10,17 +10,18 @@ use Rattle.scan_opener.specs.Opener.{OpenerState}
 use Rattle.scan_opener.specs.declared.opener.Opening.{Opening}
 use Rattle.scan_opener.specs.declared.opener.Opening.TheVariants as opening
 use Rattle.scan_multi_sources.specs.FileFaults.{ends_past, is_too_many, many_fault, typed_fault}
-use Rattle.scan_multi_sources.specs.Files.{SlotData, StageData, is_failed, keeps_failure, slot_data}
+use Rattle.scan_multi_sources.specs.Files.{SlotData, StageData, keeps_failure, slot_data}
 use Rattle.scan_multi_sources.specs.Files as file
 use Rattle.scan_multi_sources.specs.MultiScans.{IsMultiScan, KeepsInOrder, MultiScan, FindsAt, Passes, PassesOpened, PollsFile, first_of, is_turn}
 use Rattle.scan_multi_sources.specs.Numbers.{is_given}
 use Rattle.scan_multi_sources.specs.Opens.{Found, Moves, Waited, found_of}
 use Rattle.scan_multi_sources.specs.Opens as asks
-use Rattle.scan_multi_sources.specs.Polls.{Answers, AnswersBy, AnswersOne, FailsBy, FailsOpened, FaultsBy, GivesOpened, Goes, IsPolled, PendingWaited, Steps, StepsLast, StepsOn}
+use Rattle.scan_multi_sources.specs.Polls.{Answers, AnswersBy, AnswersOne, FailsBy, FailsOpened, FaultsBy, GivesOpened, Goes, IsPolled, LooksAt, PendingWaited, Steps, StepsLast, StepsOn}
 use Rattle.scan_multi_sources.specs.declared.fault.MultiFault.{MultiFault}
 use Rattle.scan_multi_sources.specs.declared.fault.MultiFault.TheVariants as fault
 use Rattle.scan_multi_sources.specs.declared.scan.PartitionPoll.{PartitionPoll}
 use Rattle.scan_multi_sources.specs.declared.scan.PartitionPoll.TheVariants as poll
+use Rattle.scan_multi_sources.proofs.Before.{looks_start}
 use Rattle.scan_multi_sources.proofs.Finding.{any_append, any_at, any_remove, any_set}
 use Rattle.scan_multi_sources.proofs.Moving.{asks_fail, asks_move, failed_wider, moves_then, stays, waited_then, waited_wider}
 
@@ -183,10 +184,11 @@ module _ {O : Type 0} (opener : O → OpenerState) where
     pub goes : Goes opener steps start now
     pub moves : Moves opener start.source.children now.source.children
     pub waits : 0 < at → Waited opener start.source.children now.source.children
+    pub before : LooksAt now at
     pub keeps : (n : ℕ) → list_any (keeps_failure n) now.window ≡ true → (list_any (keeps_failure n) start.window ≡ true) ⊎ asks.Failed opener start.source.children now.source.children n
 
   pub call_starts : (s : MultiScan O) → InCall s s 0
-  call_starts s = record { steps = 0; goes = refl; moves = stays opener s.source.children; waits = λ l. absurd (omega (arith, l)); keeps = λ n h. inl h }
+  call_starts s = record { steps = 0; goes = refl; moves = stays opener s.source.children; waits = λ l. absurd (omega (arith, l)); before = looks_start s; keeps = λ n h. inl h }
 
   wider : (start mid new : MultiScan O) (n : ℕ) → ((k : ℕ) → list_any (keeps_failure k) mid.window ≡ true → (list_any (keeps_failure k) start.window ≡ true) ⊎ asks.Failed opener start.source.children mid.source.children k)
       → Moves opener start.source.children mid.source.children → Moves opener mid.source.children new.source.children
@@ -203,6 +205,7 @@ module _ {O : Type 0} (opener : O → OpenerState) where
         goes = (now, c.goes, s.step);
         moves = moves_then opener start.source.children now.source.children new.source.children c.moves m;
         waits = λ l. elim (s.waits l) [ inl a ↦ waited_then opener start.source.children now.source.children new.source.children (c.waits a) m | inr w ↦ waited_wider opener start.source.children now.source.children new.source.children c.moves w ];
+        before = s.before;
         keeps = λ n h. wider start now new n c.keeps c.moves m (step_keeps now new n s.step h);
       }
 

@@ -1,3 +1,4 @@
+pub mod Before
 pub mod Counting
 pub mod Finding
 pub mod Going

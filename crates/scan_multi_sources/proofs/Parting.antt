@@ -14,7 +14,7 @@ use Rattle.scan_streams.specs.Grants.{HasRoom}
 use Rattle.scan_core.specs.BuilderData.{range_or_all}
 use Rattle.scan_core.specs.RowRanges.{IsRange, is_past}
 use Rattle.scan_readers.specs.LeafPlans.{layout_state}
-use Rattle.scan_core.specs.ScanData.{ScanData}
+use Rattle.scan_core.specs.ScanData.{IsScan, ScanData}
 use Rattle.scan_sources.specs.Plain.{Plain}
 use Rattle.scan_sources.specs.Requests.{IsBoundOver, IsScanOfRequest}
 use Rattle.scan_sources.specs.Splits.{IsSplit, ReaderSplit, own_limit, part_of, reader_split, rest_of}
@@ -110,11 +110,12 @@ module _ (q : BoundScanRequest) (l : Layout) (seat claims : Option SeatState) (s
   own_is : own_limit seat q.limit ≡ own_limit claims q.limit
   own_is = own_same seat (part_size q l) q.limit ∙ ap (λ z. own_limit z q.limit) (sym part)
 
-  pub file_split : is_past q.row_range (rows_of l) ≡ false → IsSplit (reader_split (record s { limit = own_limit seat q.limit }) (part_rows q l) q.limit claims)
-  file_split past = record {
+  pub file_split : is_past q.row_range (rows_of l) ≡ false → IsScan (record s { limit = own_limit seat q.limit }) → IsSplit (reader_split (record s { limit = own_limit seat q.limit }) (part_rows q l) q.limit claims)
+  file_split past stands = record {
     rows = subst (λ n. IsRange n (part_rows q l)) (sym h.rows) (part_within q l past);
     limit = own_is;
     room = subst (λ z. HasRoom z (part_size q l)) (sym part) (own_room seat (part_size q l));
+    scan = stands;
   }
 
   pub file_part : IsPart q l seat (reader_split (record s { limit = own_limit seat q.limit }) (part_rows q l) q.limit claims)
@@ -136,10 +137,10 @@ module _ (q : BoundScanRequest) (l : Layout) (seat claims : Option SeatState) (s
   parted : claims ≡ part_of (part_size q l) seat
   parted = part ∙ ap (λ (z : Range ℕ). part_of (z.end - z.start) seat) range
 
-  pub split_is : is_past q.row_range (rows_of l) ≡ false → IsSplit (reader_split scan r q.limit claims)
-  split_is past =
+  pub split_is : is_past q.row_range (rows_of l) ≡ false → IsScan scan → IsSplit (reader_split scan r q.limit claims)
+  split_is past stands =
       subst (λ z. IsSplit (reader_split z r q.limit claims)) (sym whole)
-      (subst (λ z. IsSplit (reader_split (record s { limit = own_limit seat q.limit }) z q.limit claims)) (sym range) (file_split q l seat claims s h parted past))
+      (subst (λ z. IsSplit (reader_split (record s { limit = own_limit seat q.limit }) z q.limit claims)) (sym range) (file_split q l seat claims s h parted past (subst (λ z. IsScan z) whole stands)))
 
   pub part_is : IsPart q l seat (reader_split scan r q.limit claims)
   part_is =

@@ -1,6 +1,6 @@
 -- What comes of a file that is looked at, as a step of a poll.
 use Rattle.std.proofs.Common.{◌≡◌, ◌≢◌, ◌≤◌, ◌<◌, ◌+◌, ◌==◌, ◌||◌, not, ℕ, zero, suc, Bool, true, false}
-use Rattle.std.proofs.Common.{length, Option, Some, None, Result, Ok, Err, inl, inr, refl, ap, sym, subst, ◌∙◌, arith}
+use Rattle.std.proofs.Common.{List, [], ◌∷◌, length, length-append, Option, Some, None, Result, Ok, Err, inl, inr, refl, ap, sym, subst, ◌∙◌, arith}
 use Rattle.std.proofs.lemmas.Bool.Decides.{nat_tests}
 use Rattle.std.proofs.lemmas.List.{length-set}
 use Rattle.std.proofs.lemmas.List.Edits.{length-remove}
@@ -11,19 +11,21 @@ use Rattle.scan_layout.specs.Layout.{Layout}
 use Rattle.scan_opener.specs.Opener.{OpenerState}
 use Rattle.scan_opener.specs.declared.opener.Opening.{Opening}
 use Rattle.scan_opener.specs.declared.opener.Opening.TheVariants as opening
+use Rattle.scan_multi_sources.specs.Children.{is_open}
 use Rattle.scan_multi_sources.specs.Files.{StageData, slot_data}
 use Rattle.scan_multi_sources.specs.Files as file
-use Rattle.scan_multi_sources.specs.MultiScans.{Finds, MakesPartition, MayKeep, MultiScan, Passes, PassesOpened, PollsFile, delivered_at, has_room, is_turn, kept_at, left_out}
+use Rattle.scan_multi_sources.specs.MultiScans.{BeginsNext, Finds, MakesPartition, MayKeep, MultiScan, Passes, PassesOpened, PollsFile, begun, delivered_at, has_room, is_turn, kept_at, left_out}
 use Rattle.scan_multi_sources.specs.Opens.{Found, Waited, found_of}
 use Rattle.scan_multi_sources.specs.Opens as asks
 use Rattle.scan_multi_sources.specs.Partitions.{PartitionData}
-use Rattle.scan_multi_sources.specs.Polls.{Answers, AnswersBy, ComesTo, FailsOpened, GoesOn, IsStep, StepsLast, weight}
+use Rattle.scan_multi_sources.specs.Polls.{Answers, AnswersBy, ComesTo, FailsOpened, GoesOn, IsStep, LooksAt, NoneBefore, StepsLast, StepsOn, weight}
 use Rattle.scan_multi_sources.specs.declared.fault.MultiFault.{MultiFault}
 use Rattle.scan_multi_sources.specs.declared.fault.MultiFault.TheVariants as fault
 use Rattle.scan_multi_sources.specs.declared.scan.PartitionPoll.{PartitionPoll}
 use Rattle.scan_multi_sources.specs.declared.scan.PartitionPoll.TheVariants as poll
 use Rattle.scan_multi_sources.specs.declared.scan.Step.{Step}
 use Rattle.scan_multi_sources.specs.declared.scan.Step.TheVariants.{Next, Answer}
+use Rattle.scan_multi_sources.proofs.Before.{finds_looks, looks_begun, looks_delivered, looks_kept, looks_left, looks_next, polled_closed}
 use Rattle.scan_multi_sources.proofs.Finding.{some_within}
 use Rattle.scan_multi_sources.proofs.Going.{polled_children}
 use Rattle.scan_multi_sources.proofs.Moving.{asks_wait}
@@ -46,14 +48,15 @@ module _ {O : Type 0} where
   behind s i h = above i (not_turn s.request.ordered (i == 0) h).1
 
   -- ---- going on
-  pub waits_on : (s : MultiScan O) (i k : ℕ) → i < length s.window → GoesOn s s i (i + 1) k asks.waits
-  waits_on s i k l = record { passes = refl; nearer = omega (arith, l); waits = λ n. inr refl }
+  pub waits_on : (s : MultiScan O) (i k : ℕ) (st : StageData) → slice_get s.window i ≡ Some (slot_data k st) → is_open s.source.children k ≡ false → i < length s.window → GoesOn s s i (i + 1) k asks.waits
+  waits_on s i k st g closed l = record { passes = refl; nearer = omega (arith, l); waits = λ n. inr refl; before = λ b. looks_next s i k st g closed l b }
 
   pub kept_on : (s : MultiScan O) (i k : ℕ) (st : StageData) (f : Found) → i < length s.window → is_turn s i ≡ false → Passes s (kept_at s i k st) i k f → GoesOn s (kept_at s i k st) i (i + 1) k f
   kept_on s i k st f l turn p = record {
     passes = p;
     nearer = let n = length-set s.window i (slot_data k st) in omega (arith, n, l);
     waits = λ m. inl (behind s i turn);
+    before = λ b. looks_kept s i k st l (not_turn s.request.ordered (i == 0) turn).0;
   }
 
   pub left_on : (s : MultiScan O) (i k : ℕ) (f : Found) → i < length s.window → Passes s (left_out s i) i k f → GoesOn s (left_out s i) i i k f
@@ -61,6 +64,7 @@ module _ {O : Type 0} where
     passes = p;
     nearer = let n = length-remove s.window i l in omega (arith, n, l);
     waits = λ m. inl m;
+    before = λ b. looks_left s i l b;
   }
 
   pub delivered_on : (s : MultiScan O) (i k : ℕ) (f : Found) → i < length s.window → Passes s (delivered_at s i) i k f → GoesOn s (delivered_at s i) i i k f
@@ -68,6 +72,7 @@ module _ {O : Type 0} where
     passes = p;
     nearer = let n = length-remove s.window i l in omega (arith, n, l);
     waits = λ m. inl m;
+    before = λ b. looks_delivered s i l b;
   }
 
   no_end : (s new : MultiScan O) (i k : ℕ) (f : Found) → Answers s new i k f poll.End → ⊥
@@ -79,20 +84,21 @@ module _ {O : Type 0} where
 
 -- ---- steps
 module _ {O : Type 0} (opener : O → OpenerState) where
-  answers_by : (s looked new : MultiScan O) (i k : ℕ) (f : Found) (r : PartitionPoll) → Finds opener s looked i k f → r ≢ poll.Pending → Answers looked new i k f r → AnswersBy opener s new r
-  answers_by s looked new i k f poll.Pending is ne h = absurd (ne refl)
-  answers_by s looked new i k f (poll.Partition p) is ne h = record { at = i; place = k; found = f; looked = looked; finds = is; answers = h }
-  answers_by s looked new i k f poll.End is ne h = absurd (no_end looked new i k f h)
-  answers_by s looked new i k f (poll.Fault e) is ne h = inr (record { at = i; place = k; found = f; looked = looked; finds = is; answers = h })
+  answers_by : (s looked new : MultiScan O) (i k : ℕ) (f : Found) (r : PartitionPoll) → Finds opener s looked i k f → NoneBefore s i → r ≢ poll.Pending → Answers looked new i k f r → AnswersBy opener s new r
+  answers_by s looked new i k f poll.Pending is b ne h = absurd (ne refl)
+  answers_by s looked new i k f (poll.Partition p) is b ne h = record { at = i; place = k; found = f; looked = looked; finds = is; answers = h; before = b }
+  answers_by s looked new i k f poll.End is b ne h = absurd (no_end looked new i k f h)
+  answers_by s looked new i k f (poll.Fault e) is b ne h = inr (record { at = i; place = k; found = f; looked = looked; finds = is; answers = h; before = b })
 
-  pub comes_step : (s looked new : MultiScan O) (i k : ℕ) (f : Found) (r : Step) → Finds opener s looked i k f → weight looked i ≡ weight s i
+  pub comes_step : (s looked new : MultiScan O) (i k : ℕ) (f : Found) (r : Step) → Finds opener s looked i k f → LooksAt s i → weight looked i ≡ weight s i
       → (f ≡ asks.waits → Waited opener s.source.children new.source.children) → ComesTo looked new i k f r → IsStep opener s new i r
-  comes_step s looked new i k f (Next n) is same wait h = record {
+  comes_step s looked new i k f (Next n) is b same wait h = record {
     step = inr (record { at = i; place = k; found = f; looked = looked; finds = is; passes = h.passes });
     nearer = let m = h.nearer in omega (arith, m, same);
     waits = λ l. elim (h.waits l) [ inl a ↦ inl a | inr e ↦ inr (wait e) ];
+    before = h.before (finds_looks opener is.stage s looked k f is.finds i b);
   }
-  comes_step s looked new i k f (Answer r) is same wait h = record { answer = answers_by s looked new i k f r is h.0 h.1; waits = λ e. absurd (h.0 e) }
+  comes_step s looked new i k f (Answer r) is b same wait h = record { answer = answers_by s looked new i k f r is b.before h.0 h.1; waits = λ e. absurd (h.0 e) }
 
   pub polled_finds : (s looked : MultiScan O) (i k : ℕ) (r : Opening) → slice_get s.window i ≡ Some (slot_data k file.opening) → PollsFile opener s looked k r → Finds opener s looked i k (found_of r)
   polled_finds s looked i k r g h = record { stage = file.opening; slot = g; finds = (r, h, refl) }
@@ -114,36 +120,57 @@ module _ {O : Type 0} (opener : O → OpenerState) where
   kept_failed s i k g = record { stage = file.failed; slot = g; finds = (refl, refl) }
 
   -- ---- beginning
-
   pub full_step : (s : MultiScan O) (at : ℕ) → length s.window ≤ at → has_room s ≡ false → 0 < s.source.concurrency → StepsLast opener s s at poll.Pending
   full_step s at l room some = record { answer = refl; waits = λ e. grind (arith, nat_tests, l, room, some) }
+
+  begun_step : (s : MultiScan O) (at k : ℕ) (ks : List ℕ) → length s.window ≤ at → LooksAt s at → s.waiting ≡ k ∷ ks → has_room s ≡ true → StepsOn opener s (begun s k ks) at at
+  begun_step s at k ks l b next few = record {
+    step = inl (record { place = k; rest = ks; next = next; few = few; then = refl });
+    nearer = let n = length-append s.window (slot_data k file.opening ∷ []) in let m = ap length next in omega (arith, n, m, l);
+    waits = λ m. inl m;
+    before = looks_begun s at k ks b;
+  }
+
+  pub begin_step : (s new : MultiScan O) (at : ℕ) → length s.window ≤ at → LooksAt s at → has_room s ≡ true → BeginsNext s new (Ok true) → StepsOn opener s new at at
+  begin_step s new at l b few h = subst (λ z. StepsOn opener s z at at) (sym h.3) (begun_step s at h.0 h.1 l b h.2 few)
 
   -- ---- an opener that was polled
   module _ (s looked : MultiScan O) (at k : ℕ) (slot : slice_get s.window at ≡ Some (slot_data k file.opening)) where
     pub polled_within : (r : Opening) → PollsFile opener s looked k r → at < length looked.window
     polled_within r h = subst (λ z. at < length z) (sym (polled_window s looked k r h)) (some_within s.window at (slot_data k file.opening) slot)
 
-    pub open_pending : PollsFile opener s looked k opening.Pending → IsStep opener s looked at (Next (at + 1))
-    open_pending h = comes_step s looked looked at k asks.waits (Next (at + 1)) (polled_finds s looked at k opening.Pending slot h) (polled_weight s looked at k opening.Pending h) (λ e. polled_waits s looked k h) (waits_on looked at k (polled_within opening.Pending h))
+    polled_slot : (r : Opening) → PollsFile opener s looked k r → slice_get looked.window at ≡ Some (slot_data k file.opening)
+    polled_slot r h = ap (λ ws. slice_get ws at) (polled_window s looked k r h) ∙ slot
 
-    pub open_skipped : (new : MultiScan O) → PollsFile opener s looked k opening.Skipped → new ≡ left_out looked at → IsStep opener s new at (Next at)
-    open_skipped new h is = rw is (comes_step s looked (left_out looked at) at k asks.skipped (Next at) (polled_finds s looked at k opening.Skipped slot h) (polled_weight s looked at k opening.Skipped h) (λ e. absurd cc) (left_on looked at k asks.skipped (polled_within opening.Skipped h) refl))
+    waits_there : PollsFile opener s looked k opening.Pending → GoesOn looked looked at (at + 1) k asks.waits
+    waits_there h = waits_on looked at k file.opening (polled_slot opening.Pending h) (polled_closed opener s looked k h) (polled_within opening.Pending h)
 
-    pub open_short : PollsFile opener s looked k opening.NoMemory → IsStep opener s looked at (Answer (poll.Fault fault.NoMemory))
-    open_short h = comes_step s looked looked at k asks.short (Answer (poll.Fault fault.NoMemory)) (polled_finds s looked at k opening.NoMemory slot h) (polled_weight s looked at k opening.NoMemory h) (λ e. absurd cc) ((λ e. cc), (refl, refl))
+    module _ (b : LooksAt s at) where
+      pub open_pending : PollsFile opener s looked k opening.Pending → IsStep opener s looked at (Next (at + 1))
+      open_pending h =
+          comes_step s looked looked at k asks.waits (Next (at + 1)) (polled_finds s looked at k opening.Pending slot h) b (polled_weight s looked at k opening.Pending h) (λ e. polled_waits s looked k h)
+          (waits_there h)
 
-    pub open_found : (l : Rc Layout Global) (new : MultiScan O) (r : Step) → PollsFile opener s looked k (opening.Opened l) → ComesTo looked new at k (asks.found l.value) r → IsStep opener s new at r
-    open_found l new r h c = comes_step s looked new at k (asks.found l.value) r (polled_finds s looked at k (opening.Opened l) slot h) (polled_weight s looked at k (opening.Opened l) h) (λ e. absurd cc) c
+      pub open_skipped : (new : MultiScan O) → PollsFile opener s looked k opening.Skipped → new ≡ left_out looked at → IsStep opener s new at (Next at)
+      open_skipped new h is =
+          rw is (comes_step s looked (left_out looked at) at k asks.skipped (Next at) (polled_finds s looked at k opening.Skipped slot h) b (polled_weight s looked at k opening.Skipped h) (λ e. absurd cc) (left_on looked at k asks.skipped (polled_within opening.Skipped h) refl))
 
-    pub open_failed : (new : MultiScan O) (r : Step) → PollsFile opener s looked k opening.Failed → ComesTo looked new at k asks.fails r → IsStep opener s new at r
-    open_failed new r h c = comes_step s looked new at k asks.fails r (polled_finds s looked at k opening.Failed slot h) (polled_weight s looked at k opening.Failed h) (λ e. absurd cc) c
+      pub open_short : PollsFile opener s looked k opening.NoMemory → IsStep opener s looked at (Answer (poll.Fault fault.NoMemory))
+      open_short h =
+          comes_step s looked looked at k asks.short (Answer (poll.Fault fault.NoMemory)) (polled_finds s looked at k opening.NoMemory slot h) b (polled_weight s looked at k opening.NoMemory h) (λ e. absurd cc) ((λ e. cc), (refl, refl))
+
+      pub open_found : (l : Rc Layout Global) (new : MultiScan O) (r : Step) → PollsFile opener s looked k (opening.Opened l) → ComesTo looked new at k (asks.found l.value) r → IsStep opener s new at r
+      open_found l new r h c = comes_step s looked new at k (asks.found l.value) r (polled_finds s looked at k (opening.Opened l) slot h) b (polled_weight s looked at k (opening.Opened l) h) (λ e. absurd cc) c
+
+      pub open_failed : (new : MultiScan O) (r : Step) → PollsFile opener s looked k opening.Failed → ComesTo looked new at k asks.fails r → IsStep opener s new at r
+      open_failed new r h c = comes_step s looked new at k asks.fails r (polled_finds s looked at k opening.Failed slot h) b (polled_weight s looked at k opening.Failed h) (λ e. absurd cc) c
 
   -- what was kept
-  pub look_found : (s new : MultiScan O) (at k : ℕ) (l : Layout) (r : Step) → slice_get s.window at ≡ Some (slot_data k (file.opened l)) → ComesTo s new at k (asks.found l) r → IsStep opener s new at r
-  look_found s new at k l r slot c = comes_step s s new at k (asks.found l) r (kept_found s at k l slot) refl (λ e. absurd cc) c
+  pub look_found : (s new : MultiScan O) (at k : ℕ) (l : Layout) (r : Step) → slice_get s.window at ≡ Some (slot_data k (file.opened l)) → LooksAt s at → ComesTo s new at k (asks.found l) r → IsStep opener s new at r
+  look_found s new at k l r slot b c = comes_step s s new at k (asks.found l) r (kept_found s at k l slot) b refl (λ e. absurd cc) c
 
-  pub look_failed : (s new : MultiScan O) (at k : ℕ) (r : Step) → slice_get s.window at ≡ Some (slot_data k file.failed) → ComesTo s new at k asks.fails r → IsStep opener s new at r
-  look_failed s new at k r slot c = comes_step s s new at k asks.fails r (kept_failed s at k slot) refl (λ e. absurd cc) c
+  pub look_failed : (s new : MultiScan O) (at k : ℕ) (r : Step) → slice_get s.window at ≡ Some (slot_data k file.failed) → LooksAt s at → ComesTo s new at k asks.fails r → IsStep opener s new at r
+  look_failed s new at k r slot b c = comes_step s s new at k asks.fails r (kept_failed s at k slot) b refl (λ e. absurd cc) c
 
 -- ---- a file in its turn
 module _ {O : Type 0} (s : MultiScan O) (at k : ℕ) (l : Layout) (turn : is_turn s at ≡ true) where

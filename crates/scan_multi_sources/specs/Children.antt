@@ -1,6 +1,7 @@
 -- The files of a source of many.
-use Rattle.std.specs.Prelude.{◌≡◌, ◌⊎◌, ℕ, Bool, not, List, [], ◌∷◌, Option, Some, None, refl}
+use Rattle.std.specs.Prelude.{◌≡◌, ◌⊎◌, ℕ, Bool, true, false, not, List, [], ◌∷◌, Option, Some, None, refl}
 use Rattle.std.specs.Coded.{Coded, code_by, coded×, coded⊎, coded_ℕ, coded_option}
+use Rattle.std.specs.List.{slice_get}
 use mathlib.Core.Logic.{inl, inr}
 use Rattle.scan_layout.specs.Layout.{Layout, rows_of}
 use Rattle.scan_layout.specs.LayoutCode.{layout_code}
@@ -36,6 +37,15 @@ child_code {O} o = code_by (ChildParts O) (coded× (coded⊎ layout_code o) (cod
 abbrev pub is_opened : {O : Type 0} → Bool → ChildData O → Bool
 is_opened want (opened l n) = want
 is_opened want (deferred o n) = not want
+
+-- there is a file, and it was handed in opened
+abbrev pub is_open_file : {O : Type 0} → Option (ChildData O) → Bool
+is_open_file None = false
+is_open_file (Some c) = is_opened true c
+
+-- so is the file at a place
+abbrev pub is_open : {O : Type 0} → List (ChildData O) → ℕ → Bool
+is_open cs k = is_open_file (slice_get cs k)
 
 -- its number of bytes
 abbrev pub child_bytes : {O : Type 0} → ChildData O → Option ℕ

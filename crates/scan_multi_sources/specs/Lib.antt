@@ -1,3 +1,4 @@
+pub mod Beginnings
 pub mod ChildView
 pub mod Children
 pub mod FileFaults

@@ -1,14 +1,15 @@
 -- What a poll of a scan of many files answers.
-use Rattle.std.specs.Prelude.{◌≡◌, ◌≢◌, ◌⊎◌, ◌+◌, ◌-◌, ◌*◌, ◌<◌, ℕ, zero, suc, true, List, [], ◌∷◌, length, Some, None}
+use Rattle.std.specs.Prelude.{◌≡◌, ◌≢◌, ◌⊎◌, ◌+◌, ◌-◌, ◌*◌, ◌≤◌, ◌<◌, ℕ, zero, suc, Bool, true, false, List, [], ◌∷◌, length, take, Some, None}
 use Rattle.std.specs.List.{list_any}
 use Rattle.scan_layout.specs.Layout.{Layout}
 use Rattle.scan_opener.specs.Opener.{OpenerState}
-use Rattle.scan_multi_sources.specs.Files.{keeps_failure}
+use Rattle.scan_multi_sources.specs.Children.{is_open}
+use Rattle.scan_multi_sources.specs.Files.{SlotData, keeps_failure}
 use Rattle.scan_multi_sources.specs.Files as file
 use Rattle.scan_multi_sources.specs.MultiScans.{MultiScan, Finds, IsPartition, Passes, begun, delivered_at, given_at, has_room, is_turn, kept_at, refusal}
 use Rattle.scan_multi_sources.specs.Numbers.{is_given}
 use Rattle.scan_multi_sources.specs.Opens as asks
-use Rattle.scan_multi_sources.specs.Opens.{Found, Failed, Moves, Waited}
+use Rattle.scan_multi_sources.specs.Opens.{Found, Failed, Waited}
 use Rattle.scan_multi_sources.specs.declared.fault.MultiFault.{MultiFault}
 use Rattle.scan_multi_sources.specs.declared.fault.MultiFault.TheVariants as fault
 use Rattle.scan_multi_sources.specs.declared.scan.PartitionPoll.{PartitionPoll}
@@ -36,6 +37,20 @@ Answers s new i k asks.short r = (r ≡ poll.Fault fault.NoMemory) × (new ≡ s
 Answers s new i k asks.skipped r = ⊥
 Answers s new i k (asks.found l) r = (is_turn s i ≡ true) × GivesOpened s new i k l r
 Answers s new i k asks.fails r = (is_turn s i ≡ true) × (r ≡ poll.Fault (fault.Opener k)) × (new ≡ delivered_at s i)
+
+-- ---- which file is looked at
+-- a file that was begun is one that was handed in opened
+abbrev pub begins_open : {O : Type 0} → MultiScan O → SlotData → Bool
+begins_open s w = is_open s.source.children w.place
+
+-- in an unordered scan no such file stands before an index
+abbrev pub NoneBefore : {O : Type 0} → MultiScan O → ℕ → Type 0
+NoneBefore s i = s.request.ordered ≡ false → list_any (begins_open s) (take i s.window) ≡ false
+
+-- a poll looks at an index of the files that were begun, or behind the last
+pub record LooksAt {O : Type 0} (s : MultiScan O) (i : ℕ) : Type 0 where
+  pub within : i ≤ length s.window
+  pub before : NoneBefore s i
 
 -- ---- steps without an answer
 -- the next file is begun, where fewer than so many are
@@ -73,6 +88,8 @@ module _ {O : Type 0} (opener : O → OpenerState) where
     pub looked : MultiScan O
     pub finds : Finds opener s looked at place found
     pub answers : Answers looked new at place found r
+    -- in an unordered scan no file that was handed in opened is passed over
+    pub before : NoneBefore s at
 
   -- an answer: `End` only where no file is left; want of memory may be met before a file is looked at
   abbrev pub AnswersBy : MultiScan O → MultiScan O → PartitionPoll → Type 0
@@ -114,6 +131,7 @@ pub record GoesOn {O : Type 0} (s new : MultiScan O) (at next place : ℕ) (f : 
   pub passes : Passes s new at place f
   pub nearer : weight new next < weight s at
   pub waits : 0 < next → (0 < at) ⊎ (f ≡ asks.waits)
+  pub before : LooksAt s at → LooksAt new next
 
 -- one or the other
 abbrev pub ComesTo : {O : Type 0} → MultiScan O → MultiScan O → ℕ → ℕ → Found → Step → Type 0
@@ -126,6 +144,7 @@ module _ {O : Type 0} (opener : O → OpenerState) where
     pub step : Steps opener s new
     pub nearer : weight new next < weight s at
     pub waits : 0 < next → (0 < at) ⊎ Waited opener s.source.children new.source.children
+    pub before : LooksAt new next
 
   -- a step that ends the poll
   pub record StepsLast (s new : MultiScan O) (at : ℕ) (r : PartitionPoll) : Type 0 where

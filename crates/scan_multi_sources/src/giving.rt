@@ -13,8 +13,8 @@ ghost use Rattle.scan_multi_sources.specs.Partitions.{MakesPart, part_size};
 ghost use Rattle.scan_multi_sources.specs.Numbers.{is_given};
 
 use crate::fault::MultiFault;
+use crate::file_scan::FileScan;
 use crate::partition::MultiLayoutPartition;
-use crate::scan::MultiLayoutScan;
 use scan_layout::{LayoutNode, LayoutReaderContext, LayoutRef};
 use scan_opener::LayoutReaderFactory;
 use scan_readers::Reader;
@@ -25,7 +25,7 @@ use scan_values::{DType, NoMemory, Text};
 use std::alloc::Global;
 use std::ops::Range;
 
-impl<'s, O: LayoutReaderFactory + Drop> MultiLayoutScan<'s, O> {
+impl<O: LayoutReaderFactory + Drop> FileScan<O> {
     /// The partition of a file whose layout is there. None where its number is not to be given.
     pub(crate) fn partition(
         &mut self,

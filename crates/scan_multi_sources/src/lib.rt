@@ -3,8 +3,10 @@
 
 mod child;
 mod fault;
+mod file_scan;
 mod giving;
 mod known;
+mod loan;
 mod looking;
 mod numbers;
 mod partition;
@@ -15,6 +17,8 @@ mod start;
 
 pub use child::MultiLayoutChild;
 pub use fault::MultiFault;
+pub use file_scan::FileScan;
+pub use loan::{GivesBack, LentSource};
 pub use partition::MultiLayoutPartition;
 pub use scan::{MultiLayoutScan, PartitionPoll};
 pub use scan_core::{Identity, ScanStream, SetupFault};

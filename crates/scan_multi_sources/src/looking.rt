@@ -4,13 +4,14 @@ ghost use Rattle.std.specs.List.{slice_get};
 ghost use Rattle.scan_multi_sources.specs.FileView.{slot_view};
 ghost use Rattle.scan_multi_sources.specs.Files.{opening, slot_data};
 ghost use Rattle.scan_multi_sources.specs.Opens.{fails, found};
-ghost use Rattle.scan_multi_sources.specs.Polls.{ComesTo, IsStep};
+ghost use Rattle.scan_multi_sources.specs.Polls.{ComesTo, IsStep, LooksAt};
 ghost use Rattle.scan_multi_sources.specs.declared.fault.MultiFault.TheVariants as fault;
 ghost use Rattle.scan_multi_sources.specs.declared.scan.PartitionPoll.TheVariants as poll;
 ghost use Rattle.scan_multi_sources.specs.declared.scan.Step.TheVariants as step;
 
 use crate::fault::MultiFault;
-use crate::scan::{MultiLayoutScan, PartitionPoll, Step};
+use crate::file_scan::FileScan;
+use crate::scan::{PartitionPoll, Step};
 use crate::slot::{Slot, Stage};
 use scan_layout::LayoutRef;
 use scan_opener::{LayoutReaderFactory, Opening};
@@ -23,9 +24,10 @@ fn short() -> Step
     Step::Answer(PartitionPoll::Fault(MultiFault::NoMemory))
 }
 
-impl<'s, O: LayoutReaderFactory + Drop> MultiLayoutScan<'s, O> {
+impl<O: LayoutReaderFactory + Drop> FileScan<O> {
     /// Looks at the file that was begun at an index, or behind the last begins the next.
     pub(crate) fn step(&mut self, alloc: Global, at: usize) -> Step
+        requires { LooksAt self.old at }
         ensures { IsStep O.opener self.old self.new at result }
     {
         match self.slot_at(at) {
@@ -37,7 +39,8 @@ impl<'s, O: LayoutReaderFactory + Drop> MultiLayoutScan<'s, O> {
 
     /// Begins the next file, where fewer than so many are.
     fn begin(&mut self, at: usize) -> Step
-        requires { length self.old.window ≤ at }
+        requires past { length self.old.window ≤ at }
+        requires before { LooksAt self.old at }
         ensures { IsStep O.opener self.old self.new at result }
     {
         if !self.has_room() {
@@ -52,7 +55,8 @@ impl<'s, O: LayoutReaderFactory + Drop> MultiLayoutScan<'s, O> {
 
     /// Looks at a file that was begun: what comes of its opener, or what was kept.
     fn look(&mut self, alloc: Global, at: usize, slot: Slot) -> Step
-        requires { slice_get self.old.window at ≡ Some (slot_view slot) }
+        requires slot { slice_get self.old.window at ≡ Some (slot_view slot) }
+        requires before { LooksAt self.old at }
         ensures { IsStep O.opener self.old self.new at result }
     {
         let Slot { place, stage } = slot;
@@ -65,7 +69,8 @@ impl<'s, O: LayoutReaderFactory + Drop> MultiLayoutScan<'s, O> {
 
     /// Polls the opener of a file.
     fn open(&mut self, alloc: Global, at: usize, place: usize) -> Step
-        requires { slice_get self.old.window at ≡ Some (slot_data place opening) }
+        requires slot { slice_get self.old.window at ≡ Some (slot_data place opening) }
+        requires before { LooksAt self.old at }
         ensures { IsStep O.opener self.old self.new at result }
     {
         match self.poll_file(alloc, place) {

@@ -1,6 +1,8 @@
 //! Partitions of scans of many files: each is one file. After the Rust's `scan::multi`.
 ghost use Rattle.std.specs.Prelude.{◌≡◌, IfOk, None};
 ghost use Rattle.scan_core.specs.Setup.{Refuses};
+ghost use Rattle.scan_streams.specs.Grants.{HasRoom};
+ghost use Rattle.scan_streams.specs.Splits.{reach};
 ghost use Rattle.scan_sources.specs.Splits.{IsStreamOfSplit};
 ghost use Rattle.scan_multi_sources.specs.Partitions.{bytes_known, partition_data, partition_rows};
 
@@ -86,6 +88,7 @@ impl MultiLayoutPartition {
     /// `NoMemory` alone.
     pub fn execute(self, alloc: Global) -> Result<ScanStream<Identity<()>>, SetupFault>
         ensures stream { IfOk result (λ t. IsStreamOfSplit self.split t) }
+        ensures room { IfOk result (λ t. HasRoom (t.feed).seat (reach (t.feed).splits)) }
         ensures fault { Refuses result None }
     {
         self.split.execute(alloc)

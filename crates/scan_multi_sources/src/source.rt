@@ -12,7 +12,7 @@ use crate::known::{estimate, known_bytes, known_rows};
 use scan_layout::LayoutRef;
 use scan_opener::{LayoutReaderFactory, Opening};
 use scan_sources::{Precision, SourceFault};
-use scan_values::{DType, NoMemory};
+use scan_values::{DType, NoMemory, Nullability};
 use std::alloc::Global;
 use std::marker::Model;
 
@@ -131,6 +131,20 @@ impl<O: Drop> MultiLayoutDataSource<O> {
         ensures { result ≡ estimate_of (map child_bytes self.now.children) }
     {
         estimate(known_bytes(&self.children), self.children.len())
+    }
+}
+
+impl<O: Drop> MultiLayoutDataSource<O> {
+    /// All that it has. Nothing is left in it.
+    pub(crate) fn take(&mut self, alloc: Global) -> Self
+        ensures { result ≡ self.old }
+    {
+        let nothing = MultiLayoutDataSource {
+            dtype: DType::bool(Nullability::NonNullable),
+            children: Vec::new(alloc),
+            concurrency: 0,
+        };
+        std::mem::replace(self, nothing)
     }
 }
 

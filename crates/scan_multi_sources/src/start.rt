@@ -1,9 +1,12 @@
 //! Scans of many files at their start. After the Rust's `scan::multi`.
-ghost use Rattle.std.specs.Prelude.{◌≡◌, ◌++◌, ◌<◌, [], IfOk, IfSome, Err, false, map};
+ghost use Rattle.std.specs.Prelude.{◌≡◌, ◌++◌, ◌<◌, IfOk, IfSome, Err, false, map};
+ghost use Rattle.std.specs.Borrow.{sem, RestsIfErr};
 ghost use Rattle.scan_sources.specs.Faults.{Refuses};
 ghost use Rattle.scan_sources.specs.Requests.{IsBoundOver, bound_request};
+ghost use Rattle.scan_multi_sources.specs.Beginnings.{MayBegin};
 ghost use Rattle.scan_multi_sources.specs.ChildView.{child_data};
 ghost use Rattle.scan_multi_sources.specs.FileFaults.{is_reversed};
+ghost use Rattle.scan_multi_sources.specs.contracts.source.MultiLayoutDataSource.{the_row};
 ghost use Rattle.scan_multi_sources.specs.Starts.{StartsMulti, first_places, limit_shared, multi_refusal, number_refusal, numbers_of, places_of};
 
 use crate::child::MultiLayoutChild;
@@ -11,28 +14,53 @@ use crate::numbers::PartitionNumbers;
 use crate::scan::MultiLayoutScan;
 use crate::source::MultiLayoutDataSource;
 use scan_expr::ScanRequest;
-use scan_sources::{BoundScanRequest, SourceFault, shared};
+use scan_sources::{BoundScanRequest, SharedLimit, SourceFault, shared};
 use scan_values::NoMemory;
 use std::alloc::Global;
 use std::collections::VecDeque;
 use std::ops::Range;
 
+/// What a scan of a source begins with.
+#[derive(Drop)]
+pub(crate) struct ScanStart {
+    pub request: BoundScanRequest,
+    pub numbers: PartitionNumbers,
+    pub waiting: VecDeque<usize>,
+    pub row_limit: Option<SharedLimit>,
+}
+
 impl<O: Drop> MultiLayoutDataSource<O> {
-    /// A scan of what is asked for, of each file.
+    /// A scan of what is asked for, of each file. It holds the source: once it is dropped the source has its files again,
+    /// as the scan's polls left their openers.
     ///
     /// # Errors
     /// The first that holds, and exactly then, unless memory runs out before: `Concurrency` where it is 0; `RowRange`
     /// where the range is reversed; `Bind` with the first fault of the projection, then of the filter, then `NotBool`. The
-    /// first two take no memory. Each of them leaves the source as it was. Else `NoMemory` alone.
+    /// first two take no memory. Else `NoMemory` alone. Each leaves the source as it was.
     pub fn scan(
         &mut self,
         alloc: Global,
         request: ScanRequest,
     ) -> Result<MultiLayoutScan<'_, O>, SourceFault>
+        ensures* rests { sem 𝓛 (RestsIfErr (the_row O.row) self.entry (λ s. s.source.ghost_name) result
+            (λ last. last ≡ self.old)) }
+        ensures same_reference { IfOk result (λ s. s.source.ghost_name ≡ self.entry.ghost_name) }
         ensures numbers { IfSome (number_refusal self.old.concurrency request.row_range) (λ f. result ≡ Err f) }
         ensures fault { Refuses result (multi_refusal self.old request) }
         ensures scan { IfOk result (λ s. StartsMulti self.old
-            (bound_request self.old.dtype request) (numbers_of request) s) }
+            (bound_request self.old.dtype request) (numbers_of request) s.files) }
+    {
+        let start = self.start(alloc, request)?;
+        Ok(MultiLayoutScan::new(alloc, self, start))
+    }
+
+    /// What a scan of what is asked for begins with.
+    fn start(&self, alloc: Global, request: ScanRequest) -> Result<ScanStart, SourceFault>
+        ensures numbers { IfSome (number_refusal self.now.concurrency request.row_range) (λ f. result ≡ Err f) }
+        ensures fault { Refuses result (multi_refusal self.now request) }
+        ensures asked { IfOk result (λ s. (s.request ≡ bound_request self.now.dtype request)
+            × (s.numbers ≡ numbers_of request)) }
+        ensures may { IfOk result (λ s. MayBegin self.now s) }
     {
         if self.concurrency == 0 {
             return Err(SourceFault::Concurrency);
@@ -42,33 +70,30 @@ impl<O: Drop> MultiLayoutDataSource<O> {
         }
         let numbers = PartitionNumbers::of(alloc, &request)?;
         let request = BoundScanRequest::try_new(alloc, request, &self.dtype)?;
-        Ok(start(alloc, self, request, numbers)?)
+        Ok(start_of(alloc, self, request, numbers)?)
     }
 }
 
-/// A scan of which nothing was begun.
-fn start<O: Drop>(
+/// What a scan begins with that may begin.
+fn start_of<O: Drop>(
     alloc: Global,
-    source: &mut MultiLayoutDataSource<O>,
+    source: &MultiLayoutDataSource<O>,
     request: BoundScanRequest,
     numbers: PartitionNumbers,
-) -> Result<MultiLayoutScan<'_, O>, NoMemory>
-    requires some { 0 < source.old.concurrency }
-    requires over { IsBoundOver source.old.dtype request }
+) -> Result<ScanStart, NoMemory>
+    requires some { 0 < source.now.concurrency }
+    requires over { IsBoundOver source.now.dtype request }
     requires forward { is_reversed request.row_range ≡ false }
-    ensures { IfOk result (λ s. StartsMulti source.old request numbers s) }
+    ensures asked { IfOk result (λ s. (s.request ≡ request) × (s.numbers ≡ numbers)) }
+    ensures may { IfOk result (λ s. MayBegin source.now s) }
 {
     let row_limit = shared(alloc, limit_shared(&request))?;
     let waiting = first_places(alloc, &source.children)?;
-    Ok(MultiLayoutScan {
-        source,
+    Ok(ScanStart {
         request,
         numbers,
-        window: Vec::new(alloc),
         waiting,
         row_limit,
-        given_rows: 0,
-        delivered: 0,
     })
 }
 
