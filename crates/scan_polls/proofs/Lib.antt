@@ -1,0 +1,5 @@
+pub mod Counting
+pub mod Firsts
+pub mod Ordering
+pub mod Stepping
+pub mod Polling
