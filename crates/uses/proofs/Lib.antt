@@ -1,5 +1,6 @@
 pub mod Again
 pub mod Alone
+pub mod Collecting
 pub mod Concluding
 pub mod OnDisk
 pub mod Summing

@@ -2,13 +2,16 @@
 //! the writer of lines stand over the names of vortex_scan alone.
 #![tactic(auto)]
 
+mod collect;
 mod count;
 mod disk;
+mod files_twice;
 mod first;
 mod look;
 mod never;
 mod own_source;
 mod program;
+mod reader_twice;
 mod row;
 mod shown;
 mod source_twice;
@@ -16,12 +19,15 @@ mod sum;
 mod twice;
 mod under;
 
+pub use collect::{first_values, first_values_from};
 pub use count::count_rows;
 pub use disk::{TripFault, rows_back, rows_of_file, written_and_read};
+pub use files_twice::{files_asked, scan_files_twice};
 pub use first::first_rows;
 pub use look::values_at;
 pub use own_source::rows_of_table;
 pub use program::lines_of;
+pub use reader_twice::{first_rows_of, first_rows_twice};
 pub use row::value_at_row;
 pub use shown::shown_rows;
 pub use source_twice::scan_source_twice;

@@ -17,6 +17,7 @@ pub use Rattle.scan_readers.specs as Readers
 pub use Rattle.scan_limit.specs as Limit
 pub use Rattle.scan_streams.specs as Streams
 pub use Rattle.scan_core.specs as Core
+pub use Rattle.scan_collect.specs as Collect
 pub use Rattle.scan_opener.specs as Opener
 pub use Rattle.scan_drive.specs as Drive
 pub use Rattle.scan_file.specs as File
