@@ -1,201 +1,185 @@
 //! The fields that a scan asks for.
-ghost use Rattle.std.specs.Prelude.{◌≡◌, IfOk, length};
+ghost use Rattle.std.specs.Prelude.{◌≡◌, length};
 
+use crate::rows::{int, name};
 use scan_core::referenced_field_masks;
 use scan_expr::{BoundExpression, Expression};
-use scan_values::{DType, FieldMask, FieldName, Nullability, PType, StructFields, Value};
+use scan_values::{DType, FieldMask, FieldName, Nullability, StructFields, Value};
 use std::alloc::Global;
+use std::process::Abort;
 use std::string::String;
-use std::test::Fail;
-
-/// What is projected or filtered by.
-#[derive(Clone, Copy)]
-enum Case {
-    All,
-    One,
-    Inner,
-    Chosen,
-    NotExcluded,
-    Tested,
-    Twice,
-    Packed,
-    OfAPack,
-}
-
-fn name(alloc: Global, text: &str) -> Result<FieldName, Fail> {
-    Ok(FieldName::new(String::from_str(alloc, text)?))
-}
-
-fn number() -> DType {
-    DType::primitive(PType::I32, Nullability::NonNullable)
-}
 
 /// The struct of the numbers `x` and `y`.
-fn inner(alloc: Global) -> Result<DType, Fail> {
-    let mut names = Vec::new(alloc);
-    names.push(name(alloc, "x")?)?;
-    names.push(name(alloc, "y")?)?;
-    let mut dtypes = Vec::new(alloc);
-    dtypes.push(number())?;
-    dtypes.push(number())?;
-    Ok(DType::struct_(StructFields::new(names, dtypes), Nullability::Nullable)?)
+fn inner(rt: &impl Abort, alloc: Global) -> DType {
+    let mut pairs = Vec::new(alloc);
+    pairs.push(("x", int())).expect(rt, "push");
+    pairs.push(("y", int())).expect(rt, "push");
+    let fields = StructFields::from_pairs(alloc, pairs).expect(rt, "from_pairs");
+    DType::struct_(fields, Nullability::Nullable).expect(rt, "struct_")
 }
 
 /// The struct of the struct `a` and the numbers `b` and `c`.
-fn outer(alloc: Global) -> Result<DType, Fail> {
-    let mut names = Vec::new(alloc);
-    names.push(name(alloc, "a")?)?;
-    names.push(name(alloc, "b")?)?;
-    names.push(name(alloc, "c")?)?;
-    let mut dtypes = Vec::new(alloc);
-    dtypes.push(inner(alloc)?)?;
-    dtypes.push(number())?;
-    dtypes.push(number())?;
-    Ok(DType::struct_(StructFields::new(names, dtypes), Nullability::NonNullable)?)
+fn outer(rt: &impl Abort, alloc: Global) -> DType {
+    let mut pairs = Vec::new(alloc);
+    pairs.push(("a", inner(rt, alloc))).expect(rt, "push");
+    pairs.push(("b", int())).expect(rt, "push");
+    pairs.push(("c", int())).expect(rt, "push");
+    let fields = StructFields::from_pairs(alloc, pairs).expect(rt, "from_pairs");
+    DType::struct_(fields, Nullability::NonNullable).expect(rt, "struct_")
 }
 
 /// `e.text`.
-fn field(alloc: Global, text: &str, e: Expression) -> Result<Expression, Fail> {
-    let name = name(alloc, text)?;
-    Ok(Expression::get_item(alloc, name, e)?)
+fn field(rt: &impl Abort, alloc: Global, text: &str, e: Expression) -> Expression {
+    let name = name(rt, alloc, text);
+    Expression::get_item(alloc, name, e).expect(rt, "get_item")
 }
 
 /// These two names.
-fn two(alloc: Global, first: &str, second: &str) -> Result<Vec<FieldName>, Fail>
-    ensures { IfOk result (λ v. length v.items ≡ 2) }
+fn two(rt: &impl Abort, alloc: Global, first: &str, second: &str) -> Vec<FieldName>
+    ensures { length result.items ≡ 2 }
 {
     let mut names = Vec::new(alloc);
-    names.push(name(alloc, first)?)?;
-    names.push(name(alloc, second)?)?;
-    Ok(names)
+    names.push(name(rt, alloc, first)).expect(rt, "push");
+    names.push(name(rt, alloc, second)).expect(rt, "push");
+    names
 }
 
 /// These two expressions.
-fn both(alloc: Global, first: Expression, second: Expression) -> Result<Vec<Expression>, Fail>
-    ensures { IfOk result (λ v. length v.items ≡ 2) }
+fn both(rt: &impl Abort, alloc: Global, first: Expression, second: Expression) -> Vec<Expression>
+    ensures { length result.items ≡ 2 }
 {
     let mut parts = Vec::new(alloc);
-    parts.push(first)?;
-    parts.push(second)?;
-    Ok(parts)
+    parts.push(first).expect(rt, "push");
+    parts.push(second).expect(rt, "push");
+    parts
+}
+
+/// `$.text`.
+fn of_root(rt: &impl Abort, alloc: Global, text: &str) -> Expression {
+    field(rt, alloc, text, Expression::root())
+}
+
+/// `select(["y", "x"], $.a)`.
+fn chosen(rt: &impl Abort, alloc: Global) -> Expression {
+    let names = two(rt, alloc, "y", "x");
+    Expression::select(alloc, names, of_root(rt, alloc, "a")).expect(rt, "select")
+}
+
+/// `$` without `a` and `c`.
+fn not_excluded(rt: &impl Abort, alloc: Global) -> Expression {
+    let names = two(rt, alloc, "a", "c");
+    Expression::select_exclude(alloc, names, Expression::root()).expect(rt, "select_exclude")
+}
+
+/// `$.c`, and the same of `select(["b", "c"], $)`.
+fn twice(rt: &impl Abort, alloc: Global) -> Expression {
+    let names = two(rt, alloc, "b", "c");
+    let second = Expression::select(alloc, names, Expression::root()).expect(rt, "select");
+    let second = field(rt, alloc, "c", second);
+    Expression::eq(alloc, of_root(rt, alloc, "c"), second).expect(rt, "eq")
+}
+
+/// The struct of `$` as `x` and of `$.a` as `y`.
+fn packed(rt: &impl Abort, alloc: Global) -> Expression {
+    let names = two(rt, alloc, "x", "y");
+    let parts = both(rt, alloc, Expression::root(), of_root(rt, alloc, "a"));
+    Expression::pack(names, parts, Nullability::Nullable)
 }
 
 /// `e.x`, of the struct `e` of `$.b` as `x` and of 1 as `y`.
-fn of_a_pack(alloc: Global) -> Result<Expression, Fail> {
-    let names = two(alloc, "x", "y")?;
-    let first = field(alloc, "b", Expression::root())?;
-    let parts = both(alloc, first, Expression::lit(number(), Value::Int(1)))?;
-    let packed = Expression::pack(names, parts, Nullability::NonNullable);
-    field(alloc, "x", packed)
+fn of_a_pack(rt: &impl Abort, alloc: Global) -> Expression {
+    let names = two(rt, alloc, "x", "y");
+    let one = Expression::lit(int(), Value::Int(1));
+    let parts = both(rt, alloc, of_root(rt, alloc, "b"), one);
+    field(
+        rt,
+        alloc,
+        "x",
+        Expression::pack(names, parts, Nullability::NonNullable),
+    )
 }
 
-fn expression(alloc: Global, case: Case) -> Result<Expression, Fail> {
-    let root = Expression::root();
+/// `$.b = 1`.
+fn b_is_one(rt: &impl Abort, alloc: Global) -> Expression {
+    let one = Expression::lit(int(), Value::Int(1));
+    Expression::eq(alloc, of_root(rt, alloc, "b"), one).expect(rt, "eq")
+}
+
+/// What is projected or filtered by.
+fn expression(rt: &impl Abort, alloc: Global, case: &str) -> Expression {
     match case {
-        Case::All => Ok(root),
-        Case::One => Ok(Expression::lit(number(), Value::Int(1))),
-        Case::Inner => field(alloc, "y", field(alloc, "a", root)?),
-        Case::Chosen => {
-            let names = two(alloc, "y", "x")?;
-            Ok(Expression::select(alloc, names, field(alloc, "a", root)?)?)
-        }
-        Case::NotExcluded => {
-            let names = two(alloc, "a", "c")?;
-            Ok(Expression::select_exclude(alloc, names, root)?)
-        }
-        Case::Tested => Ok(Expression::is_null(alloc, field(alloc, "a", root)?)?),
-        Case::Twice => {
-            let first = field(alloc, "c", root)?;
-            let names = two(alloc, "b", "c")?;
-            let second = Expression::select(alloc, names, Expression::root())?;
-            Ok(Expression::eq(alloc, first, field(alloc, "c", second)?)?)
-        }
-        Case::Packed => {
-            let names = two(alloc, "x", "y")?;
-            let second = field(alloc, "a", Expression::root())?;
-            let parts = both(alloc, root, second)?;
-            Ok(Expression::pack(names, parts, Nullability::Nullable))
-        }
-        Case::OfAPack => of_a_pack(alloc),
+        "all" => Expression::root(),
+        "one" => Expression::lit(int(), Value::Int(1)),
+        "field" => of_root(rt, alloc, "a"),
+        "inner" => field(rt, alloc, "y", of_root(rt, alloc, "a")),
+        "tested" => Expression::is_null(alloc, of_root(rt, alloc, "a")).expect(rt, "is_null"),
+        "chosen" => chosen(rt, alloc),
+        "not excluded" => not_excluded(rt, alloc),
+        "twice" => twice(rt, alloc),
+        "packed" => packed(rt, alloc),
+        "of a pack" => of_a_pack(rt, alloc),
+        "b is one" => b_is_one(rt, alloc),
+        _ => panic!(rt; "no expression"),
     }
 }
 
-fn bound(alloc: Global, case: Case) -> Result<BoundExpression, Fail> {
-    let dtype = outer(alloc)?;
-    Ok(expression(alloc, case)?.bind(alloc, &dtype)?)
-}
-
-/// The struct of the numbers `a` and `b`.
-fn pair(alloc: Global) -> Result<DType, Fail> {
-    let names = two(alloc, "a", "b")?;
-    let mut dtypes = Vec::new(alloc);
-    dtypes.push(number())?;
-    dtypes.push(number())?;
-    if names.len() != dtypes.len() {
-        return Err(Fail::from("uneven"));
-    }
-    Ok(DType::struct_(StructFields::new(names, dtypes), Nullability::NonNullable)?)
+fn bound(rt: &impl Abort, alloc: Global, case: &str) -> BoundExpression {
+    let dtype = outer(rt, alloc);
+    expression(rt, alloc, case)
+        .bind(alloc, &dtype)
+        .expect(rt, "bind")
 }
 
 /// Masks as texts, `$` for all.
-fn spelled(alloc: Global, masks: &[FieldMask]) -> Result<String, Fail> {
+fn spelled(rt: &impl Abort, alloc: Global, masks: &[FieldMask]) -> String {
     let mut text = String::new(alloc);
     for mask in masks {
-        text.push('$')?;
+        text.push('$').expect(rt, "push");
         if let FieldMask::Prefix(path) = mask {
             for name in path.names() {
-                text.push('.')?;
-                text.push_str(name.as_str())?;
+                text.push('.').expect(rt, "push");
+                text.push_str(name.as_str()).expect(rt, "push_str");
             }
         }
     }
-    Ok(text)
+    text
 }
 
+/// The masks of a projection, and of the filter of a case where it has one: `not excluded where twice`.
+fn told(rt: &impl Abort, alloc: Global, case: &str) -> String {
+    let Some((projection, filter)) = case.split_once(" where ") else {
+        let masks = referenced_field_masks(alloc, &bound(rt, alloc, case), None).expect(
+            rt,
+            "referenced_field_masks",
+        );
+        return spelled(rt, alloc, &masks);
+    };
+    let projection = bound(rt, alloc, projection);
+    let filter = bound(rt, alloc, filter);
+    let masks = referenced_field_masks(alloc, &projection, Some(&filter)).expect(
+        rt,
+        "referenced_field_masks",
+    );
+    spelled(rt, alloc, &masks)
+}
+
+// A filter adds what is new.
 #[test]
-fn masks_are_the_paths_of_what_is_used(rt: HostRuntime) -> Result<(), Fail> {
+fn masks_are_the_paths_of_what_is_used(rt: HostRuntime) {
     let alloc = rt.alloc();
-    let table = [
-        (Case::All, "$"),
-        (Case::One, ""),
-        (Case::Inner, "$.a.y"),
-        (Case::Chosen, "$.a.y$.a.x"),
-        (Case::NotExcluded, "$.b"),
-        (Case::Tested, "$.a"),
-        (Case::Twice, "$.c$.b"),
-        (Case::Packed, "$$.a"),
-        (Case::OfAPack, "$.b"),
-    ];
-    for (case, wanted) in table {
-        let projection = bound(alloc, case)?;
-        let masks = referenced_field_masks(alloc, &projection, None)?;
-        let text = spelled(alloc, &masks)?;
-        assert_eq!(rt; text.as_str(), wanted);
+    for (case, wanted) in [
+        ("all", "$"),
+        ("one", ""),
+        ("inner", "$.a.y"),
+        ("chosen", "$.a.y$.a.x"),
+        ("not excluded", "$.b"),
+        ("tested", "$.a"),
+        ("twice", "$.c$.b"),
+        ("packed", "$$.a"),
+        ("of a pack", "$.b"),
+        ("field where b is one", "$.a$.b"),
+        ("not excluded where twice", "$.b$.c"),
+    ] {
+        assert_eq!(rt; told(&rt, alloc, case).as_str(), wanted);
     }
-    Ok(())
-}
-
-#[test]
-fn a_field_and_the_field_of_a_filter_are_two_paths(rt: HostRuntime) -> Result<(), Fail> {
-    let alloc = rt.alloc();
-    let dtype = pair(alloc)?;
-    let projection = field(alloc, "a", Expression::root())?.bind(alloc, &dtype)?;
-    let b = field(alloc, "b", Expression::root())?;
-    let one = Expression::lit(number(), Value::Int(1));
-    let filter = Expression::eq(alloc, b, one)?.bind(alloc, &dtype)?;
-    let masks = referenced_field_masks(alloc, &projection, Some(&filter))?;
-    let text = spelled(alloc, &masks)?;
-    assert_eq!(rt; text.as_str(), "$.a$.b");
-    Ok(())
-}
-
-#[test]
-fn a_filter_adds_what_is_new(rt: HostRuntime) -> Result<(), Fail> {
-    let alloc = rt.alloc();
-    let projection = bound(alloc, Case::NotExcluded)?;
-    let filter = bound(alloc, Case::Twice)?;
-    let masks = referenced_field_masks(alloc, &projection, Some(&filter))?;
-    let text = spelled(alloc, &masks)?;
-    assert_eq!(rt; text.as_str(), "$.b$.c");
-    Ok(())
 }

@@ -1,19 +1,19 @@
 // Rows that are claimed from one budget, by one worker or by four.
-ghost use Rattle.std.specs.Prelude.{◌≡◌, ◌+◌, ◌*◌, ◌≤◌, min, IfOk};
+ghost use Rattle.std.specs.Prelude.{◌≡◌, ◌+◌, ◌*◌, ◌≤◌, min};
 ghost use denote.Param.Send.{IsSync};
 ghost use Rattle.scan_limit.specs.Budget.{most};
 
 use scan_limit::{LimitSeat, RowLimit};
 use scan_values::NoMemory;
 use std::alloc::Global;
-use std::test::Fail;
+use std::process::Abort;
 use std::thread;
 use std::thread::Threads;
 
 #[test]
-fn two_seats_share_a_limit_of_three(rt: HostRuntime) -> Result<(), Fail> {
-    let (limit, mut first) = RowLimit::new(rt.alloc(), 3)?;
-    let mut second = limit.split(&mut first, 5)?;
+fn two_seats_share_a_limit_of_three(rt: HostRuntime) {
+    let (limit, mut first) = RowLimit::new(rt.alloc(), 3).expect(&rt, "new");
+    let mut second = limit.split(&mut first, 5).expect(&rt, "split");
     assert_eq!(rt; (second.room(), second.claimed()), (5, 0));
     assert_eq!(rt; limit.take(&mut second, 2), 2);
     assert!(rt; !limit.is_exhausted(&mut first));
@@ -22,12 +22,11 @@ fn two_seats_share_a_limit_of_three(rt: HostRuntime) -> Result<(), Fail> {
     limit.join(&mut first, second);
     assert_eq!(rt; (first.claimed(), first.granted()), (4, 3));
     assert_eq!(rt; limit.close(first), 4);
-    Ok(())
 }
 
 #[test]
-fn grants_end_at_the_limit(rt: HostRuntime) -> Result<(), Fail> {
-    let (limit, mut seat) = RowLimit::new(rt.alloc(), 10)?;
+fn grants_end_at_the_limit(rt: HostRuntime) {
+    let (limit, mut seat) = RowLimit::new(rt.alloc(), 10).expect(&rt, "new");
     assert_eq!(rt; seat.room(), u64::MAX);
     assert_eq!(rt; limit.take(&mut seat, 4), 4);
     assert_eq!(rt; limit.take(&mut seat, 4), 4);
@@ -35,7 +34,6 @@ fn grants_end_at_the_limit(rt: HostRuntime) -> Result<(), Fail> {
     assert_eq!(rt; limit.take(&mut seat, 4), 0);
     assert_eq!(rt; (seat.claimed(), seat.granted()), (16, 10));
     assert_eq!(rt; limit.close(seat), 16);
-    Ok(())
 }
 
 // Claims so many rows, one at a time.
@@ -86,19 +84,14 @@ fn claim_in_two<R: Threads + Sync>(
 }
 
 // Four workers claim so many rows each, and together are granted as many as the limit allows.
-fn granted_to_four<R: Threads + Sync>(
-    rt: &R,
-    alloc: Global,
-    limit: u64,
-    rows: u64,
-) -> Result<u64, NoMemory>
+fn granted_to_four<R: Abort + Threads + Sync>(rt: &R, alloc: Global, limit: u64, rows: u64) -> u64
     requires { 4 * rows ≤ most }
-    ensures { IfOk result (λ granted. granted ≡ min limit (4 * rows)) }
+    ensures { result ≡ min limit (4 * rows) }
 {
-    let (limit, mut first) = RowLimit::new(alloc, limit)?;
-    let second = limit.split(&mut first, rows)?;
-    let mut third = limit.split(&mut first, 2 * rows)?;
-    let fourth = limit.split(&mut third, rows)?;
+    let (limit, mut first) = RowLimit::new(alloc, limit).expect(rt, "new");
+    let second = limit.split(&mut first, rows).expect(rt, "split");
+    let mut third = limit.split(&mut first, 2 * rows).expect(rt, "split");
+    let fourth = limit.split(&mut third, rows).expect(rt, "split");
     let budget = &limit;
     let (mut first, third) = thread::join(
         rt,
@@ -122,13 +115,12 @@ fn granted_to_four<R: Threads + Sync>(
     limit.join(&mut first, third);
     let granted = first.granted();
     limit.close(first);
-    Ok(granted)
+    granted
 }
 
 #[test]
-fn four_threads_are_granted_the_limit(rt: HostRuntime) -> Result<(), Fail> {
+fn four_threads_are_granted_the_limit(rt: HostRuntime) {
     for (limit, rows, granted) in [(1000, 1000, 1000), (5000, 1000, 4000), (0, 10, 0)] {
-        assert_eq!(rt; granted_to_four(&rt, rt.alloc(), limit, rows)?, granted);
+        assert_eq!(rt; granted_to_four(&rt, rt.alloc(), limit, rows), granted);
     }
-    Ok(())
 }
