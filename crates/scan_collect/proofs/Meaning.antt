@@ -139,7 +139,7 @@ both_limits false false limit asked values h = before_some limit asked values h
 pub stream_live : {M : Type 0} (s : ScanData M) (r : Option (Range ℕ)) (t : StreamData M) (live : ℕ → Bool) → IsStreamOf s r t → live ≡ none_live → LiveAs live (t.feed).live
 stream_live s r t live is h = λ id. ap (λ (f : ℕ → Bool). f id) h ∙ ap (λ (f : FeedData). is_among f.live id) (sym (is.stream).feed)
 
-scan_gives : {M : Type 0} (s : ScanData M) (r : Option (Range ℕ)) (t : StreamData M) (store : Store) (values : List Marked)
+pub scan_gives : {M : Type 0} (s : ScanData M) (r : Option (Range ℕ)) (t : StreamData M) (store : Store) (values : List Marked)
     → StreamsGiveTheFirstRows M → IsStreamOf s r t → HasRoom (t.feed).seat (reach (t.feed).splits) → (IsFresh store t.feed → IsReadOf store t.feed values)
     → GivesFirst s.ordered s.limit (values_of (splits_of s r) store) values
 scan_gives s r t store values first made room read =

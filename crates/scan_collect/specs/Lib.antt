@@ -1,4 +1,5 @@
 pub mod Asked
 pub mod Gathers
+pub mod Laws
 pub mod Reads
 pub mod Rows

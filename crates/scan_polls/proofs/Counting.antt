@@ -44,7 +44,7 @@ places_kept (w ∷ ws) zero p stage next h = let inner : w ≡ slot_data p stage
 places_kept (w ∷ ws) (suc i) p stage next h = ap (λ (qs : List ℕ). w.place ∷ qs) (places_kept ws i p stage next h)
 
 -- ---- one place more
-single : (n k : ℕ) → (n ≡ k → times k (n ∷ []) ≡ 1) × ((n ≡ k → ⊥) → times k (n ∷ []) ≡ 0)
+pub single : (n k : ℕ) → (n ≡ k → times k (n ∷ []) ≡ 1) × ((n ≡ k → ⊥) → times k (n ∷ []) ≡ 0)
 single n k = go (n == k) refl
   where
     go : (d : Bool) → (n == k) ≡ d → (n ≡ k → times k (n ∷ []) ≡ 1) × ((n ≡ k → ⊥) → times k (n ∷ []) ≡ 0)

@@ -1,18 +1,26 @@
 -- Numbers that pass a test, before others.
-use Rattle.std.proofs.Common.{◌≡◌, ◌+◌, ◌||◌, ℕ, zero, suc, Bool, true, false, List, [], ◌∷◌, ◌++◌, take, Some, refl, sym, ap, ◌∙◌, arith}
-use Rattle.std.specs.List.{list_any, remove, slice_get}
+use Rattle.std.proofs.Common.{◌≡◌, ◌+◌, ◌||◌, ◌&&◌, ℕ, zero, suc, Bool, true, false, List, [], ◌∷◌, ◌++◌, take, Some, refl, sym, ap, ◌∙◌, arith}
+use Rattle.std.specs.List.{list_all, list_any, remove, slice_get}
 use Rattle.scan_multi_sources.specs.Children.{ChildData, deferred, is_open, opened}
 use Rattle.scan_multi_sources.specs.Files.{SlotData, StageData, slot_data}
 use Rattle.scan_multi_sources.specs.Starts.{first_places, places_of}
 use Rattle.scan_polls.specs.Due.{StandFirst, places_begun}
 
-both_false : (a b : Bool) → a ≡ false → b ≡ false → (a || b) ≡ false
+pub both_false : (a b : Bool) → a ≡ false → b ≡ false → (a || b) ≡ false
 both_false true b h k = absurd cc
 both_false false b h k = k
 
-or_false : (a b : Bool) → (a || b) ≡ false → (a ≡ false) × (b ≡ false)
+pub or_false : (a b : Bool) → (a || b) ≡ false → (a ≡ false) × (b ≡ false)
 or_false true b h = absurd cc
 or_false false b h = (refl, h)
+
+pub both_true : (a b : Bool) → a ≡ true → b ≡ true → (a && b) ≡ true
+both_true true b h k = k
+both_true false b h k = absurd cc
+
+pub and_true : (a b : Bool) → (a && b) ≡ true → (a ≡ true) × (b ≡ true)
+and_true true b h = (refl, h)
+and_true false b h = absurd cc
 
 pub any_same : (p q : ℕ → Bool) → ((k : ℕ) → p k ≡ q k) → (ks : List ℕ) → list_any p ks ≡ list_any q ks
 any_same p q h [] = refl
@@ -65,6 +73,11 @@ module _ {O : Type 0} (q : ℕ → Bool) where
   closed_none (opened l b ∷ cs) n h = closed_none cs (suc n) (later (opened l b) cs n h)
   closed_none (deferred o b ∷ cs) n h = both_false (q n) (list_any q (places_of false cs (suc n))) (here (deferred o b) cs n false h refl) (closed_none cs (suc n) (later (deferred o b) cs n h))
 
+  opened_all : (cs : List (ChildData O)) (n : ℕ) → Tests cs n → list_all q (places_of true cs n) ≡ true
+  opened_all [] n h = refl
+  opened_all (opened l b ∷ cs) n h = both_true (q n) (list_all q (places_of true cs (suc n))) (here (opened l b) cs n true h refl) (opened_all cs (suc n) (later (opened l b) cs n h))
+  opened_all (deferred o b ∷ cs) n h = opened_all cs (suc n) (later (deferred o b) cs n h)
+
   closed_first : (cs : List (ChildData O)) (n : ℕ) → Tests cs n → StandFirst q (places_of false cs n)
   closed_first [] n h = tt
   closed_first (opened l b ∷ cs) n h = closed_first cs (suc n) (later (opened l b) cs n h)
@@ -77,7 +90,16 @@ module _ {O : Type 0} (q : ℕ → Bool) where
       (λ closed. let bad : true ≡ false = sym yes ∙ closed in absurd cc, opened_first cs (suc n) ks (later (opened l b) cs n h) f)
   opened_first (deferred o b ∷ cs) n ks h f = opened_first cs (suc n) ks (later (deferred o b) cs n h) f
 
+-- the test of all files
+from_start : {O : Type 0} (cs : List (ChildData O)) (j : ℕ) → is_open cs (0 + j) ≡ is_open cs j
+from_start cs j = let e : 0 + j ≡ j = omega arith in ap (λ k. is_open cs k) e
+
 pub places_first : {O : Type 0} (cs : List (ChildData O)) → StandFirst (is_open cs) (first_places cs)
-places_first cs =
-    let tests : (j : ℕ) → is_open cs (0 + j) ≡ is_open cs j = λ j. let e : 0 + j ≡ j = omega arith in ap (λ k. is_open cs k) e in
-    opened_first (is_open cs) cs 0 (places_of false cs 0) tests (closed_first (is_open cs) cs 0 tests)
+places_first cs = opened_first (is_open cs) cs 0 (places_of false cs 0) (from_start cs) (closed_first (is_open cs) cs 0 (from_start cs))
+
+-- the places of files that were handed in opened are theirs, and none of the others is
+pub places_opened : {O : Type 0} (cs : List (ChildData O)) → list_all (is_open cs) (places_of true cs 0) ≡ true
+places_opened cs = opened_all (is_open cs) cs 0 (from_start cs)
+
+pub places_closed : {O : Type 0} (cs : List (ChildData O)) → list_any (is_open cs) (places_of false cs 0) ≡ false
+places_closed cs = closed_none (is_open cs) cs 0 (from_start cs)

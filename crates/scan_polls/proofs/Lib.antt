@@ -1,5 +1,9 @@
 pub mod Counting
+pub mod Ending
 pub mod Firsts
+pub mod Numbering
 pub mod Ordering
+pub mod Placing
 pub mod Stepping
 pub mod Polling
+pub mod Totals

@@ -2,7 +2,7 @@
 use Rattle.std.proofs.Common.{◌≡◌, ◌≤◌, ℕ, zero, suc, List, [], ◌∷◌, ◌++◌, length, inl, inr, refl, subst, ◌∙◌, arith}
 use Rattle.std.specs.List.{remove}
 use Rattle.scan_multi_sources.specs.Files.{SlotData}
-use Rattle.scan_polls.specs.Due.{IsPartOf, RiseFrom, places_begun}
+use Rattle.scan_polls.specs.Due.{IsPartOf, RiseFrom, RiseUpTo, places_begun}
 
 pub part_self : (xs : List ℕ) → IsPartOf xs xs
 part_self [] = tt
@@ -42,11 +42,7 @@ shorter [] (suc i) = omega arith
 shorter (w ∷ ws) zero = omega arith
 shorter (w ∷ ws) (suc i) = let rest = shorter ws i in omega (arith, rest)
 
--- numbers rise from one on, and stay below another
-abbrev pub RiseUpTo : ℕ → List ℕ → ℕ → Type 0
-RiseUpTo n [] m = n ≤ m
-RiseUpTo n (x ∷ xs) m = (n ≤ x) × RiseUpTo (suc x) xs m
-
+-- ---- numbers that rise
 pub rise_lower : (a b : ℕ) (xs : List ℕ) (m : ℕ) → a ≤ b → RiseUpTo b xs m → RiseUpTo a xs m
 rise_lower a b [] m l h = omega (arith, l, h)
 rise_lower a b (x ∷ xs) m l h = let first = h.0 in (omega (arith, l, first), h.1)

@@ -46,7 +46,7 @@ module _ {O : Type 0} (opener : O → OpenerState) where
   answer_moves s new (poll.Fault f) (inl h) = subst (λ (g : MultiFault). Moved s new (places_in (poll.Fault g)) (numbers_in (poll.Fault g))) (sym h.0) (same_moves s new h.1)
   answer_moves s new (poll.Fault f) (inr h) = one_moves s new (poll.Fault f) h
 
-  poll_moves : (s new : MultiScan O) (r : PartitionPoll) → IsPolled opener s new r → Moved s new (places_in r) (numbers_in r)
+  pub poll_moves : (s new : MultiScan O) (r : PartitionPoll) → IsPolled opener s new r → Moved s new (places_in r) (numbers_in r)
   poll_moves s new r h = moved_then s h.then new [] [] (places_in r) (numbers_in r) (goes_move h.steps s h.then h.goes) (answer_moves h.then new r h.answer)
 
   pub polls_move : (rs : List PartitionPoll) (old new : MultiScan O) → Polls opener rs old new → Moved old new (places_answered rs) (numbers_given rs)

@@ -24,11 +24,11 @@ use Rattle.scan_multi_sources.specs.declared.fault.MultiFault.{MultiFault}
 use Rattle.scan_multi_sources.specs.declared.fault.MultiFault.TheVariants as fault
 use Rattle.scan_multi_sources.specs.declared.scan.PartitionPoll.{PartitionPoll}
 use Rattle.scan_multi_sources.specs.declared.scan.PartitionPoll.TheVariants as poll
-use Rattle.scan_polls.specs.Due.{IsPartOf, NoneOpen, OpenFirst, StandFirst, due, fault_places, numbers_in, places_begun, places_in, times}
+use Rattle.scan_polls.specs.Due.{IsPartOf, NoneOpen, OpenFirst, RiseUpTo, StandFirst, due, fault_places, numbers_in, places_begun, places_in, times}
 use Rattle.scan_multi_sources.proofs.Before.{any_none, polled_open}
 use Rattle.scan_polls.proofs.Counting.{places_kept, times_append, times_removed}
 use Rattle.scan_polls.proofs.Firsts.{first_removed, first_same, none_left}
-use Rattle.scan_polls.proofs.Ordering.{RiseUpTo, part_before, part_removed, part_same, part_self, part_then, rise_then, shorter}
+use Rattle.scan_polls.proofs.Ordering.{part_before, part_removed, part_same, part_self, part_then, rise_then, shorter}
 
 -- These places were answered, and these numbers given: of the files that were due.
 pub record Moved {O : Type 0} (s new : MultiScan O) (places numbers : List ℕ) : Type 0 where

@@ -1,8 +1,8 @@
 -- Files that are due, and polls one after the other.
-use Rattle.std.specs.Prelude.{◌≡◌, ◌≤◌, ◌⊎◌, ◌+◌, ◌==◌, ℕ, suc, Bool, false, List, [], ◌∷◌, ◌++◌, if◌then◌else◌, map}
+use Rattle.std.specs.Prelude.{◌≡◌, ◌≤◌, ◌⊎◌, ◌+◌, ◌==◌, ℕ, suc, Bool, true, false, List, [], ◌∷◌, ◌++◌, if◌then◌else◌, map}
 use Rattle.std.specs.List.{flat_map, list_any}
 use Rattle.scan_opener.specs.Opener.{OpenerState}
-use Rattle.scan_multi_sources.specs.Children.{is_open}
+use Rattle.scan_multi_sources.specs.Children.{ChildData, deferred, is_open, is_opened, opened}
 use Rattle.scan_multi_sources.specs.Files.{SlotData}
 use Rattle.scan_multi_sources.specs.MultiScans.{MultiScan}
 use Rattle.scan_multi_sources.specs.Polls.{IsPolled}
@@ -26,6 +26,17 @@ IsPartOf (x ∷ xs) (y ∷ ys) = ((x ≡ y) × IsPartOf xs ys) ⊎ IsPartOf (x �
 abbrev pub RiseFrom : ℕ → List ℕ → Type 0
 RiseFrom n [] = Unit {0}
 RiseFrom n (x ∷ xs) = (n ≤ x) × RiseFrom (suc x) xs
+
+-- numbers rise from one on, and stay below another
+abbrev pub RiseUpTo : ℕ → List ℕ → ℕ → Type 0
+RiseUpTo n [] m = n ≤ m
+RiseUpTo n (x ∷ xs) m = (n ≤ x) × RiseUpTo (suc x) xs m
+
+-- of the files of a source those that were handed in opened stand before the others
+abbrev pub OpenedLead : {O : Type 0} → List (ChildData O) → Type 0
+OpenedLead [] = Unit {0}
+OpenedLead (opened l n ∷ cs) = OpenedLead cs
+OpenedLead (deferred o n ∷ cs) = list_any (is_opened true) cs ≡ false
 
 -- the places of files that are due: of those that were begun, then of the others
 abbrev pub places_begun : List SlotData → List ℕ
