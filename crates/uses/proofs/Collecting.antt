@@ -40,6 +40,15 @@ module _ {R M : Type 0} (state : R → ReaderState) (old : R) (count : ℕ) (ste
   all_values : (store : Store) → asked_values (state old) (builder_by old (all_with (state old) (Some count) step)) None store ≡ map ((state old).value store) (numbers 0 (state old).rows)
   all_values store = ap (map ((state old).value store)) (all_pass (filter (λ i. true) (numbers 0 (state old).rows)) ∙ all_pass (numbers 0 (state old).rows))
 
+  pub all_given : {V F : Type 0} (reader : R) (settings : ScanSettings M) (holds : Option Store) (values : V → List Marked) (result : Result V F) → reader ≡ old → settings ≡ all_with (state old) None step
+      → IfOk result (λ v. (store : Store) → holds ≡ Some store → GivesFirst settings.ordered settings.limit (asked_values (state reader) (builder_by reader settings) None store) (values v))
+      → IfOk result (λ v. (store : Store) → holds ≡ Some store → values v ≡ map ((state old).value store) (numbers 0 (state old).rows))
+  all_given reader settings holds values (Ok v) here is h = λ store told.
+      let P : R × ScanSettings M → Type 0 = λ z. GivesFirst (z.1).ordered (z.1).limit (asked_values (state z.0) (builder_by z.0 z.1) None store) (values v) in
+      let given : values v ≡ asked_values (state old) (builder_by old (all_with (state old) None step)) None store = subst P (λ i. (here i, is i)) (h store told) in
+      given ∙ all_values store
+  all_given reader settings holds values (Err f) here is h = tt
+
   pub first_given : {V F : Type 0} (reader : R) (settings : ScanSettings M) (holds : Option Store) (values : V → List Marked) (result : Result V F) → reader ≡ old → settings ≡ all_with (state old) (Some count) step
       → IfOk result (λ v. (store : Store) → holds ≡ Some store → GivesFirst settings.ordered settings.limit (asked_values (state reader) (builder_by reader settings) None store) (values v))
       → IfOk result (λ v. (store : Store) → holds ≡ Some store → values v ≡ take count (map ((state old).value store) (numbers 0 (state old).rows)))

@@ -2,7 +2,10 @@ pub mod Again
 pub mod Alone
 pub mod Collecting
 pub mod Concluding
-pub mod OnDisk
-pub mod Summing
+pub mod Covering
 pub mod LookingUp
+pub mod Matched
+pub mod OnDisk
+pub mod Parting
 pub mod Showing
+pub mod Summing

@@ -65,3 +65,29 @@ pub fn first_values_from<R: LayoutReader + Drop, S: SegmentSource + Drop>(
         Err(_) => Err(StreamFault::NoMemory),
     }
 }
+
+/// All values of a reader, in their order: over a source that tells what it holds its own values at its rows 0, 1, ..
+/// Whatever is answered, the reader's rows are as they were, and nothing is live in the source.
+///
+/// # Errors
+/// Those of `read_rows`.
+pub fn read_all<R: LayoutReader + Drop, S: SegmentSource>(
+    alloc: Global,
+    reader: &mut R,
+    source: &mut S,
+) -> Result<Vec<Array>, StreamFault<()>>
+    requires scope { IsScope (R.state reader.old).dtype }
+    requires idle { (S.state source.old).live ≡ none_live }
+    ensures values { IfOk result (λ v. (store : Store) → (S.state source.old).holds ≡ Some store → values_given v.items
+        ≡ map ((R.state reader.old).value store) (numbers 0 (R.state reader.old).rows)) }
+    ensures idle { (S.state source.new).live ≡ none_live }
+    ensures same { R.state reader.new ≡ R.state reader.old }
+{
+    match ScanSettings::all(alloc, reader) {
+        Ok(settings) => {
+            let builder = LentReader::of(reader, settings);
+            read_rows(alloc, builder, source)
+        }
+        Err(_) => Err(StreamFault::NoMemory),
+    }
+}

@@ -2,12 +2,15 @@
 //! the writer of lines stand over the names of vortex_scan alone.
 #![tactic(auto)]
 
+mod by_settings;
 mod collect;
 mod count;
 mod disk;
 mod files_twice;
 mod first;
+mod in_parts;
 mod look;
+mod matching;
 mod never;
 mod own_source;
 mod program;
@@ -19,12 +22,15 @@ mod sum;
 mod twice;
 mod under;
 
-pub use collect::{first_values, first_values_from};
+pub use by_settings::values_of_range;
+pub use collect::{first_values, first_values_from, read_all};
 pub use count::count_rows;
 pub use disk::{TripFault, rows_back, rows_of_file, written_and_read};
 pub use files_twice::{files_asked, scan_files_twice};
 pub use first::first_rows;
+pub use in_parts::{InParts, PartsFault, RowsOfPart, rows_in_parts};
 pub use look::values_at;
+pub use matching::{first_matches, first_matches_from};
 pub use own_source::rows_of_table;
 pub use program::lines_of;
 pub use reader_twice::{first_rows_of, first_rows_twice};

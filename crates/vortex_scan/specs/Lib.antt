@@ -24,6 +24,7 @@ pub use Rattle.scan_file.specs as File
 pub use Rattle.scan_multi.specs as Multi
 pub use Rattle.scan_sources.specs as Sources
 pub use Rattle.scan_multi_sources.specs as MultiSources
+pub use Rattle.scan_polls.specs as Polls
 pub use Rattle.scan_seek.specs as Seek
 pub use Rattle.scan_places.specs as Places
 pub use Rattle.scan_lookup.specs as Lookup

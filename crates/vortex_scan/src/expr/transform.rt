@@ -4,5 +4,6 @@
 pub use scan_partition::{
     DirectProjection, Item, ListChildrenNeeded, Partition, Partitioned, PartitionedExpr,
     PartitionedRowIdx, Partitioning, expand_struct_root, expanded_struct_root, necessary_children,
-    partition, partition_row_idx, partition_struct, rewrite_offsets, rewrite_validity, step_into,
+    partition, partition_row_idx, partition_struct, parts_may_be_parted, rewrite_offsets,
+    rewrite_validity, step_into,
 };
