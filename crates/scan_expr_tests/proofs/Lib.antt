@@ -1,2 +1,3 @@
+pub mod OfParts
 pub mod Scopes
 pub mod Typing

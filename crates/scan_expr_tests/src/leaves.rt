@@ -1,250 +1,230 @@
 //! Columns of lists, and columns from a leaf's segment: numbers, and texts and truth values, which are kept in one buffer
-//! and as bits.
-use crate::columns::{appended, column, gives, has, stepped};
-use crate::words::dtype;
+//! and as bits. Such a column is said as `DTYPE @ ROWS @ BYTES @ START/LETTERS/LETTERS`: of the segment's rows from one
+//! on those at which the first mask is true, and then of those behind them by the second.
+use crate::columns::{How, column, column_told, evaluated, stepped};
+use crate::lines::{Told, hold, shown, sides};
+use crate::words::{dtype, mask};
 use scan_columns::Column;
 use scan_segments::ByteBuffer;
 use scan_spelling::{LeafColumn, Spelling};
-use scan_values::{DType, Mask};
+use scan_values::{DType, Mask, NoMemory};
 use std::alloc::Global;
+use std::fmt::Write;
+use std::process::Abort;
 use std::sync::Arc;
-use std::test::Fail;
 
 // ---- lists
 /// The elements, cut into two, none, which is null, and one.
-fn cut(alloc: Global, dtype: Arc<DType>, elements: Column) -> Result<Column, Fail> {
+fn cut(rt: &impl Abort, alloc: Global, dtype: Arc<DType>, elements: Column) -> Column {
     let Some(element) = dtype.as_list_element_opt() else {
-        return Err(Fail::from("no list"));
+        panic!(rt; "no list");
     };
     if *elements.dtype() != *element {
-        return Err(Fail::from("another dtype"));
+        panic!(rt; "another dtype");
     }
     if elements.len() != 3 {
-        return Err(Fail::from("another length"));
+        panic!(rt; "another length");
     }
     if !dtype.is_nullable() {
-        return Err(Fail::from("not nullable"));
+        panic!(rt; "not nullable");
     }
-    let ends = Vec::from_slice(alloc, &[2, 2, 3])?;
-    let bits = Vec::from_slice(alloc, &[true, false, true])?;
-    Ok(Column::lists(alloc, dtype, ends, Some(Mask::from_bools(bits)), elements)?)
-}
-
-/// The lists of 1 and null, of nothing, which is null, and of 3, and what is made of them in steps.
-fn lists(alloc: Global, steps: &str) -> Result<Column, Fail> {
-    let dtype = Arc::new(alloc, dtype(alloc, "i8 ? list:1 ?")?)?;
-    let lists = cut(alloc, dtype, column(alloc, "i8 ? @ 1 null 3")?)?;
-    stepped(alloc, lists, steps)
-}
-
-#[test]
-fn a_column_of_lists_gives_its_lists_with_their_elements(rt: HostRuntime) -> Result<(), Fail> {
-    let alloc = rt.alloc();
-    assert!(rt; has(alloc, lists(alloc, "")?, "1 null list:2 null 3 list:1")?);
-    assert!(rt; has(alloc, lists(alloc, "filter:011")?, "null 3 list:1")?);
-    assert!(rt; has(alloc, lists(alloc, "from:1")?, "null 3 list:1")?);
-    assert!(rt;
-        has(
-            alloc,
-            lists(alloc, "twice")?,
-            "1 null list:2 null 3 list:1 1 null list:2 null 3 list:1"
-        )?
-    );
-    Ok(())
+    let ends = Vec::from_slice(alloc, &[2, 2, 3]).expect(rt, "from_slice");
+    let bits = Vec::from_slice(alloc, &[true, false, true]).expect(rt, "from_slice");
+    Column::lists(alloc, dtype, ends, Some(Mask::from_bools(bits)), elements).expect(rt, "lists")
 }
 
 // ---- leaves
+fn bytes(rt: &impl Abort, alloc: Global, words: &str) -> ByteBuffer {
+    let mut bytes = Vec::new(alloc);
+    for word in words.split_whitespace() {
+        bytes
+            .push(word.parse::<u8>().expect(rt, "parse"))
+            .expect(rt, "push");
+    }
+    ByteBuffer::new(alloc, bytes).expect(rt, "new")
+}
+
 /// A segment of so many rows.
-fn leaf(alloc: Global, dtype: &DType, spelled: &[u8], rows: u64) -> Result<LeafColumn, Fail> {
+fn leaf(
+    rt: &impl Abort,
+    alloc: Global,
+    dtype: &DType,
+    rows: &str,
+    spelled: ByteBuffer,
+) -> LeafColumn {
     if !dtype.is_scalar() {
-        return Err(Fail::from("not a scalar dtype"));
+        panic!(rt; "not a scalar dtype");
     }
-    let bytes = ByteBuffer::new(alloc, Vec::from_slice(alloc, spelled)?)?;
-    Ok(LeafColumn::read(alloc, Spelling::One, dtype, rows, bytes)?)
+    let rows = rows.parse::<u64>().expect(rt, "parse");
+    LeafColumn::read(alloc, Spelling::One, dtype, rows, spelled).expect(rt, "read")
 }
 
-/// The last two rows of a segment of three.
-fn last_two(alloc: Global, dtype: Arc<DType>, leaf: &LeafColumn) -> Result<Column, Fail> {
-    if leaf.len() != 3 {
-        return Err(Fail::from("another length"));
-    }
-    if *leaf.dtype() != *dtype {
-        return Err(Fail::from("another dtype"));
-    }
-    Ok(Column::from_leaf(alloc, dtype, leaf, 1, &[true, true])?)
-}
-
-/// The last two of the numbers 1, null and 3.
-fn last_numbers(alloc: Global) -> Result<Column, Fail> {
-    let dtype = dtype(alloc, "i32 ?")?;
-    let leaf = leaf(
-        alloc,
-        &dtype,
-        &[1, 0, 1, 1, 0, 0, 0, 0, 0, 0, 0, 3, 0, 0, 0],
-        3,
-    )?;
-    last_two(alloc, Arc::new(alloc, dtype)?, &leaf)
-}
-
-#[test]
-fn rows_of_a_segment_are_read_as_numbers(rt: HostRuntime) -> Result<(), Fail> {
-    let alloc = rt.alloc();
-    assert!(rt; has(alloc, last_numbers(alloc)?, "null 3")?);
-    Ok(())
-}
-
-/// The first row of a leaf of four, and of the other three those at which the mask is true.
-fn last_rows(
+/// Of the rows of a leaf from one on those at which the first mask is true, and then of those behind them by the other.
+fn rows_of(
+    rt: &impl Abort,
     alloc: Global,
     dtype: Arc<DType>,
     leaf: &LeafColumn,
-    mask: &[bool; 3],
-) -> Result<Column, Fail> {
-    if leaf.len() != 4 {
-        return Err(Fail::from("another length"));
-    }
+    start: usize,
+    first: &[bool],
+    more: &[bool],
+) -> Result<Column, NoMemory> {
     if *leaf.dtype() != *dtype {
-        return Err(Fail::from("another dtype"));
+        panic!(rt; "another dtype");
     }
-    let first = Column::from_leaf(alloc, dtype, leaf, 0, &[true])?;
-    Ok(first.extend_from_leaf(alloc, leaf, 1, mask)?)
-}
-
-/// Rows of a segment of four.
-fn rows(alloc: Global, words: &str, spelled: &[u8], mask: &[bool; 3]) -> Result<Column, Fail> {
-    let dtype = dtype(alloc, words)?;
-    let leaf = leaf(alloc, &dtype, spelled, 4)?;
-    last_rows(alloc, Arc::new(alloc, dtype)?, &leaf, mask)
-}
-
-/// Of "ab", null under bytes that are no text, "" and "é" the first, and of the others those at which the mask is true.
-fn texts(alloc: Global, mask: &[bool; 3]) -> Result<Column, Fail> {
-    let spelled = [
-        1, 0, 1, 1, 2, 0, 0, 0, 97, 98, 1, 0, 0, 0, 255, 0, 0, 0, 0, 2, 0, 0, 0, 195, 169,
-    ];
-    rows(alloc, "text ?", &spelled, mask)
-}
-
-#[test]
-fn texts_of_a_leaf_are_read_at_once(rt: HostRuntime) -> Result<(), Fail> {
-    let alloc = rt.alloc();
-    assert!(rt;
-        has(
-            alloc,
-            texts(alloc, &[true; 3])?,
-            "text:ab null text: text:é"
-        )?
-    );
-    assert!(rt;
-        has(
-            alloc,
-            texts(alloc, &[false, false, true])?,
-            "text:ab text:é"
-        )?
-    );
-    Ok(())
-}
-
-/// Whether the texts of a column stand in such bytes, end there, and are there.
-fn stand(column: &Column, bytes: &[u8], ends: &[usize], valid: &[bool]) -> bool {
-    match column.texts() {
-        Some(texts) => {
-            (texts.bytes() == bytes) & (texts.ends() == ends) & (texts.validity() == valid)
-        }
-        None => false,
+    if leaf.len() < start {
+        panic!(rt; "too few rows");
     }
-}
-
-/// Whether the text of a row of a column is this one.
-fn is_text(column: &Column, i: usize, wanted: Option<&str>) -> bool {
-    match column.texts() {
-        Some(texts) => i < texts.len() && texts.text(i) == wanted,
-        None => false,
+    if leaf.len() - start < first.len() {
+        panic!(rt; "too few rows");
     }
+    let end = start + first.len();
+    if leaf.len() - end < more.len() {
+        panic!(rt; "too few rows");
+    }
+    let column = Column::from_leaf(alloc, dtype, leaf, start, first)?;
+    column.extend_from_leaf(alloc, leaf, end, more)
 }
 
-#[test]
-fn texts_are_lent_with_their_places(rt: HostRuntime) -> Result<(), Fail> {
-    let column = texts(rt.alloc(), &[true; 3])?;
-    assert!(rt; are_all(&column));
-    assert!(rt; is_text(&column, 0, Some("ab")));
-    assert!(rt; is_text(&column, 1, None));
-    assert!(rt; is_text(&column, 2, Some("")));
-    assert!(rt; is_text(&column, 3, Some("é")));
-    assert!(rt; column.numbers().is_none());
-    assert!(rt; column.truths().is_none());
-    Ok(())
-}
-
-fn are_all(column: &Column) -> bool {
-    stand(
-        column,
-        &[97, 98, 195, 169],
-        &[2, 2, 2, 4],
-        &[true, false, true, true],
+/// The column of `DTYPE @ ROWS @ BYTES @ START/LETTERS/LETTERS`.
+fn leaf_rows(rt: &impl Abort, alloc: Global, case: &str) -> Column {
+    let (words, case) = sides(rt, case, " @ ");
+    let (rows, case) = sides(rt, case, " @ ");
+    let (spelled, case) = sides(rt, case, " @ ");
+    let (start, masks) = sides(rt, case, "/");
+    let (first, more) = sides(rt, masks, "/");
+    let dtype = dtype(rt, alloc, words);
+    let leaf = leaf(rt, alloc, &dtype, rows, bytes(rt, alloc, spelled));
+    rows_of(
+        rt,
+        alloc,
+        Arc::new(alloc, dtype).expect(rt, "new"),
+        &leaf,
+        start.parse::<usize>().expect(rt, "parse"),
+        mask(rt, alloc, first).as_slice(),
+        mask(rt, alloc, more).as_slice(),
     )
+    .expect(rt, "rows_of")
 }
 
-/// What is made of the four texts in steps.
-fn made(alloc: Global, steps: &str) -> Result<Column, Fail> {
-    stepped(alloc, texts(alloc, &[true; 3])?, steps)
+/// What a column lends of how it is kept.
+fn lent_told(rt: &impl Abort, alloc: Global, column: &Column) -> String {
+    let mut text = String::new(alloc);
+    if let Some(texts) = column.texts() {
+        let (bytes, ends) = (texts.bytes(), texts.ends());
+        write!(text, "texts {bytes:?} to {ends:?}:").expect(rt, "write");
+        for i in 0..texts.len() {
+            match texts.text(i) {
+                Some(one) => write!(text, " \"{one}\"").expect(rt, "write"),
+                None => write!(text, " null").expect(rt, "write"),
+            }
+        }
+    }
+    if let Some(truths) = column.truths() {
+        write!(text, "truths {truths:?}").expect(rt, "write");
+    }
+    if let Some(numbers) = column.numbers() {
+        write!(text, "numbers {numbers:?}").expect(rt, "write");
+    }
+    if let Some(there) = column.validity() {
+        write!(text, "; there {there:?}").expect(rt, "write");
+    }
+    text
 }
 
-fn kept_stand(alloc: Global) -> Result<bool, Fail> {
-    let kept = made(alloc, "filter:1011")?;
-    Ok(stand(&kept, &[97, 98, 195, 169], &[2, 2, 4], &[true; 3]))
+/// Calls on columns of lists and of leaves.
+#[derive(Clone, Copy)]
+enum On {
+    /// `STEPS -> VALUES`, of the lists of 1 and null, of nothing, which is null, and of 3.
+    Lists,
+    /// `LEAF | STEPS -> VALUES`.
+    Steps,
+    /// `LEAF | STEPS -> WHAT IS LENT`.
+    Lent,
+    /// `LEAF | EXPRESSION -> VALUES`.
+    Values,
 }
 
-fn masked_stand(alloc: Global) -> Result<bool, Fail> {
-    let masked = made(alloc, "mask:0111")?;
-    Ok(is_text(&masked, 0, None) & is_text(&masked, 3, Some("é")))
-}
-
-fn part_stands(alloc: Global) -> Result<bool, Fail> {
-    let part = made(alloc, "from:2")?;
-    Ok(stand(&part, &[195, 169], &[0, 2], &[true; 2]))
-}
-
-/// The first two texts, and then the others.
-fn both_stand(alloc: Global) -> Result<bool, Fail> {
-    let both = appended(alloc, made(alloc, "filter:1100")?, made(alloc, "from:2")?)?;
-    let copy = both.try_clone(alloc)?;
-    Ok(are_all(&both) & are_all(&copy))
+impl Told for On {
+    fn told(&self, rt: &impl Abort, alloc: Global, case: &str) -> String {
+        match self {
+            On::Lists => {
+                let dtype = Arc::new(alloc, dtype(rt, alloc, "i8 ? list ?")).expect(rt, "new");
+                let lists = cut(rt, alloc, dtype, column(rt, alloc, "i8 ? @ 1 null 3"));
+                column_told(rt, alloc, Ok(stepped(rt, alloc, lists, case)))
+            }
+            On::Steps => {
+                let (rows, steps) = sides(rt, case, " | ");
+                column_told(
+                    rt,
+                    alloc,
+                    Ok(stepped(rt, alloc, leaf_rows(rt, alloc, rows), steps)),
+                )
+            }
+            On::Lent => {
+                let (rows, steps) = sides(rt, case, " | ");
+                lent_told(
+                    rt,
+                    alloc,
+                    &stepped(rt, alloc, leaf_rows(rt, alloc, rows), steps),
+                )
+            }
+            On::Values => {
+                let (rows, words) = sides(rt, case, " | ");
+                evaluated(rt, alloc, How::Lent, leaf_rows(rt, alloc, rows), words)
+            }
+        }
+    }
 }
 
 #[test]
-fn texts_stay_in_one_buffer(rt: HostRuntime) -> Result<(), Fail> {
+fn a_column_of_lists_gives_its_lists_with_their_elements(rt: HostRuntime) {
     let alloc = rt.alloc();
-    assert!(rt; kept_stand(alloc)?);
-    assert!(rt; masked_stand(alloc)?);
-    assert!(rt; part_stands(alloc)?);
-    assert!(rt; both_stand(alloc)?);
-    Ok(())
+    hold(
+        &rt,
+        alloc,
+        &On::Lists,
+        "copy: -> [1, null], null, [3]
+filter:011 -> null, [3]
+from:1 -> null, [3]
+then:0 -> [1, null], null, [3], [1, null], null, [3]",
+    );
 }
 
+// Below, the numbers 1, null and 3; the texts "ab", null under a byte that is no text, "" and "é"; the truth values true,
+// null, false and true.
 #[test]
-fn texts_of_a_leaf_are_compared_where_they_stand(rt: HostRuntime) -> Result<(), Fail> {
+fn texts_of_a_leaf_stay_in_one_buffer_and_truth_values_are_lent_where_all_are_there(
+    rt: HostRuntime,
+) {
     let alloc = rt.alloc();
-    let texts = texts(alloc, &[true; 3])?;
-    assert!(rt; gives(alloc, &texts, "$ text:b <", "true null true false")?);
-    assert!(rt; gives(alloc, &texts, "$ $ <", "false null false false")?);
-    assert!(rt; gives(alloc, &texts, "text:b $ <", "false null false true")?);
-    Ok(())
-}
-
-/// Of true, null, false and true the first, and of the others those at which the mask is true.
-fn truths(alloc: Global, mask: &[bool; 3]) -> Result<Column, Fail> {
-    rows(alloc, "bool ?", &[1, 0, 1, 1, 1, 0, 0, 1], mask)
-}
-
-#[test]
-fn truth_values_are_lent_where_all_are_there(rt: HostRuntime) -> Result<(), Fail> {
-    let alloc = rt.alloc();
-    let all = truths(alloc, &[true; 3])?;
-    assert!(rt; all.truths().is_none());
-    assert!(rt; all.validity() == Some([true, false, true, true].as_slice()));
-    let some = truths(alloc, &[false, true, true])?;
-    assert!(rt; some.truths() == Some([true, false, true].as_slice()));
-    assert!(rt; some.texts().is_none());
-    Ok(())
+    hold(
+        &rt,
+        alloc,
+        &On::Steps,
+        "i32 ? @ 3 @ 1 0 1 1 0 0 0 0 0 0 0 3 0 0 0 @ 1/11/ | copy: -> null, 3
+text ? @ 4 @ 1 0 1 1 2 0 0 0 97 98 1 0 0 0 255 0 0 0 0 2 0 0 0 195 169 @ 0/1/111 | copy: -> \"ab\", null, \"\", \"é\"
+text ? @ 4 @ 1 0 1 1 2 0 0 0 97 98 1 0 0 0 255 0 0 0 0 2 0 0 0 195 169 @ 0/1/001 | copy: -> \"ab\", \"é\"",
+    );
+    hold(
+        &rt,
+        alloc,
+        &On::Lent,
+        "text ? @ 4 @ 1 0 1 1 2 0 0 0 97 98 1 0 0 0 255 0 0 0 0 2 0 0 0 195 169 @ 0/1/111 | copy: -> texts [97, 98, 195, 169] to [2, 2, 2, 4]: \"ab\" null \"\" \"é\"; there [true, false, true, true]
+text ? @ 4 @ 1 0 1 1 2 0 0 0 97 98 1 0 0 0 255 0 0 0 0 2 0 0 0 195 169 @ 0/1/111 | filter:1011 -> texts [97, 98, 195, 169] to [2, 2, 4]: \"ab\" \"\" \"é\"; there [true, true, true]
+text ? @ 4 @ 1 0 1 1 2 0 0 0 97 98 1 0 0 0 255 0 0 0 0 2 0 0 0 195 169 @ 0/1/111 | mask:0111 -> texts [97, 98, 195, 169] to [2, 2, 2, 4]: null null \"\" \"é\"; there [false, false, true, true]
+text ? @ 4 @ 1 0 1 1 2 0 0 0 97 98 1 0 0 0 255 0 0 0 0 2 0 0 0 195 169 @ 0/1/111 | from:2 -> texts [195, 169] to [0, 2]: \"\" \"é\"; there [true, true]
+text ? @ 4 @ 1 0 1 1 2 0 0 0 97 98 1 0 0 0 255 0 0 0 0 2 0 0 0 195 169 @ 0/1/111 | then:2 copy: -> texts [97, 98, 195, 169, 195, 169] to [2, 2, 2, 4, 4, 6]: \"ab\" null \"\" \"é\" \"\" \"é\"; there [true, false, true, true, true, true]
+bool ? @ 4 @ 1 0 1 1 1 0 0 1 @ 0/1/111 | copy: -> ; there [true, false, true, true]
+bool ? @ 4 @ 1 0 1 1 1 0 0 1 @ 0/1/011 | copy: -> truths [true, false, true]; there [true, true, true]
+i32 ? @ 3 @ 1 0 1 1 0 0 0 0 0 0 0 3 0 0 0 @ 0/101/ | copy: -> numbers [1, 3]; there [true, true]",
+    );
+    hold(
+        &rt,
+        alloc,
+        &On::Values,
+        "text ? @ 4 @ 1 0 1 1 2 0 0 0 97 98 1 0 0 0 255 0 0 0 0 2 0 0 0 195 169 @ 0/1/111 | $ text:b < -> true, null, true, false
+text ? @ 4 @ 1 0 1 1 2 0 0 0 97 98 1 0 0 0 255 0 0 0 0 2 0 0 0 195 169 @ 0/1/111 | $ $ < -> false, null, false, false
+text ? @ 4 @ 1 0 1 1 2 0 0 0 97 98 1 0 0 0 255 0 0 0 0 2 0 0 0 195 169 @ 0/1/111 | text:b $ < -> false, null, false, true",
+    );
 }

@@ -1,27 +1,25 @@
-//! Worked examples over public calls: values, expressions, expressions taken apart by what they read, and columns. Most
-//! are lines of a text, each read and held to what it says.
+//! Worked examples over public calls, as lines of a text: values, expressions, expressions taken apart by what they read,
+//! columns, and groups of rows. A line says what a call is given and, behind an arrow, what it gives, as that is shown.
 #![tactic(auto)]
 
 #[cfg(test)]
-mod binding;
-#[cfg(test)]
 mod columns;
 #[cfg(test)]
-mod copies;
+mod expressions;
 #[cfg(test)]
-mod fixtures;
+mod grouping;
 #[cfg(test)]
 mod joins;
 #[cfg(test)]
 mod leaves;
 #[cfg(test)]
-mod masks;
+mod lines;
 #[cfg(test)]
-mod parting;
+mod parts;
 #[cfg(test)]
-mod reading;
+mod readings;
 #[cfg(test)]
-mod tables;
+mod table;
 #[cfg(test)]
 mod values;
 #[cfg(test)]

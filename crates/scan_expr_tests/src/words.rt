@@ -1,93 +1,92 @@
 //! Dtypes, expressions and values, read from words. What a word works on stands before it, as in `$ get:a i32:1 +`.
+use crate::lines::sides;
 use scan_expr::Expression;
-use scan_values::{DType, FieldName, Nullability, PType, StructFields, Text, Value, Values};
+use scan_values::{
+    Array, DType, FieldName, Mask, Nullability, PType, StructFields, Text, Value, Values,
+};
 use std::alloc::Global;
-use std::test::Fail;
+use std::process::Abort;
 
 /// What was made last.
-fn taken<T: Drop>(stack: &mut Vec<T>) -> Result<T, Fail> {
+pub(crate) fn taken<T: Drop>(rt: &impl Abort, stack: &mut Vec<T>) -> T {
     match stack.pop() {
-        Some(made) => Ok(made),
-        None => Err(Fail::from("nothing stands before this word")),
+        Some(made) => made,
+        None => panic!(rt; "nothing stands before this word"),
     }
 }
 
 /// So many of what was made last, in the order in which they were made.
-fn last<T: Drop>(alloc: Global, stack: &mut Vec<T>, count: usize) -> Result<Vec<T>, Fail> {
+fn last<T: Drop>(rt: &impl Abort, alloc: Global, stack: &mut Vec<T>, count: usize) -> Vec<T> {
     let mut made = Vec::new(alloc);
     for _ in 0..count {
-        made.push(taken(stack)?)?;
+        made.push(taken(rt, stack)).expect(rt, "push");
     }
     made.reverse();
-    Ok(made)
+    made
 }
 
 /// Names that stand in a word: `a,b`.
-pub(crate) fn names(alloc: Global, text: &str) -> Result<Vec<FieldName>, Fail> {
+pub(crate) fn names(rt: &impl Abort, alloc: Global, text: &str) -> Vec<FieldName> {
     let mut names = Vec::new(alloc);
     for name in text.split(',') {
-        names.push(FieldName::from_str(alloc, name)?)?;
+        names
+            .push(FieldName::from_str(alloc, name).expect(rt, "from_str"))
+            .expect(rt, "push");
     }
-    Ok(names)
+    names
 }
 
-fn integer_type(name: &str) -> Result<PType, Fail> {
+fn integer_type(rt: &impl Abort, name: &str) -> PType {
     match name {
-        "i8" => Ok(PType::I8),
-        "i32" => Ok(PType::I32),
-        "i64" => Ok(PType::I64),
-        "u8" => Ok(PType::U8),
-        "u64" => Ok(PType::U64),
-        _ => Err(Fail::from("no integer type")),
+        "i8" => PType::I8,
+        "i32" => PType::I32,
+        "i64" => PType::I64,
+        "u8" => PType::U8,
+        "u64" => PType::U64,
+        _ => panic!(rt; "no integer type"),
     }
 }
 
 // ---- dtypes
-fn structure(alloc: Global, stack: &mut Vec<DType>, text: &str) -> Result<DType, Fail> {
-    let names = names(alloc, text)?;
-    let dtypes = last(alloc, stack, names.len())?;
+fn structure(rt: &impl Abort, alloc: Global, stack: &mut Vec<DType>, text: &str) -> DType {
+    let names = names(rt, alloc, text);
+    let dtypes = last(rt, alloc, stack, names.len());
     if names.len() != dtypes.len() {
-        return Err(Fail::from("uneven"));
+        panic!(rt; "uneven");
     }
-    Ok(DType::struct_(StructFields::new(names, dtypes), Nullability::NonNullable)?)
+    DType::struct_(StructFields::new(names, dtypes), Nullability::NonNullable).expect(rt, "struct_")
 }
 
-/// Lists within lists, so many.
-fn lists(alloc: Global, element: DType, count: usize) -> Result<DType, Fail> {
-    let mut dtype = element;
-    for _ in 0..count {
-        dtype = DType::list(alloc, dtype, Nullability::NonNullable)?;
-    }
-    Ok(dtype)
-}
-
-fn dtype_by(alloc: Global, stack: &mut Vec<DType>, word: &str) -> Result<DType, Fail> {
+fn dtype_by(rt: &impl Abort, alloc: Global, stack: &mut Vec<DType>, word: &str) -> DType {
     match word.split_once(':') {
-        Some((what, text)) => match what {
-            "struct" => structure(alloc, stack, text),
-            _ => lists(alloc, taken(stack)?, text.parse::<usize>()?),
-        },
+        Some((_, text)) => structure(rt, alloc, stack, text),
         None => match word {
-            "?" => Ok(taken(stack)?.nullable()),
-            "bool" => Ok(DType::boolean()),
-            "text" => Ok(DType::text()),
-            _ => Ok(DType::primitive(integer_type(word)?, Nullability::NonNullable)),
+            "?" => taken(rt, stack).nullable(),
+            "list" => DType::list(alloc, taken(rt, stack), Nullability::NonNullable).expect(
+                rt, "list",
+            ),
+            "bool" => DType::boolean(),
+            "text" => DType::text(),
+            _ => DType::primitive(integer_type(rt, word), Nullability::NonNullable),
         },
     }
 }
 
-/// A dtype: `i32 ?`, `i32 list:1`, `i32 bool struct:a,b ?`.
-pub(crate) fn dtype(alloc: Global, words: &str) -> Result<DType, Fail> {
+/// A dtype: `i32 ?`, `i32 list`, `i32 bool struct:a,b ?`.
+pub(crate) fn dtype(rt: &impl Abort, alloc: Global, words: &str) -> DType {
     let mut stack = Vec::new(alloc);
     for word in words.split_whitespace() {
-        let made = dtype_by(alloc, &mut stack, word)?;
-        stack.push(made)?;
+        let made = dtype_by(rt, alloc, &mut stack, word);
+        stack.push(made).expect(rt, "push");
     }
-    taken(&mut stack)
+    taken(rt, &mut stack)
 }
 
 // ---- expressions
-fn of_two(alloc: Global, a: Expression, b: Expression, word: &str) -> Result<Expression, Fail> {
+/// What a word makes of the last two.
+fn of_two(rt: &impl Abort, alloc: Global, stack: &mut Vec<Expression>, word: &str) -> Expression {
+    let b = taken(rt, stack);
+    let a = taken(rt, stack);
     let made = match word {
         "and" => Expression::and(alloc, a, b),
         "or" => Expression::or(alloc, a, b),
@@ -100,130 +99,128 @@ fn of_two(alloc: Global, a: Expression, b: Expression, word: &str) -> Result<Exp
         ">=" => Expression::gt_eq(alloc, a, b),
         "+" => Expression::checked_add(alloc, a, b),
         "-" => Expression::checked_sub(alloc, a, b),
-        _ => return Err(Fail::from("no word of an expression")),
+        _ => panic!(rt; "no word of an expression"),
     };
-    Ok(made?)
+    made.expect(rt, "made")
 }
 
-fn pack(alloc: Global, stack: &mut Vec<Expression>, text: &str) -> Result<Expression, Fail> {
-    let names = names(alloc, text)?;
-    let parts = last(alloc, stack, names.len())?;
+/// What a word alone makes.
+fn alone(rt: &impl Abort, alloc: Global, stack: &mut Vec<Expression>, word: &str) -> Expression {
+    let made = match word {
+        "$" => return Expression::root(),
+        "#" => return Expression::row_idx(),
+        "true" => return Expression::lit_bool(true),
+        "false" => return Expression::lit_bool(false),
+        "not" => Expression::not(alloc, taken(rt, stack)),
+        "is_null" => Expression::is_null(alloc, taken(rt, stack)),
+        "is_not_null" => Expression::is_not_null(alloc, taken(rt, stack)),
+        "length" => Expression::list_length(alloc, taken(rt, stack)),
+        _ => return of_two(rt, alloc, stack, word),
+    };
+    made.expect(rt, "made")
+}
+
+fn pack(rt: &impl Abort, alloc: Global, stack: &mut Vec<Expression>, text: &str) -> Expression {
+    let names = names(rt, alloc, text);
+    let parts = last(rt, alloc, stack, names.len());
     if names.len() != parts.len() {
-        return Err(Fail::from("uneven"));
+        panic!(rt; "uneven");
     }
-    Ok(Expression::pack(names, parts, Nullability::NonNullable))
+    Expression::pack(names, parts, Nullability::NonNullable)
 }
 
 /// What was made last, in so many structs of it alone, each under `p`.
-fn packs(alloc: Global, stack: &mut Vec<Expression>, count: usize) -> Result<Expression, Fail> {
+fn packs(rt: &impl Abort, alloc: Global, stack: &mut Vec<Expression>, count: usize) -> Expression {
     for _ in 0..count {
-        let made = pack(alloc, stack, "p")?;
-        stack.push(made)?;
+        let made = pack(rt, alloc, stack, "p");
+        stack.push(made).expect(rt, "push");
     }
-    taken(stack)
-}
-
-/// What a word with names makes of what was made last.
-fn of_names(alloc: Global, e: Expression, word: &str, text: &str) -> Result<Expression, Fail> {
-    let names = names(alloc, text)?;
-    let made = match word {
-        "select" => Expression::select(alloc, names, e),
-        _ => Expression::select_exclude(alloc, names, e),
-    };
-    Ok(made?)
+    taken(rt, stack)
 }
 
 /// What a word with names or a number makes.
 fn with_text(
+    rt: &impl Abort,
     alloc: Global,
     stack: &mut Vec<Expression>,
     word: &str,
     text: &str,
-) -> Result<Expression, Fail> {
-    match word {
-        "get" => Ok(Expression::get_item(alloc, FieldName::from_str(alloc, text)?, taken(stack)?)?),
-        "select" | "exclude" => of_names(alloc, taken(stack)?, word, text),
-        "text" => Ok(Expression::lit_utf8(alloc, text)?),
-        "pack" => pack(alloc, stack, text),
-        "packs" => packs(alloc, stack, text.parse::<usize>()?),
-        _ => Ok(Expression::lit_int(integer_type(word)?, text.parse::<i128>()?)),
-    }
-}
-
-/// What a word alone makes of what was made last.
-fn of_last(alloc: Global, stack: &mut Vec<Expression>, word: &str) -> Result<Expression, Fail> {
-    let e = taken(stack)?;
+) -> Expression {
     let made = match word {
-        "not" => Expression::not(alloc, e),
-        "is_null" => Expression::is_null(alloc, e),
-        "is_not_null" => Expression::is_not_null(alloc, e),
-        "length" => Expression::list_length(alloc, e),
-        _ => return of_two(alloc, taken(stack)?, e, word),
+        "get" => {
+            let name = FieldName::from_str(alloc, text).expect(rt, "from_str");
+            Expression::get_item(alloc, name, taken(rt, stack))
+        }
+        "select" => Expression::select(alloc, names(rt, alloc, text), taken(rt, stack)),
+        "exclude" => Expression::select_exclude(alloc, names(rt, alloc, text), taken(rt, stack)),
+        "text" => Expression::lit_utf8(alloc, text),
+        "pack" => return pack(rt, alloc, stack, text),
+        "packs" => return packs(rt, alloc, stack, text.parse::<usize>().expect(rt, "parse")),
+        _ => {
+            let number = text.parse::<i128>().expect(rt, "parse");
+            return Expression::lit_int(integer_type(rt, word), number);
+        }
     };
-    Ok(made?)
-}
-
-/// What a word alone makes.
-fn alone(alloc: Global, stack: &mut Vec<Expression>, word: &str) -> Result<Expression, Fail> {
-    match word {
-        "$" => Ok(Expression::root()),
-        "#" => Ok(Expression::row_idx()),
-        "true" => Ok(Expression::lit_bool(true)),
-        "false" => Ok(Expression::lit_bool(false)),
-        _ => of_last(alloc, stack, word),
-    }
+    made.expect(rt, "made")
 }
 
 /// An expression: `$ get:a is_null`, `$ get:a # i32:1 pack:x,y,z`, `$ packs:63`.
-pub(crate) fn expression(alloc: Global, words: &str) -> Result<Expression, Fail> {
+pub(crate) fn expression(rt: &impl Abort, alloc: Global, words: &str) -> Expression {
     let mut stack = Vec::new(alloc);
     for word in words.split_whitespace() {
         let made = match word.split_once(':') {
-            Some((word, text)) => with_text(alloc, &mut stack, word, text)?,
-            None => alone(alloc, &mut stack, word)?,
+            Some((word, text)) => with_text(rt, alloc, &mut stack, word, text),
+            None => alone(rt, alloc, &mut stack, word),
         };
-        stack.push(made)?;
+        stack.push(made).expect(rt, "push");
     }
-    taken(&mut stack)
+    taken(rt, &mut stack)
 }
 
 // ---- values
 /// So many of the values that were made last.
-fn values_of(alloc: Global, stack: &mut Vec<Value>, count: &str) -> Result<Values, Fail> {
-    Ok(Values::new(last(alloc, stack, count.parse::<usize>()?)?))
+fn values_of(rt: &impl Abort, alloc: Global, stack: &mut Vec<Value>, count: &str) -> Values {
+    Values::new(last(rt, alloc, stack, count.parse::<usize>().expect(rt, "parse")))
 }
 
-fn value_by(alloc: Global, stack: &mut Vec<Value>, word: &str) -> Result<Value, Fail> {
+fn value_by(rt: &impl Abort, alloc: Global, stack: &mut Vec<Value>, word: &str) -> Value {
     match word.split_once(':') {
         Some((what, text)) => match what {
-            "text" => Ok(Value::Text(Text::new(String::from_str(alloc, text)?))),
-            "list" => Ok(Value::List(values_of(alloc, stack, text)?)),
-            _ => Ok(Value::Struct(values_of(alloc, stack, text)?)),
+            "text" => Value::Text(Text::new(String::from_str(alloc, text).expect(rt, "from_str"))),
+            "list" => Value::List(values_of(rt, alloc, stack, text)),
+            _ => Value::Struct(values_of(rt, alloc, stack, text)),
         },
         None => match word {
-            "null" => Ok(Value::Null),
-            "true" => Ok(Value::Bool(true)),
-            "false" => Ok(Value::Bool(false)),
-            _ => Ok(Value::Int(word.parse::<i128>()?)),
+            "null" => Value::Null,
+            "true" => Value::Bool(true),
+            "false" => Value::Bool(false),
+            _ => Value::Int(word.parse::<i128>().expect(rt, "parse")),
         },
     }
 }
 
 /// Values: `null 5 true text:x`; a list of three and a struct of two: `1 2 3 list:3 null 5 struct:2`.
-pub(crate) fn values(alloc: Global, words: &str) -> Result<Vec<Value>, Fail> {
+pub(crate) fn values(rt: &impl Abort, alloc: Global, words: &str) -> Vec<Value> {
     let mut stack = Vec::new(alloc);
     for word in words.split_whitespace() {
-        let made = value_by(alloc, &mut stack, word)?;
-        stack.push(made)?;
+        let made = value_by(rt, alloc, &mut stack, word);
+        stack.push(made).expect(rt, "push");
     }
-    Ok(stack)
+    stack
 }
 
-/// One value.
-pub(crate) fn value(alloc: Global, words: &str) -> Result<Value, Fail> {
-    let mut values = values(alloc, words)?;
-    if values.len() != 1 {
-        return Err(Fail::from("not one value"));
+/// The array of `DTYPE @ VALUES`.
+pub(crate) fn array(rt: &impl Abort, alloc: Global, case: &str) -> Array {
+    let (words, rows) = sides(rt, case, " @ ");
+    let dtype = dtype(rt, alloc, words);
+    Array::try_new(dtype, values(rt, alloc, rows)).expect(rt, "try_new")
+}
+
+/// A mask by its letters, 1 where it is true.
+pub(crate) fn mask(rt: &impl Abort, alloc: Global, letters: &str) -> Mask {
+    let mut bits = Vec::new(alloc);
+    for letter in letters.as_bytes() {
+        bits.push(*letter == b'1').expect(rt, "push");
     }
-    taken(&mut values)
+    Mask::from_bools(bits)
 }

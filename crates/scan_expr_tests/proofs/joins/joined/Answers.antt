@@ -1,22 +1,11 @@
-use Rattle.std.proofs.Common.{◌≡◌, ℕ, List, [], ◌∷◌, ◌++◌, Some, slice_get, length, ap, sym, subst, ◌∙◌, arith}
-use Rattle.scan_values.specs.Arrays.{ArrayData}
-use Rattle.scan_expr.specs.Bound.{Bound}
-use Rattle.scan_expr.specs.Infer.{infer}
+use Rattle.std.proofs.Common.{[], ◌∷◌, ◌++◌, ap, sym, subst, ◌∙◌}
 use Rattle.scan_partition.specs.Joining.{AreOfParts}
+use Rattle.scan_expr_tests.proofs.OfParts.{of_two}
 use Rattle.scan_expr_tests.proofs.joins.joined.Goals as goal
-
-of_same : (p x : Bound) (a : ArrayData) → Some p ≡ Some x → a.dtype ≡ infer p.scope p.expr → a.dtype ≡ infer x.scope x.expr
-of_same p x a h t = let e : p ≡ x = cc in t ∙ ap (λ (b : Bound). infer b.scope b.expr) e
-
-of_two : (n : ℕ) (ps : List Bound) (p q : Bound) (a b : ArrayData) → length ps ≡ 2 → Some p ≡ slice_get ps 0 → Some q ≡ slice_get ps 1 → (a.dtype ≡ infer p.scope p.expr) × (length a.items ≡ n) → (b.dtype ≡ infer q.scope q.expr) × (length b.items ≡ n) → AreOfParts n ps (a ∷ b ∷ [])
-of_two n [] p q a b l h g s t = absurd (omega arith)
-of_two n (x ∷ []) p q a b l h g s t = absurd (omega arith)
-of_two n (x ∷ y ∷ z ∷ ps) p q a b l h g s t = absurd (omega arith)
-of_two n (x ∷ y ∷ []) p q a b l h g s t = ((of_same p x a h s.0, s.1), ((of_same q y b g t.0, t.1), tt))
 
 pub join-requires : goal.join-requires
 join-requires c =
-    subst (AreOfParts 3 c.args.parts.now.parts)
-    (sym (c.in_ok-push-2.ensures.items ∙ ap (λ ys. ys ++ c.in_ok-validity.validity ∷ []) (c.in_ok-push.ensures.items ∙ ap (λ ys. ys ++ c.in_ok-field.field ∷ []) c.new-columns.ensures.items)))
-    (of_two 3 c.args.parts.now.parts c.part.result.now c.part-2.result.now c.in_ok-field.field c.in_ok-validity.validity c.requires.parts c.part.ensures c.part-2.ensures
-    (c.in_ok-field.ensures.dtype, c.in_ok-field.ensures.length ∙ c.in_ok-numbers.ensures) (c.in_ok-validity.ensures.dtype, c.in_ok-validity.ensures.length ∙ c.in_ok-truths.ensures))
+    subst (AreOfParts c.args.rows c.args.parts.now.parts)
+    (sym (c.in_ok-push-2.ensures.items ∙ ap (λ ys. ys ++ c.in_ok-other.other ∷ []) (c.in_ok-push.ensures.items ∙ ap (λ ys. ys ++ c.in_ok-one.one ∷ []) c.new-columns.ensures.items)))
+    (of_two c.args.rows c.args.parts.now.parts c.part.result.now c.part-2.result.now c.in_ok-one.one c.in_ok-other.other c.requires.parts c.part.ensures c.part-2.ensures
+    (c.in_ok-one.ensures.dtype, c.in_ok-one.ensures.length ∙ c.requires.first) (c.in_ok-other.ensures.dtype, c.in_ok-other.ensures.length ∙ c.requires.second))

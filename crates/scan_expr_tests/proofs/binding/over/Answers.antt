@@ -1,5 +1,0 @@
-use Rattle.scan_partition.proofs.Partable.{bound_partable}
-use Rattle.scan_expr_tests.proofs.binding.over.Goals as goal
-
-pub returns : goal.returns
-returns c = bound_partable c.args.dtype.now c.args.expr.now c.in_ok-bound.bound (c.in_ok-bound.ensures (λ h. cc))

@@ -1,7 +1,0 @@
-use Rattle.std.proofs.Common.{sym, ◌∙◌}
-use Rattle.scan_expr_tests.proofs.Typing.{of_type}
-use Rattle.scan_expr_tests.proofs.columns.is_true_on.Goals as goal
-
-pub evaluate_mask-requires-clause-scope : goal.evaluate_mask-requires-clause-scope
-evaluate_mask-requires-clause-scope c =
-    sym c.dtype-2.ensures ∙ of_type c.dtype-2.result.now c.scope.result.now (sym c.if-ne.false ∙ c.ne.ensures) ∙ c.scope.ensures

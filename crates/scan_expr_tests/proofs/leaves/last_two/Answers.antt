@@ -1,9 +1,0 @@
-use borrow.Author.Rules.{rules}
-use Rattle.std.proofs.Common.{◌≡◌, sym, ◌∙◌}
-use Rattle.scan_expr_tests.proofs.Typing.{of_type}
-use Rattle.scan_expr_tests.proofs.leaves.last_two.Goals as goal
-
-pub from_leaf-requires-clause-dtype : goal.from_leaf-requires-clause-dtype
-from_leaf-requires-clause-dtype c =
-    let shared : c.deref.result.now ≡ c.args.dtype.value = search (rules, c.deref.ensures) in
-    sym c.dtype.ensures ∙ of_type c.dtype.result.now c.deref.result.now (sym c.if-ne.false ∙ c.ne.ensures) ∙ shared

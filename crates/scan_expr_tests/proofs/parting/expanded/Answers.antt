@@ -1,7 +1,0 @@
-use Rattle.std.proofs.Common.{subst}
-use Rattle.scan_partition.specs.Conditions.{IsStruct}
-use Rattle.scan_expr_tests.proofs.Scopes.{is_struct_by}
-use Rattle.scan_expr_tests.proofs.parting.expanded.Goals as goal
-
-pub expand_struct_root-requires-clause-structure : goal.expand_struct_root-requires-clause-structure
-expand_struct_root-requires-clause-structure c = subst IsStruct c.scope.ensures (is_struct_by _ _ c.in-Some.ensures)

@@ -1,7 +1,0 @@
-use Rattle.std.proofs.Common.{subst}
-use Rattle.scan_partition.specs.Partable.{RowPartsPartable}
-use Rattle.scan_partition.proofs.Partable.{one_partable}
-use Rattle.scan_expr_tests.proofs.reading.child_parted.Goals as goal
-
-pub parted-requires : goal.parted-requires
-parted-requires c = one_partable c.in-Both.parts.parts 0 c.part-child.result.now (subst RowPartsPartable c.in-Both.is c.requires) c.part-child.ensures
