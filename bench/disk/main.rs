@@ -1,10 +1,12 @@
-//! Two questions of run.py written by hand over the same files: a filter and two columns, and a filter that few rows pass.
+//! The questions of run.py written by hand over the same files: a filter and two columns, a filter that few rows pass, a
+//! count, ten rows, and rows by place.
 //! What a footer says comes as lines, `file FILE` and behind it `COLUMN OFFSET LENGTH ROWS` a segment of a column, since
 //! JSON is not what is measured. A segment is read in one read, none is read whose rows no question needs, and no digest
 //! is compared. A line of each row is written as the program writes it.
 use std::collections::HashMap;
 use std::fs::File;
 use std::io::{self, BufWriter, Read, Write};
+use std::ops::Range;
 use std::os::unix::fs::FileExt;
 
 struct Segment {
@@ -28,6 +30,43 @@ impl Table {
 
     fn rows(&self, column: &str, at: usize) -> usize {
         self.columns[column][at].rows
+    }
+
+    /// The segments that have rows of these, and which rows of each.
+    fn cuts(&self, column: &str, rows: &Range<usize>) -> Vec<(usize, Range<usize>)> {
+        let (mut first, mut found) = (0, Vec::new());
+        for (at, segment) in self.columns[column].iter().enumerate() {
+            let end = first + segment.rows;
+            let cut = rows.start.max(first)..rows.end.min(end);
+            if cut.start < cut.end {
+                found.push((at, cut.start - first..cut.end - first));
+            }
+            first = end;
+        }
+        found
+    }
+
+    /// Numbers of one, four or eight bytes; before those that may be null stands a bit each.
+    fn numbers(&self, column: &str, width: usize, nullable: bool, rows: &Range<usize>) -> io::Result<Vec<Option<i64>>> {
+        let mut found = Vec::new();
+        for (at, cut) in self.cuts(column, rows) {
+            let bytes = self.read(column, at)?;
+            let (there, slots) = bytes.split_at(if nullable { self.rows(column, at).div_ceil(8) } else { 0 });
+            for row in cut {
+                let is_there = !nullable || there[row / 8] >> (row % 8) & 1 == 1;
+                found.push(is_there.then(|| number_at(slots, width, row)));
+            }
+        }
+        Ok(found)
+    }
+
+    fn names(&self, rows: &Range<usize>) -> io::Result<Vec<String>> {
+        let mut found = Vec::new();
+        for (at, cut) in self.cuts("name", rows) {
+            let bytes = self.read("name", at)?;
+            found.extend(texts(&bytes, &cut.collect::<Vec<_>>()).into_iter().map(String::from));
+        }
+        Ok(found)
     }
 }
 
@@ -53,6 +92,14 @@ fn i32_at(bytes: &[u8], row: usize) -> i32 {
 
 fn i64_at(bytes: &[u8], row: usize) -> i64 {
     i64::from_le_bytes(bytes[8 * row..8 * row + 8].try_into().unwrap())
+}
+
+fn number_at(bytes: &[u8], width: usize, row: usize) -> i64 {
+    match width {
+        1 => i64::from(bytes[row]),
+        4 => i64::from(i32_at(bytes, row)),
+        _ => i64_at(bytes, row),
+    }
 }
 
 /// The rows of a column of i32 that pass.
@@ -129,15 +176,52 @@ fn few(number: usize, table: &Table, out: &mut impl Write) -> io::Result<()> {
     Ok(())
 }
 
+/// `score > 999900`, and of these rows `score`.
+fn count(number: usize, table: &Table, out: &mut impl Write) -> io::Result<()> {
+    let mut first = 0;
+    for at in 0..table.columns["score"].len() {
+        let scores = table.read("score", at)?;
+        for row in passing(&scores, table.rows("score", at), |n| n > 999_900) {
+            writeln!(out, "{{\"file\":{number},\"row\":{},\"value\":{{\"score\":{}}}}}", first + row, i32_at(&scores, row))?;
+        }
+        first += table.rows("score", at);
+    }
+    Ok(())
+}
+
+/// Rows with all their columns.
+fn whole(number: usize, table: &Table, rows: Range<usize>, out: &mut impl Write) -> io::Result<()> {
+    let ids = table.numbers("id", 8, false, &rows)?;
+    let scores = table.numbers("score", 4, false, &rows)?;
+    let ages = table.numbers("age", 4, true, &rows)?;
+    let names = table.names(&rows)?;
+    let ends: Vec<usize> = table.numbers("tags.offsets", 8, false, &(rows.start..rows.end + 1))?.into_iter().map(|n| n.unwrap() as usize).collect();
+    let tags = table.numbers("tags.elements", 1, false, &(ends[0]..ends[ends.len() - 1]))?;
+    for (i, row) in rows.enumerate() {
+        let (id, score) = (ids[i].unwrap(), scores[i].unwrap());
+        let age = ages[i].map_or("null".to_string(), |n| n.to_string());
+        write!(out, "{{\"file\":{number},\"row\":{row},\"value\":{{\"id\":{id},\"score\":{score},\"age\":{age},\"name\":\"")?;
+        write_text(out, &names[i])?;
+        let own: Vec<String> = tags[ends[i] - ends[0]..ends[i + 1] - ends[0]].iter().map(|n| n.unwrap().to_string()).collect();
+        writeln!(out, "\",\"tags\":[{}]}}}}", own.join(","))?;
+    }
+    Ok(())
+}
+
 fn main() -> io::Result<()> {
     let question = std::env::args().nth(1).unwrap();
     let mut text = String::new();
     io::stdin().read_to_string(&mut text)?;
     let mut out = BufWriter::new(io::stdout().lock());
-    for (number, table) in tables(&text)?.iter().enumerate() {
+    let tables = tables(&text)?;
+    for (number, table) in tables.iter().enumerate() {
         match question.as_str() {
             "filter" => filter(number, table, &mut out)?,
-            _ => few(number, table, &mut out)?,
+            "few" => few(number, table, &mut out)?,
+            "count" => count(number, table, &mut out)?,
+            "ten" if number == 0 => whole(number, table, 0..10, &mut out)?,
+            "place" if number + 1 == tables.len() => whole(0, table, 500_000..500_010, &mut out)?,
+            _ => {}
         }
     }
     out.flush()
