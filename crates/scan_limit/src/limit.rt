@@ -66,7 +66,8 @@ impl RowLimit {
     }
 
     /// Claims rows and answers how many of them are granted: those that the limit leaves after all that was claimed
-    /// before, by whatever seat. It is one addition to the shared word, and takes no lock, no memory and no wait.
+    /// before, by whatever seat. It takes no memory. Cost: one atomic addition, with no lock and no wait (no clause
+    /// counts additions).
     pub fn take(&self, s: &mut LimitSeat, rows: u64) -> u64
         requires own { s.old.budget ≡ self.now }
         requires room { rows ≤ s.old.room }
