@@ -150,7 +150,7 @@ fn import_command<'a>(alloc: Global) -> Result<Command<'a>, AllocError> {
         .arg(
             option(alloc, "rows", "N", "How many rows a segment has at most")
                 .value_parser(value_parser!(u32))
-                .default_value("65536"),
+                .default_value("32768"),
         )?
         .arg(
             option(alloc, "spelling", "S", "How segments are spelt, 1 or 2")
@@ -260,7 +260,7 @@ fn import_job(alloc: Global, matches: &ArgMatches<'_>) -> Result<ImportJob, Tool
         from: owned(alloc, matches.get_str("IN"))?,
         to: owned(alloc, matches.get_str("OUT"))?,
         dtype: owned_if(alloc, matches.get_str("dtype"))?,
-        rows: matches.get_one::<u32>("rows").unwrap_or(65_536) as usize,
+        rows: matches.get_one::<u32>("rows").unwrap_or(32_768) as usize,
         spelling: spelling_of(alloc, matches.get_one::<u8>("spelling"))?,
         progress: matches.get_flag("progress"),
     })

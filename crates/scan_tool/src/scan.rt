@@ -21,7 +21,7 @@ use std::ops::Range;
 use std::thread::Threads;
 
 /// How many bytes and segments the cache of a scan keeps.
-const CACHE_BYTES: u64 = 67_108_864;
+const CACHE_BYTES: u64 = 4_194_304;
 
 const CACHE_SEGMENTS: usize = 4_096;
 
