@@ -1,6 +1,6 @@
 -- Items and members of JSON values, and what they mean.
 use Rattle.std.proofs.Common.{◌≡◌, ℕ, zero, suc, ◌+◌, ◌-◌, ◌<◌, List, [], ◌∷◌, map, length, drop, None, Some, true, false, refl, sym, ap, ◌∙◌, add-one, arith, rules}
-use Rattle.std.specs.Prelude.{Option, option_map, cond, ◌&&◌, slice_get, string_bytes, String, Vec, Result, Ok, Err, IfOk}
+use Rattle.std.specs.Prelude.{Bool, Option, option_map, cond, ◌&&◌, slice_get, string_bytes, String, Vec, Result, Ok, Err, IfOk}
 use Rattle.std.proofs.Common.{BTreeMap}
 use Rattle.serde_json.proofs.Views.{view-Array, view-Object}
 use Rattle.scan_values.specs.Kinds.{element_of, struct_fields_of}
@@ -111,3 +111,8 @@ members_viewed inner d j m e =
 pub value_as : {E : Type 0} (r : Result (Option Value) E) (x y : Option Val) → x ≡ y → IfOk r (λ o. option_map val_of o ≡ x) → IfOk r (λ o. option_map val_of o ≡ y)
 value_as (Ok o) x y e h = h ∙ e
 value_as (Err f) x y e h = tt
+
+-- each of these is of this kind, by its view
+pub all_viewed : {V : Type 0} (p : Data → Bool) (f : V → Data) (xs : List V) → list_all p (map f xs) ≡ list_all (λ x. p (f x)) xs
+all_viewed p f [] = refl
+all_viewed p f (x ∷ xs) = ap (λ b. p (f x) && b) (all_viewed p f xs)

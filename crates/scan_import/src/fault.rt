@@ -35,6 +35,12 @@ pub enum ImportCause {
     Name,
     #[error("the rows are not of their dtype")]
     Rows,
+    #[error("there is no row that shows a dtype")]
+    NoRows,
+    #[error("it has a value that no dtype has together with those before it")]
+    Mixed,
+    #[error("its values nest deeper than a dtype does")]
+    Deep,
     #[error("out of memory")]
     NoMemory,
 }

@@ -239,7 +239,8 @@ pub(crate) fn dtype_at(fields: &StructFields, i: usize) -> &DType
     }
 }
 
-fn is_name(names: &[FieldName], key: &str) -> bool
+/// Whether a name is among these.
+pub(crate) fn is_name(names: &[FieldName], key: &str) -> bool
     ensures { result ≡ list_any (λ n. bytes_eq n key.now) names.now }
 {
     names.iter().any(|name| name.as_str() == key)

@@ -4,7 +4,7 @@ ghost use Rattle.std.specs.Str as str_spec;
 ghost use Rattle.serde_json.specs.Read.{read};
 ghost use Rattle.serde_json.specs.View.{view};
 ghost use Rattle.scan_values.specs.Values.{val_of};
-ghost use Rattle.scan_import.specs.JsonLines.{AreLinesOf, IsJsonLinesOf, is_blank, line_in};
+ghost use Rattle.scan_import.specs.JsonLines.{AreLinesOf, AreValuesOf, IsJsonLinesOf, is_blank, line_in};
 ghost use Rattle.scan_import.specs.Lists.{known};
 ghost use Rattle.scan_import.specs.Meaning.{row_from, value_within, most_levels};
 
@@ -61,6 +61,25 @@ fn is_blank(line: &str) -> bool
     ensures { result ≡ is_blank line.now }
 {
     line.trim().is_empty()
+}
+
+/// The JSON values of the lines of a text that are not blank, each with the number of its line.
+pub(crate) fn values_of_lines(alloc: Global, text: &str) -> Result<Vec<(u64, Json)>, ImportFault>
+    ensures { IfOk result (λ rows. AreValuesOf text.now (map (λ r. view r.1) rows.items)) }
+{
+    let mut rows = Vec::new(alloc);
+    let mut number: u64 = 0;
+    for line in text.lines() {
+        number = number.saturating_add(1);
+        if is_blank(line) {
+            continue;
+        }
+        match json_of(alloc, line) {
+            Ok(json) => rows.push((number, json))?,
+            Err(cause) => return Err(ImportFault::new(number, cause)),
+        }
+    }
+    Ok(rows)
 }
 
 /// The rows of the lines of a text.

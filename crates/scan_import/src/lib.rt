@@ -1,4 +1,4 @@
-//! Rows of CSV and of lines of JSON, as arrays of a dtype, and the dtype that a CSV's cells show.
+//! Rows of CSV and of lines of JSON, as arrays of a dtype, and the dtype that they show.
 #![tactic(auto)]
 
 mod cell;
@@ -7,8 +7,10 @@ mod fault;
 mod guess;
 mod json;
 mod json_rows;
+mod shown;
 
 pub use csv_rows::rows_of_csv;
 pub use fault::{ImportCause, ImportFault};
 pub use guess::dtype_of_csv;
 pub use json_rows::rows_of_json;
+pub use shown::dtype_of_json;
