@@ -5,10 +5,11 @@
 
 Below the heading 'From a CSV of your own' it takes the block whose lines begin with `sib`, gives it to a shell as it is, in a
 folder where people.csv of crates/sib/data lies, and compares what it prints with the block behind it; the block before it has
-to be that CSV. A command that stands in the text with a file's name has to end with 0 too. Then it asks `sib explain` with the words of each scan there: it has to tell
-no fewer segments than `--report` says were asked for, and to give the same when every byte of the segments is another. Last it
-makes a file by the Python of docs/FILES.md and docs/MANIFEST.md, which has to have as many bytes as is said there, and be
-scanned with the digests compared. PROGRAM is crates/sib/out/sib, which `rt run` leaves there, where no other is named.
+to be that CSV. A command that stands in the text with a file's name has to end with 0 too. Then it asks `sib explain` with
+the words of each scan there: it has to tell no fewer segments than `--report` says were asked for, and to give the same when
+every byte of the segments is another. Last it makes a file by the Python of docs/FILES.md and docs/MANIFEST.md, which has to
+have as many bytes as is said there, and be scanned with the digests compared, and imports lines of JSON that show their
+dtype. PROGRAM is crates/sib/out/sib, which `rt run` leaves there, where no other is named.
 """
 import json, os, pathlib, re, shlex, shutil, subprocess, sys, tempfile, time
 
@@ -77,6 +78,17 @@ def check_file_by_hand(folder):
         sys.exit(f"the file of docs/FILES.md has {values}")
 
 
+def check_lines(folder):
+    """Lines of JSON that show their dtype come back as they were."""
+    rows = [{"id": 1, "at": {"x": 1, "y": None}, "tags": ["a"]}, {"id": -2, "at": {"x": 2, "y": 18446744073709551615}, "tags": [], "more": True}]
+    pathlib.Path(folder, "rows.ndjson").write_text("".join(json.dumps(row) + "\n" for row in rows))
+    told = run(folder, ["import", "rows.ndjson", "rows.sib"]).stdout
+    wanted = "rows.sib: 2 rows of {at: {x: i64, y: u64?}, id: i64, tags: [utf8], more: bool?}\n"
+    values = [json.loads(line)["value"] for line in run(folder, ["scan", "rows.sib"]).stdout.splitlines()]
+    if told != wanted or values != [{"more": None, **rows[0]}, rows[1]]:
+        sys.exit(f"lines of JSON: {told}{values}")
+
+
 def main():
     csv, commands, printed, beside = readme()
     if csv != (TOP / "crates/sib/data/people.csv").read_text():
@@ -97,6 +109,7 @@ def main():
         for words in scans:
             check_explain(folder, words)
         check_file_by_hand(folder)
+        check_lines(folder)
     count = len(commands.splitlines())
     print(f"{count} commands of README print what stands there, in {took:.2f} s; {len(beside)} in its text end with 0;")
     print(f"{len(scans)} scans ask for no more than is explained; docs/FILES.md makes the file that it says")

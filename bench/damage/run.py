@@ -196,6 +196,20 @@ def inputs(folder, told):
         told[(f"import: {what}", found, cause_of(err, source))] += 1
         if (found, printed) != (status, "") or cause not in err or sorted(os.listdir(folder)) != before:
             bad.append(("import", what, found, printed[:80], err[:200], os.listdir(folder)))
+    lines = os.path.join(folder, "in.ndjson")
+    for what, data, cause in (
+        ("a line that is no JSON", '{"a":1}\n{"a":\n', "line 2: it is no JSON"),
+        ("a line that is no object", '{"a":1}\n\n[1]\n', "line 3: it is no JSON object"),
+        ("a text behind a number", '{"a":1}\n{"a":"x"}\n', "line 2: it has a value that no dtype has"),
+        ("a number that is not whole", '{"a":[1,2]}\n{"a":[1.5]}\n', "line 2: it has a value that no dtype has"),
+        ("no line", "\n", "there is no row that shows a dtype"),
+    ):
+        pathlib.Path(lines).write_text(data)
+        before = sorted(os.listdir(folder))
+        found, printed, err = run("import", lines, out)
+        told[(f"import: {what}", found, cause_of(err, lines))] += 1
+        if (found, printed) != (2, "") or cause not in err or sorted(os.listdir(folder)) != before:
+            bad.append(("import", what, found, printed[:80], err[:200], os.listdir(folder)))
     taken, rows = os.path.join(folder, "taken"), os.path.join(folder, "rows.csv")
     os.mkdir(taken)
     for what, words, status in (

@@ -145,7 +145,7 @@ fn import_command<'a>(alloc: Global) -> Result<Command<'a>, AllocError> {
             alloc,
             "dtype",
             "DTYPE",
-            "The dtype of the rows, as 'id: i64, name: utf8?, tags: [utf8]'; a CSV shows its own",
+            "The dtype of the rows, as 'id: i64, name: utf8?, tags: [utf8]'; the rows show their own",
         ))?
         .arg(
             option(alloc, "rows", "N", "How many rows a segment has at most")

@@ -2,7 +2,9 @@
 use scan_conditions::{dtype_text, read_dtype};
 use scan_disk_writer::{NewFile, WriteFault, write_rows};
 use scan_encode::WriteOptions;
-use scan_import::{ImportCause, ImportFault, dtype_of_csv, rows_of_csv, rows_of_json};
+use scan_import::{
+    ImportCause, ImportFault, dtype_of_csv, dtype_of_json, rows_of_csv, rows_of_json,
+};
 use scan_jobs::{ImportJob, ToolFault};
 use scan_printing::{Watch, tell_stage};
 use scan_values::{Array, DType, NoMemory};
@@ -82,14 +84,12 @@ fn dtype_of<R: Files<File = File>>(
             }),
         },
         None => {
-            if is_json(path) {
-                return Err(ToolFault::Words(String::from_str(
-                    alloc,
-                    "lines of JSON want a --dtype",
-                )?));
-            }
             let input = open_input(rt, alloc, path)?;
-            told(alloc, path, None, dtype_of_csv(alloc, input))
+            if is_json(path) {
+                told(alloc, path, None, dtype_of_json(alloc, input))
+            } else {
+                told(alloc, path, None, dtype_of_csv(alloc, input))
+            }
         }
     }
 }
