@@ -1,6 +1,6 @@
 //! A CSV gives the rows that lines of JSON give, or is refused with its line.
 use scan_conditions::{dtype_text, read_dtype};
-use scan_import::{ImportFault, dtype_of_csv, rows_of_csv, rows_of_json};
+use scan_import::{ImportFault, dtype_of_csv, dtype_of_json, rows_of_csv, rows_of_json};
 use scan_values::{Array, DType};
 use std::alloc::Global;
 use std::io::Cursor;
@@ -166,6 +166,55 @@ fn a_csv_shows_its_dtype(rt: HostRuntime) -> Result<(), Fail> {
         ("\"two words\"\n", "{\"two words\": utf8}"),
     ] {
         assert!(rt; shows(rt.alloc(), csv, wanted)?, "{csv}");
+    }
+    Ok(())
+}
+
+/// What lines of JSON show: a dtype, or why none.
+fn shown_by(alloc: Global, json: &str) -> Result<String, Fail> {
+    match dtype_of_json(alloc, Cursor::new(json.as_bytes())) {
+        Ok(dtype) => Ok(dtype_text(alloc, &dtype)?),
+        Err(fault) => Ok(format!(in alloc; "{fault}")?),
+    }
+}
+
+#[test]
+fn lines_of_json_show_their_dtype(rt: HostRuntime) -> Result<(), Fail> {
+    for (json, wanted) in [
+        (
+            "{\"n\":1,\"b\":true,\"s\":\"x\"}\n{\"n\":-2,\"b\":false}\n",
+            "{b: bool, n: i64, s: utf8?}",
+        ),
+        (
+            "{\"n\":18446744073709551615}\n\n{\"n\":0,\"a\":null}",
+            "{n: u64, a: utf8?}",
+        ),
+        (
+            "{\"t\":[[],[1,null]]}\n{\"t\":[]}\n",
+            "{t: [[i64?]]}",
+        ),
+        (
+            "{\"p\":{\"x\":1}}\n{\"p\":null}\n{\"p\":{\"x\":2,\"y\":[\"z\"]}}\n",
+            "{p: {x: i64, y: [utf8]?}?}",
+        ),
+        (
+            "{\"n\":18446744073709551615}\n{\"n\":-1}\n",
+            "line 2: it has a value that no dtype has together with those before it",
+        ),
+        (
+            "{\"n\":[1]}\n{\"n\":[1.5]}\n",
+            "line 2: it has a value that no dtype has together with those before it",
+        ),
+        ("{\"n\":1}\n\n{\"n\"", "line 3: it is no JSON"),
+        ("{\"n\":1}\n7\n", "line 2: it is no JSON object"),
+        ("\n", "line 1: there is no row that shows a dtype"),
+        (
+            "{\"#validity\":1}\n",
+            "line 1: a name of a column stands twice or is reserved",
+        ),
+    ] {
+        let found = shown_by(rt.alloc(), json)?;
+        assert!(rt; found.as_str() == wanted, "{json}");
     }
     Ok(())
 }
