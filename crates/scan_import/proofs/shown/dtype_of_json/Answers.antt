@@ -1,6 +1,7 @@
 use Rattle.std.proofs.Common.{◌≡◌, List, ℕ, Option, map, sym, ap, ◌∙◌, subst}
 use Rattle.std.specs.Prelude.{IfSome, string_bytes}
 use Rattle.serde_json.specs.View.{view}
+use Rattle.serde_json.specs.declared.value.Value.{Value as Json}
 use Rattle.scan_import.specs.JsonLines.{AreValuesOf, HasMembers, ShowsMembers}
 use Rattle.scan_import.proofs.Columns.{if_told}
 use Rattle.scan_import.proofs.shown.dtype_of_json.Goals as goal
@@ -13,5 +14,5 @@ returns g c =
     record {
       rows = rows;
       are = subst (λ (t : List ℕ). AreValuesOf t rows) (c.as_str.ensures.value ∙ told) c.in_ok-rows.ensures;
-      has = search (c.has_members.ensures, c.if-not-has_members.false, c.as_slice.ensures);
+      has = subst (λ (rs : List (ℕ × Json)). HasMembers c.in_ok-dtype.dtype (map (λ r. view r.1) rs)) c.as_slice-2.ensures.value (c.has_members.ensures c.if-not-has_members.false);
     })
