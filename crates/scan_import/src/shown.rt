@@ -147,10 +147,7 @@ fn push_names(alloc: Global, json: &Json, names: &mut Vec<FieldName>) -> Result<
 }
 
 /// The names of the members of the objects among values: those of an object by rising names, where none had them before.
-fn names_in(
-    alloc: Global,
-    values: &[(u64, Option<&Json>)],
-) -> Result<Vec<FieldName>, NoMemory> {
+fn names_in(alloc: Global, values: &[(u64, Option<&Json>)]) -> Result<Vec<FieldName>, NoMemory> {
     let mut names = Vec::new(alloc);
     for one in values {
         if let Some(json) = one.1 {
