@@ -1,23 +1,32 @@
-//! Worked examples over public calls: readers, by what they want of a store of segments and what they give.
+//! Worked examples over public calls: segments, their sources, caches and requests that are shared, layouts, splits, arrays
+//! that are computed once, and readers, by what they want of a store of segments and what they give.
 #![tactic(auto)]
 
 #[cfg(test)]
 mod asked;
 #[cfg(test)]
-mod damage;
+mod caches;
 #[cfg(test)]
-mod filters;
+mod futures;
 #[cfg(test)]
 mod layouts;
 #[cfg(test)]
-mod leaves;
+mod ranges;
 #[cfg(test)]
-mod lists;
+mod segments;
 #[cfg(test)]
-mod numbers;
+mod shared_arrays;
 #[cfg(test)]
-mod splits;
+mod sharing;
+#[cfg(test)]
+mod sources;
+#[cfg(test)]
+mod stories;
 #[cfg(test)]
 mod structs;
 #[cfg(test)]
 mod told;
+#[cfg(test)]
+mod typed;
+#[cfg(test)]
+mod words;

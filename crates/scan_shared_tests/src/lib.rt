@@ -1,5 +1,0 @@
-//! Tests of shared arrays.
-#![tactic(auto)]
-
-#[cfg(test)]
-mod arrays;
