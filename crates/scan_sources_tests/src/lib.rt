@@ -1,34 +1,31 @@
-//! Worked examples of streams: what they ask, give and end with; and of sources of data, of one reader and of many files:
-//! what is known of their rows and bytes, what the parts of their scans give, and what is refused.
+//! Worked examples of scans of one reader, of what their splits, streams and iterators ask, give and end with, set up at once
+//! or when they are first asked; and of sources of data, of one reader and of many files. All are lines of a text, each read
+//! and held to what it says.
 #![tactic(auto)]
 
 #[cfg(test)]
-mod columns;
+mod cases;
 #[cfg(test)]
-mod empties;
+mod claims;
 #[cfg(test)]
-mod estimates;
+mod files;
 #[cfg(test)]
 mod iters;
 #[cfg(test)]
-mod limits;
+mod lazily;
 #[cfg(test)]
-mod maps;
+mod many;
 #[cfg(test)]
-mod pairs;
+mod scans;
 #[cfg(test)]
-mod partitions;
+mod setup;
 #[cfg(test)]
-mod parts;
+mod sources;
 #[cfg(test)]
-mod requests;
-#[cfg(test)]
-mod rows;
-#[cfg(test)]
-mod six_rows;
-#[cfg(test)]
-mod stories;
+mod splits;
 #[cfg(test)]
 mod streams;
 #[cfg(test)]
 mod told;
+#[cfg(test)]
+mod words;
