@@ -1,7 +1,7 @@
 //! Lines of cases. A line says what is looked at, a file, what is asked of it and further words, and then what is told; one
 //! that begins with `#` says what those behind it show.
 use crate::files::{Case, case};
-use crate::scans::prepared;
+use crate::scans::scan;
 use crate::words::sides;
 use crate::{claims, iters, lazily, many, setup, sources, splits, streams};
 use scan_core::{Identity, RepeatedScan};
@@ -33,7 +33,10 @@ fn twice(rt: &impl Abort, alloc: Global, kind: &str, text: &str) -> String {
         reader,
         ..
     } = case(rt, alloc, text);
-    let mut scan = prepared(rt, alloc, reader, request, text);
+    let mut reader = reader;
+    let mut scan = scan(rt, alloc, &mut reader, request, text)
+        .prepare(alloc)
+        .expect(rt, "prepare");
     let first = once(rt, alloc, &mut scan, kind, text);
     let second = once(rt, alloc, &mut scan, kind, text);
     assert_eq!(rt; first.as_str(), second.as_str());
@@ -42,7 +45,6 @@ fn twice(rt: &impl Abort, alloc: Global, kind: &str, text: &str) -> String {
 
 fn told(rt: &impl Abort, alloc: Global, kind: &str, text: &str) -> String {
     match kind {
-        "itself" => setup::itself(rt, alloc, text),
         "ranges" => setup::ranges(rt, alloc, text),
         "whole" => setup::whole(rt, alloc, text),
         "masks" => setup::masks(rt, alloc, text),
@@ -54,7 +56,6 @@ fn told(rt: &impl Abort, alloc: Global, kind: &str, text: &str) -> String {
         "share" => claims::both(rt, alloc, text),
         "grant" => claims::granted(rt, alloc, text),
         "source" => sources::told(rt, alloc, text),
-        "source_known" => sources::known(rt, alloc, text),
         "files" => many::told(rt, alloc, text),
         "files_known" => many::known(rt, alloc, text),
         _ => twice(rt, alloc, kind, text),
@@ -75,7 +76,7 @@ fn push_wrong(rt: &impl Abort, alloc: Global, line: &str, wrong: &mut String) {
 fn hold(rt: &impl Abort, alloc: Global, lines: &str) {
     let mut wrong = String::new(alloc);
     for line in lines.lines() {
-        if !line.starts_with("#") {
+        if line.strip_prefix('#').is_none() {
             push_wrong(rt, alloc, line, &mut wrong);
         }
     }
@@ -83,15 +84,11 @@ fn hold(rt: &impl Abort, alloc: Global, lines: &str) {
 }
 
 #[test]
-fn builders_are_set_up_and_split(rt: HostRuntime) {
+fn builders_set_up_scans_of_splits(rt: HostRuntime) {
     hold(
         &rt,
         rt.alloc(),
-        r##"# a builder and its scan tell themselves
-itself A "$" -> true 4 {a=i32, b=i32}; {a=i32, b=i32} false;
-itself A {"get":["b","$"]},"ordered":false at_once:2 -> false 2 i32; i32 false;
-itself A {"get":["b","$"]},"filter":{"ge":[{"get":["a","$"]},{"lit":2,"type":"i32"}]} -> true 4 i32; i32 true;
-# thirty rows with natural splits in tens, of which all are asked, some, or none
+        r##"# thirty rows with natural splits in tens, of which all are asked, some, or none
 ranges thirty "$" cut:tens -> 0..10 10..20 20..30
 ranges thirty "$" cut:tens asked:5..25 -> 5..10 10..20 20..25
 ranges thirty "$" cut:tens asked:10..20 -> 10..20
@@ -127,14 +124,15 @@ ranges A "$","range":[0,3] at_once:0 by:1 offset:18446744073709551615 -> the con
 ranges A "$","range":[2,1] at_once:1 by:0 -> splits of no rows;
 ranges A "$","range":[0,3] at_once:1 by:0 offset:18446744073709551615 -> splits of no rows;
 ranges A "$","range":[0,4] at_once:1 by:1 offset:18446744073709551615 -> the range is reversed, or its end passes the row count;
-# a whole file is split, whatever rows are asked for
-whole A "$","range":[1,2] -> [0, 3]
-whole A "$","range":[1,2] by:2 -> [0, 2, 3]
+# a builder tells its order, its concurrency, the dtype of its projection, and where a whole file is split, whatever rows are asked for
+whole A {"get":["b","$"]},"ordered":false at_once:2 -> false 2 i32; [0, 3]
+whole A "$","range":[1,2] -> true 4 {a=i32, b=i32}; [0, 3]
+whole A "$","range":[1,2] by:2 -> true 4 {a=i32, b=i32}; [0, 2, 3]
 whole A "$" by:0 -> splits of no rows;
-whole thirty "$" cut:tens -> [0, 30]
-whole uneven "$" -> [0, 5, 12, 30]
-whole uneven {"get":["a","$"]} -> [0, 12, 30]
-whole uneven "$" by:10 -> [0, 10, 20, 30]
+whole thirty "$" cut:tens -> true 4 u8; [0, 30]
+whole uneven "$" -> true 4 {a=i32, b=i32}; [0, 5, 12, 30]
+whole uneven {"get":["a","$"]} -> true 4 i32; [0, 12, 30]
+whole uneven "$" by:10 -> true 4 {a=i32, b=i32}; [0, 10, 20, 30]
 # the paths of the fields that a projection uses, and then those that its filter uses anew
 masks nested "$" -> $
 masks nested {"lit":1,"type":"i32"} ->
@@ -147,16 +145,8 @@ masks nested {"pack":[["x","$"],["y",{"get":["a","$"]}]],"nullable":true} -> $ $
 masks nested {"get":["x",{"pack":[["x",{"get":["b","$"]}],["y",{"lit":1,"type":"i32"}]]}]} -> $.b
 masks A {"get":["a","$"]},"filter":{"eq":[{"get":["b","$"]},{"lit":1,"type":"i32"}]} -> $.a $.b
 masks nested {"get":["a","$"]},"filter":{"eq":[{"get":["b","$"]},{"lit":1,"type":"i32"}]} -> $.a $.b
-masks nested {"exclude":[["a","c"],"$"]},"filter":{"eq":[{"get":["c","$"]},{"get":["c",{"select":[["b","c"],"$"]}]}]} -> $.b $.c"##,
-    );
-}
-
-#[test]
-fn splits_want_and_give_what_their_scan_asks_for(rt: HostRuntime) {
-    hold(
-        &rt,
-        rt.alloc(),
-        r##"# a split wants the segments of its rows, those of a filter before those of the projection
+masks nested {"exclude":[["a","c"],"$"]},"filter":{"eq":[{"get":["c","$"]},{"get":["c",{"select":[["b","c"],"$"]}]}]} -> $.b $.c
+# a split wants the segments of its rows, those of a filter before those of the projection
 splits two {"get":["b","$"]} -> wants 1; 10,20; / wants 2; 30; /
 splits A {"get":["b","$"]},"filter":{"ge":[{"get":["a","$"]},{"lit":2,"type":"i32"}]} -> wants 0; wants 1; 20,30; /
 splits A {"get":["b","$"]},"filter":{"ge":[{"get":["a","$"]},{"lit":100,"type":"i32"}]} -> wants 0; none; /
@@ -320,24 +310,22 @@ count_iter six "$" at_once:1 wait:1 polls:5 -> i32; 2 rows; Map(7); none; none; 
 }
 
 #[test]
-fn sources_of_one_reader_are_scanned_in_parts(rt: HostRuntime) {
+fn sources_are_scanned_in_parts_or_by_files(rt: HostRuntime) {
     hold(
         &rt,
         rt.alloc(),
-        r##"# a source tells its rows
-source_known ten "$" -> u8 Exact(10) Absent;
-# the limit is lessened part by part, and parts are counted by the rows that are left
-source ten "$","limit":5 -> u8; Inexact(3) / 0: 0..4 Some(5) Exact(4) Absent: u8; 0,1,2,3; end; asked 0, live 0; live 0; Inexact(2) / 4: 4..8 Some(1) Exact(1) Absent: u8; 4; end; asked 0 0, live 0; live 0; Exact(0)
-source ten "$","limit":5,"ordered":false -> u8; Inexact(3) / 0: 0..4 Some(5) Exact(4) Absent: u8; 0,1,2,3; end; asked 0, live 0; live 0; Inexact(2) / 4: 4..8 Some(1) Exact(1) Absent: u8; 4; end; asked 0 0, live 0; live 0; Exact(0)
+        r##"# the limit is lessened part by part, and parts are counted by the rows that are left
+source ten "$","limit":5 -> u8 Exact(10) Absent; u8; Inexact(3) / 0: 0..4 Some(5) Exact(4) Absent: u8; 0,1,2,3; end; asked 0, live 0; live 0; Inexact(2) / 4: 4..8 Some(1) Exact(1) Absent: u8; 4; end; asked 0 0, live 0; live 0; Exact(0)
+source ten "$","limit":5,"ordered":false -> u8 Exact(10) Absent; u8; Inexact(3) / 0: 0..4 Some(5) Exact(4) Absent: u8; 0,1,2,3; end; asked 0, live 0; live 0; Inexact(2) / 4: 4..8 Some(1) Exact(1) Absent: u8; 4; end; asked 0 0, live 0; live 0; Exact(0)
 # parts of an unordered scan with a filter share the limit
-source ten "$","filter":{"ge":["$",{"lit":2,"type":"u8"}]},"limit":3,"ordered":false -> u8; Inexact(3) / 0: 0..4 Some(3) Inexact(3) Absent: u8; 2,3; end; asked 0, live 0; live 0; Inexact(2) / 4: 4..8 Some(3) Inexact(3) Absent: u8; 4; end; asked 0 0, live 0; live 0; Inexact(1) / 8: 8..10 Some(3) Inexact(2) Absent: u8; end; end; asked 0 0 0, live 0; live 0; Exact(0)
+source ten "$","filter":{"ge":["$",{"lit":2,"type":"u8"}]},"limit":3,"ordered":false -> u8 Exact(10) Absent; u8; Inexact(3) / 0: 0..4 Some(3) Inexact(3) Absent: u8; 2,3; end; asked 0, live 0; live 0; Inexact(2) / 4: 4..8 Some(3) Inexact(3) Absent: u8; 4; end; asked 0 0, live 0; live 0; Inexact(1) / 8: 8..10 Some(3) Inexact(2) Absent: u8; end; end; asked 0 0 0, live 0; live 0; Exact(0)
 # a part tells itself
-source short "$","range":[1,3] parts:9 polls:3 -> i32; Inexact(1) / 1: 1..3 None Exact(2) Absent: i32; 20; 30; end; asked 0 1, live 0; live 0; Exact(0)
+source short "$","range":[1,3] parts:9 polls:3 -> i32 Exact(3) Absent; i32; Inexact(1) / 1: 1..3 None Exact(2) Absent: i32; 20; 30; end; asked 0 1, live 0; live 0; Exact(0)
 # all rows, those of a range, and none; partitions play no part
-source ten "$" -> u8; Inexact(3) / 0: 0..4 None Exact(4) Absent: u8; 0,1,2,3; end; asked 0, live 0; live 0; Inexact(2) / 4: 4..8 None Exact(4) Absent: u8; 4,5,6,7; end; asked 0 0, live 0; live 0; Inexact(1) / 8: 8..10 None Exact(2) Absent: u8; 8,9; end; asked 0 0 0, live 0; live 0; Exact(0)
-source ten "$","range":[3,10] -> u8; Inexact(2) / 3: 3..7 None Exact(4) Absent: u8; 3,4,5,6; end; asked 0, live 0; live 0; Inexact(1) / 7: 7..10 None Exact(3) Absent: u8; 7,8,9; end; asked 0 0, live 0; live 0; Exact(0)
-source ten "$","range":[10,10] -> u8; Exact(0)
-source ten "$","range":[3,10],"partitions":[7,9] -> u8; Inexact(2) / 3: 3..7 None Exact(4) Absent: u8; 3,4,5,6; end; asked 0, live 0; live 0; Inexact(1) / 7: 7..10 None Exact(3) Absent: u8; 7,8,9; end; asked 0 0, live 0; live 0; Exact(0)
+source ten "$" -> u8 Exact(10) Absent; u8; Inexact(3) / 0: 0..4 None Exact(4) Absent: u8; 0,1,2,3; end; asked 0, live 0; live 0; Inexact(2) / 4: 4..8 None Exact(4) Absent: u8; 4,5,6,7; end; asked 0 0, live 0; live 0; Inexact(1) / 8: 8..10 None Exact(2) Absent: u8; 8,9; end; asked 0 0 0, live 0; live 0; Exact(0)
+source ten "$","range":[3,10] -> u8 Exact(10) Absent; u8; Inexact(2) / 3: 3..7 None Exact(4) Absent: u8; 3,4,5,6; end; asked 0, live 0; live 0; Inexact(1) / 7: 7..10 None Exact(3) Absent: u8; 7,8,9; end; asked 0 0, live 0; live 0; Exact(0)
+source ten "$","range":[10,10] -> u8 Exact(10) Absent; u8; Exact(0)
+source ten "$","range":[3,10],"partitions":[7,9] -> u8 Exact(10) Absent; u8; Inexact(2) / 3: 3..7 None Exact(4) Absent: u8; 3,4,5,6; end; asked 0, live 0; live 0; Inexact(1) / 7: 7..10 None Exact(3) Absent: u8; 7,8,9; end; asked 0 0, live 0; live 0; Exact(0)
 # sizes are checked before ranges, and the projection is bound before the filter
 source ten "$" parts:0 -> splits of no rows;
 source ten "$","range":[3,2] parts:0 -> splits of no rows;
@@ -349,16 +337,8 @@ source ten "$","filter":"$" -> not a boolean of the nullability that is wanted;
 # rows without fields are counted, and nothing is read; many rows come in arrays
 source ten {"pack":[]},"limit":5 -> empty {} Exact(1) 0 Exact(5) Exact(0); 5 {}; none; none;
 source many {"pack":[]} -> empty {} Exact(1) 0 Exact(70000) Exact(0); 65536 {}; 4464 {}; none;
-source ten {"pack":[]},"range":[2,6],"exclude":[0,3] -> empty {} Exact(1) 0 Exact(3) Exact(0); 3 {}; none; none;"##,
-    );
-}
-
-#[test]
-fn sources_of_many_files_give_each_by_its_number(rt: HostRuntime) {
-    hold(
-        &rt,
-        rt.alloc(),
-        r##"# byte sizes are none, or one for each file
+source ten {"pack":[]},"range":[2,6],"exclude":[0,3] -> empty {} Exact(1) 0 Exact(3) Exact(0); 3 {}; none; none;
+# byte sizes are none, or one for each file
 files_known 3,3,3 "$" sizes:-,- -> ByteSizes
 files_known no "$" sizes:- -> ByteSizes
 files_known 3,3,3 "$" sizes:-,1,- -> {a=i32, b=i32} Absent Inexact(3); false None false Some(1) false None

@@ -11,8 +11,8 @@ use crate::words::{after, number};
 use scan_layout::LayoutRef;
 use scan_manifest::{FileSpec, Files, Manifest};
 use scan_multi_sources::{
-    MemoryOpener, MultiLayoutChild, MultiLayoutDataSource, MultiLayoutPartition, MultiLayoutScan,
-    PartitionPoll, SourceFault,
+    MemoryOpener, MultiLayoutChild, MultiLayoutDataSource, MultiLayoutScan, PartitionPoll,
+    SourceFault,
 };
 use scan_segments::MemorySource;
 use scan_values::DType;
@@ -116,12 +116,6 @@ fn made(
     }
 }
 
-fn push_child(rt: &impl Abort, child: &MultiLayoutChild<MemoryOpener>, text: &mut String) {
-    let size = child.byte_size();
-    let is_opened = matches!(child, MultiLayoutChild::Opened { .. });
-    write!(text, " {is_opened} {size:?}").expect(rt, "write")
-}
-
 /// What is known of the rows and bytes of a source, and each of its files: whether it is opened, and its size.
 fn listed(rt: &impl Abort, alloc: Global, source: &MultiLayoutDataSource<MemoryOpener>) -> String {
     let mut text = String::new(alloc);
@@ -130,7 +124,9 @@ fn listed(rt: &impl Abort, alloc: Global, source: &MultiLayoutDataSource<MemoryO
     let bytes = source.byte_size();
     write!(text, " {dtype} {rows:?} {bytes:?};").expect(rt, "write");
     for child in source.children() {
-        push_child(rt, child, &mut text);
+        let size = child.byte_size();
+        let is_opened = matches!(child, MultiLayoutChild::Opened { .. });
+        write!(text, " {is_opened} {size:?}").expect(rt, "write");
     }
     text
 }
@@ -145,16 +141,8 @@ pub(crate) fn known(rt: &impl Abort, alloc: Global, text: &str) -> String {
     }
 }
 
-/// A file that is given: its number, its place, and what is known of its rows and bytes.
-fn push_file_given(rt: &impl Abort, partition: &MultiLayoutPartition, text: &mut String) {
-    let index = partition.index();
-    let child = partition.child();
-    let rows = partition.row_count();
-    let bytes = partition.byte_size();
-    write!(text, " / {index} of {child} {rows:?} {bytes:?}:").expect(rt, "write")
-}
-
-/// The answers of the polls of a scan, up to nine, and what two polls of each file give.
+/// The answers of the polls of a scan, up to nine: of each file its number, its place, what is known of its rows and bytes,
+/// and what two polls give.
 fn polled(
     rt: &impl Abort,
     alloc: Global,
@@ -173,7 +161,11 @@ fn polled(
         match scan.poll_partition(alloc) {
             PartitionPoll::Pending => text.push_str(" pending;").expect(rt, "push_str"),
             PartitionPoll::Partition(partition) => {
-                push_file_given(rt, &partition, &mut text);
+                let index = partition.index();
+                let child = partition.child();
+                let rows = partition.row_count();
+                let bytes = partition.byte_size();
+                write!(text, " / {index} of {child} {rows:?} {bytes:?}:").expect(rt, "write");
                 let stream = partition.execute(alloc).expect(rt, "execute");
                 let told = drained(rt, alloc, stream, &mut source, 2);
                 text.push_str(told.as_str()).expect(rt, "push_str");

@@ -4,9 +4,9 @@ ghost use Rattle.scan_partition.specs.Partable.{IsScope};
 ghost use Rattle.scan_core.specs.BuilderData.{AreBoundaries, IsFilter, IsOver};
 
 use crate::words::{after, number};
-use scan_core::{Identity, RepeatedScan, ScanBuilder, SplitBy};
+use scan_core::{Identity, ScanBuilder, SplitBy};
 use scan_expr::{BoundExpression, ScanRequest};
-use scan_readers::{LayoutReader, Reader};
+use scan_readers::LayoutReader;
 use scan_sources::BoundScanRequest;
 use scan_values::{DType, Selection};
 use std::alloc::Global;
@@ -131,18 +131,4 @@ pub(crate) fn scan<'r, R: LayoutReader + Drop>(
     } = request;
     let builder = asked(builder, projection, filter);
     with(rt, builder, row_range, selection, ordered, limit, words)
-}
-
-/// The same, set up.
-pub(crate) fn prepared(
-    rt: &impl Abort,
-    alloc: Global,
-    reader: Reader<u8>,
-    request: ScanRequest,
-    words: &str,
-) -> RepeatedScan<Identity<u8>> {
-    let mut reader = reader;
-    scan(rt, alloc, &mut reader, request, words)
-        .prepare(alloc)
-        .expect(rt, "prepare")
 }

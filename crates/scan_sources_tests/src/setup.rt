@@ -2,52 +2,17 @@
 use crate::files::{Case, case};
 use crate::scans::scan;
 use crate::words::range;
-use scan_core::{Identity, RepeatedScan, SetupFault, referenced_field_masks};
+use scan_core::{SetupFault, referenced_field_masks};
+use scan_readers::LayoutReader;
 use scan_sources::BoundScanRequest;
 use scan_values::FieldMask;
 use std::alloc::Global;
-use std::ops::Range;
 use std::process::Abort;
 use std::string::String;
 
 /// Why a scan is not set up or executed.
 pub(crate) fn refused(rt: &impl Abort, alloc: Global, fault: SetupFault) -> String {
     format!(in alloc; " {fault};").expect(rt, "format")
-}
-
-/// What a builder tells of itself, and the scan that it sets up.
-pub(crate) fn itself(rt: &impl Abort, alloc: Global, text: &str) -> String {
-    let Case {
-        request,
-        reader,
-        ..
-    } = case(rt, alloc, text);
-    let mut reader = reader;
-    let mut told = String::new(alloc);
-    let builder = scan(rt, alloc, &mut reader, request, text);
-    let ordered = builder.ordered();
-    let at_once = builder.concurrency();
-    let dtype = builder.dtype();
-    write!(told, " {ordered} {at_once} {dtype};").expect(rt, "write");
-    push_scan(rt, &builder.prepare(alloc).expect(rt, "prepare"), &mut told);
-    told
-}
-
-fn push_scan(rt: &impl Abort, scan: &RepeatedScan<Identity<u8>>, told: &mut String) {
-    let dtype = scan.dtype();
-    let filtered = scan.has_filter();
-    write!(told, " {dtype} {filtered};").expect(rt, "write")
-}
-
-// Ranges with a blank before each: ` 0..2 2..3`.
-fn spelled(rt: &impl Abort, alloc: Global, ranges: &[Range<u64>]) -> String {
-    let mut told = String::new(alloc);
-    for range in ranges {
-        let start = range.start;
-        let end = range.end;
-        write!(told, " {start}..{end}").expect(rt, "write");
-    }
-    told
 }
 
 /// The ranges of the splits of a case, of all rows or of those that are asked, or why it is not set up.
@@ -63,13 +28,20 @@ pub(crate) fn ranges(rt: &impl Abort, alloc: Global, text: &str) -> String {
             let ranges = scan
                 .split_ranges(alloc, range(rt, text, "asked:"))
                 .expect(rt, "split_ranges");
-            spelled(rt, alloc, ranges.as_slice())
+            let mut told = String::new(alloc);
+            for range in ranges.as_slice() {
+                let start = range.start;
+                let end = range.end;
+                write!(told, " {start}..{end}").expect(rt, "write");
+            }
+            told
         }
         Err(fault) => refused(rt, alloc, fault),
     }
 }
 
-/// Where all rows of a reader are split, or why they are not.
+/// Whether a builder is ordered, how much is read at once, its dtype, and where all rows of its reader are split, or why
+/// they are not.
 pub(crate) fn whole(rt: &impl Abort, alloc: Global, text: &str) -> String {
     let Case {
         request,
@@ -79,7 +51,12 @@ pub(crate) fn whole(rt: &impl Abort, alloc: Global, text: &str) -> String {
     let mut reader = reader;
     let mut builder = scan(rt, alloc, &mut reader, request, text);
     match builder.full_file_splits(alloc) {
-        Ok(splits) => format!(in alloc; " {splits:?}").expect(rt, "format"),
+        Ok(splits) => {
+            let ordered = builder.ordered();
+            let at_once = builder.concurrency();
+            let dtype = builder.dtype();
+            format!(in alloc; " {ordered} {at_once} {dtype}; {splits:?}").expect(rt, "format")
+        }
         Err(fault) => refused(rt, alloc, fault),
     }
 }

@@ -12,14 +12,7 @@ use std::collections::BTreeMap;
 use std::process::Abort;
 use std::string::String;
 
-// What comes of a segment: its bytes, or that it is missing.
-fn arrival(rt: &impl Abort, segments: &BTreeMap<SegmentId, ByteBuffer>, id: SegmentId) -> Arrival {
-    match segments.get(&id) {
-        Some(bytes) => Arrival::Bytes(bytes.try_clone().expect(rt, "try_clone")),
-        None => Arrival::Missing,
-    }
-}
-
+/// Delivers what comes of segments: their bytes, or that one is missing.
 fn deliver(
     rt: &impl Abort,
     segments: &BTreeMap<SegmentId, ByteBuffer>,
@@ -30,9 +23,11 @@ fn deliver(
         if inbox.has(*id) {
             panic!(rt; "wanted again");
         }
-        inbox
-            .deliver(*id, arrival(rt, segments, *id))
-            .expect(rt, "deliver");
+        let arrival = match segments.get(id) {
+            Some(bytes) => Arrival::Bytes(bytes.try_clone().expect(rt, "try_clone")),
+            None => Arrival::Missing,
+        };
+        inbox.deliver(*id, arrival).expect(rt, "deliver");
     }
 }
 
@@ -107,8 +102,9 @@ pub(crate) fn built(rt: &impl Abort, alloc: Global, text: &str) -> String {
         ..
     } = case(rt, alloc, text);
     let mut reader = reader;
+    let segments = segments.into_map();
     let splits = scan(rt, alloc, &mut reader, request, text).build(alloc);
-    story(rt, alloc, &segments.into_map(), splits)
+    story(rt, alloc, &segments, splits)
 }
 
 /// What the splits of a scan that is set up tell, of all rows or of those that are asked.
@@ -119,6 +115,7 @@ pub(crate) fn executed(
     text: &str,
 ) -> String {
     let Case { segments, .. } = case(rt, alloc, text);
+    let segments = segments.into_map();
     let splits = scan.execute(alloc, range(rt, text, "asked:"));
-    story(rt, alloc, &segments.into_map(), splits)
+    story(rt, alloc, &segments, splits)
 }

@@ -78,26 +78,6 @@ pub(crate) fn drained<T: Made + Drop, F: Debug + Drop, M: MapStep<Out = T, Fault
     text
 }
 
-/// The same of polls for columns.
-#[tactic(auto, using(crate::proofs::Idle::idle_live))]
-fn drained_columns(
-    rt: &impl Abort,
-    alloc: Global,
-    stream: ScanStream<Identity<u8>>,
-    source: MemorySource,
-    count: u64,
-) -> String
-    requires fresh { (stream.feed).live ≡ [] }
-    requires idle { (source_state source).live ≡ none_live }
-{
-    let mut stream = stream;
-    let mut source = source;
-    let mut text = String::new(alloc);
-    columns(rt, alloc, &mut stream, &mut source, count, &mut text);
-    push_source(rt, &source, &mut text);
-    text
-}
-
 /// What a stream of a scan tells, of all rows or of those that are asked.
 pub(crate) fn streamed(
     rt: &impl Abort,
@@ -120,7 +100,8 @@ pub(crate) fn streamed(
     }
 }
 
-/// The same of polls for columns.
+/// The same of so many polls for columns.
+#[tactic(auto, using(crate::proofs::Idle::idle_live))]
 pub(crate) fn in_columns(
     rt: &impl Abort,
     alloc: Global,
@@ -132,9 +113,13 @@ pub(crate) fn in_columns(
         calls,
         ..
     } = case(rt, alloc, text);
-    let source = source(alloc, segments, calls);
-    let stream = scan
+    let mut source = source(alloc, segments, calls);
+    let mut stream = scan
         .execute_array_stream(alloc, None)
         .expect(rt, "execute_array_stream");
-    drained_columns(rt, alloc, stream, source, number(rt, text, "polls:", 7))
+    let mut told = String::new(alloc);
+    let count = number(rt, text, "polls:", 7);
+    columns(rt, alloc, &mut stream, &mut source, count, &mut told);
+    push_source(rt, &source, &mut told);
+    told
 }

@@ -25,7 +25,8 @@ impl Made for Array {
 
 impl Made for Column {
     fn push(&self, rt: &impl Abort, alloc: Global, text: &mut String) {
-        let array = self.to_array(alloc).expect(rt, "to_array");
+        let column = self.try_clone(alloc).expect(rt, "try_clone");
+        let array = column.to_array(alloc).expect(rt, "to_array");
         array.push(rt, alloc, text)
     }
 }

@@ -4,7 +4,6 @@ ghost use Rattle.scan_pool.specs.Seats.{IsIdle};
 
 use scan_pool::{Seat, Seated, Work, boxes, close_all, run_all, with_threads};
 use std::alloc::{AllocError, Global};
-use std::test::Fail;
 use std::thread::Threads;
 
 /// Numbers that are raised.
@@ -88,24 +87,22 @@ fn served<R: Threads + Sync>(
 }
 
 #[test]
-fn threads_do_all_phases(rt: HostRuntime) -> Result<(), Fail> {
+fn threads_do_all_phases(rt: HostRuntime) {
     for (threads, count) in [(1, 2), (3, 4), (3, 2), (2, 7), (3, 0)] {
-        let works = served(&rt, rt.alloc(), threads, count)?;
-        assert!(rt; works.len() == count);
+        let works = served(&rt, rt.alloc(), threads, count).expect(&rt, "served");
+        assert_eq!(rt; works.len(), count);
         assert!(rt; all_are(works.as_slice(), 100));
     }
-    Ok(())
 }
 
 /// Nobody takes out what is sent: it comes back as it was, and the caller does it.
 #[test]
-fn the_caller_does_what_no_thread_does(rt: HostRuntime) -> Result<(), Fail> {
+fn the_caller_does_what_no_thread_does(rt: HostRuntime) {
     let alloc = rt.alloc();
-    let mut works = pieces(alloc, 4)?;
-    let (mut seats, _servers) = boxes::<Raise>(alloc, 3)?;
-    phases_then_close(&mut seats, &mut works, 5)?;
+    let mut works = pieces(alloc, 4).expect(&rt, "pieces");
+    let (mut seats, _servers) = boxes::<Raise>(alloc, 3).expect(&rt, "boxes");
+    phases_then_close(&mut seats, &mut works, 5).expect(&rt, "phases_then_close");
     assert!(rt; all_are(works.as_slice(), 5));
-    phases_then_close(&mut seats, &mut works, 5)?;
+    phases_then_close(&mut seats, &mut works, 5).expect(&rt, "phases_then_close");
     assert!(rt; all_are(works.as_slice(), 10));
-    Ok(())
 }
