@@ -1,5 +1,0 @@
-//! Worked examples of rows of CSV and of lines of JSON.
-#![tactic(auto)]
-
-#[cfg(test)]
-mod rows;
