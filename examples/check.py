@@ -4,9 +4,10 @@
   check.py FILE..      says where each manifest leaves the form
   check.py --why FILE.. says that, and of one that keeps the form where its request does not type, a layout or
                        segment does not fit, or a sum overflows (why.py)
-  check.py             the examples of crates/siblaguur_examples/data against the schema and their statuses, and the schema
-                       against the tests of the manifest's reader (crates/scan_vectors/src/manifest.rt)
-  check.py --run       the same, and the program on each example: its status and its lines
+  check.py             the cases of crates/siblaguur_examples/data/runs.txt against the schema and their statuses, and the schema
+                       against the texts that the manifest's reader takes or refuses (texts.txt beside it)
+  check.py --case WORDS.. the manifest of the first case of runs.txt whose words begin so, with all names written out
+  check.py --run       the same as without a word, and the program on each case: its status and its lines
   check.py --variants  the program on some hundred manifests that are made wrong in one place:
                        it has status 2 exactly where the schema refuses, and the others' status is why.py's
                        where no order of polls decides it
@@ -14,12 +15,14 @@
 The last two build the program once by `rt try`, in about a minute. wrong.py tries --why on manifests that it makes wrong. Needs
 python3.8 alone.
 """
+import functools
 import json
 import re
 import subprocess
 import sys
 import tempfile
 from pathlib import Path
+from typing import NamedTuple
 
 from why import why_refused
 
@@ -51,12 +54,20 @@ def read(data):
         return int(text) if is_one else no_number(text, "it is -0, or past 64 bits")
 
     value = json.loads(data.decode("utf-8"), parse_int=whole, parse_float=no_number, parse_constant=no_number)
+    if nesting(value) > 127:
+        raise ValueError("more than 127 arrays and objects stand in one another")
     for part, place in walk(value) if found else ():
         if isinstance(part, NoNumber):
             raise ValueError(f"{place} is {part.text}: {part.why}")
     if found:  # under a key that stands again behind it
         raise ValueError(f"{found[0].text}: {found[0].why}")
     return value
+
+
+def nesting(value):
+    """How many arrays and objects stand in one another."""
+    parts = value.values() if isinstance(value, dict) else value if isinstance(value, list) else None
+    return 0 if parts is None else 1 + max(map(nesting, parts), default=0)
 
 
 # ---- a validator for the words that the schema uses: the first place that does not fit, or None
@@ -264,37 +275,69 @@ def is_sure(data):
     return '"ordered": false' not in text and '"fail"' not in text
 
 
-# ---- against what the tests of the manifest's reader say of it
+# ---- the cases and texts that the gate runs
 
-READER = HERE.parent / "crates" / "scan_vectors" / "src" / "manifest.rt"
-ONE = '{"dtype":%s,"files":[{"id":"A","layout":%s,"segments":[]}],"request":{"projection":%s}}'
-BOOL, ROOT, NO_LEAVES = '"bool"', '"$"', '{"leaf":[],"rows":0}'
+class Case(NamedTuple):
+    """What is wanted of a run on some words and an input, with one worker; `how` is of its lines."""
+    status: int
+    words: str
+    how: str
+    shows: str
+    given: str
+    lines: str
+
+
+def blocks(name):
+    """The blocks of a file of data/ that are not for a reader."""
+    return [block for block in (DATA / name).read_text().rstrip().split("\n\n") if not block.startswith("#")]
+
+
+def cases():
+    names, *rest = blocks("runs.txt")
+    for block in rest:
+        head, _, block = block.partition("\n")
+        status, words, how, shows = head.split("; ", 3)
+        for name, text in (line.split(" ", 1) for line in names.splitlines()):
+            block = block.replace(name, text)
+        given, _, lines = block.replace("<each>", "1").partition("\n")
+        yield Case(int(status), words, how, shows, given, lines and lines + "\n")
+
+
+def scans():
+    return [case for case in cases() if case.words == "scan"]
 
 
 def reader_rows():
     """Texts of whole manifests, and whether the reader takes each."""
-    for test in READER.read_text().split("#[test]")[1:]:
-        name = re.search(r"fn (\w+)_are_read", test).group(1)
-        for _, raw, plain, taken in re.findall(r'\(\s*(?:r(#+)"(.*?)"\1|"(.*?)"),\s*(true|false),?\s*\)', test, re.S):
-            text = raw or plain
-            whole = {
-                "dtypes": ONE % (text, NO_LEAVES, ROOT),
-                "layouts": ONE % (BOOL, text, ROOT),
-                "expressions": ONE % (BOOL, NO_LEAVES, text),
-            }
-            yield whole.get(name, text), taken == "true"
+    for block in blocks("texts.txt"):
+        head, *lines = block.splitlines()
+        kind, _, around = head.partition("; ")
+        for text, taken in (line.split(" -> ") for line in lines if kind == "manifest"):
+            text = re.sub(r"«(.*?)\*(\d+)»", lambda part: part[1] * int(part[2]), text)
+            yield around.replace("@", text, 1), taken == "yes"
 
 
 # ---- against jsonschema, where it is installed
 
-def agrees_with_jsonschema(data):
+@functools.lru_cache(None)
+def other_validator():
+    """That of jsonschema, where it is installed."""
     try:
         from jsonschema import Draft202012Validator
-        manifest = read(data)
-    except (ImportError, ValueError):
-        return True
+    except ImportError:
+        return None
     Draft202012Validator.check_schema(FORM)
-    return Draft202012Validator(FORM).is_valid(manifest) == (fault(FORM, manifest, FORM) is None)
+    return Draft202012Validator(FORM)
+
+
+def agrees_with_jsonschema(data):
+    try:
+        manifest = read(data)
+    except (ValueError, RecursionError):
+        return True
+    if other_validator() is None or nesting(manifest) > 20:  # it takes twice as long for each level of an expression
+        return True
+    return other_validator().is_valid(manifest) == (fault(FORM, manifest, FORM) is None)
 
 
 # ---- the program
@@ -330,12 +373,12 @@ def changed(value):
 
 
 def variants(most):
-    """Evenly many of all changes of each example that is a manifest."""
+    """Evenly many of all changes of each case that is a manifest."""
     found = {}
-    for path in manifests():
+    for case in scans():
         try:
-            base = read(path.read_bytes())
-        except ValueError:
+            base = read(case.given.encode())
+        except (ValueError, RecursionError):
             continue
         for manifest in changed(base):
             found.setdefault(json.dumps(manifest), None)
@@ -343,8 +386,29 @@ def variants(most):
     return [t.encode() for t in texts[::max(1, len(texts) // most)]]
 
 
-def manifests():
-    return sorted(p for p in (DATA / "cases").iterdir() if not p.suffix)
+def run_cases():
+    """What is bad of the program on each case whose lines have an order."""
+    with tempfile.TemporaryDirectory() as folder:
+        tried = {f"c{at}": case for at, case in enumerate(scans()) if not case.how}
+        for name, case in tried.items():
+            (Path(folder) / name).write_text(case.given)
+            (Path(folder) / f"{name}.stdout").write_text(case.lines)
+        statuses, right = run(folder)
+    bad = [] if right else ["the program wrote other lines"]
+    found = [(case, statuses.get(name)) for name, case in tried.items()]
+    return bad + [f"{case.shows}: wanted status {case.status}, found {status}" for case, status in found if status != case.status]
+
+
+def check_case(case):
+    """What the schema and why.py say of a case that is not so."""
+    data = case.given.encode()
+    why, told = judge(data), explain(data)
+    if (why is not None) != (case.status == 2):
+        yield f"{case.shows}: wanted status {case.status}, and the schema says: {why}"
+    if not agrees_with_jsonschema(data):
+        yield f"{case.shows}: jsonschema judges otherwise"
+    if not told.startswith(f"status {case.status}: "):
+        yield f"{case.shows}: wanted status {case.status}, and why.py says: {told}"
 
 
 def main(words):
@@ -357,27 +421,15 @@ def main(words):
         for word in words[is_why:]:
             print(f"{word}: {explain(Path(word).read_bytes()) if is_why else judge(Path(word).read_bytes()) or 'a manifest'}")
         return 0
-    lines = (DATA / "statuses.txt").read_text().splitlines()
-    wanted = {line.split()[0]: int(line.split()[1]) for line in lines if line and line[0] != "#"}
-    for path in manifests():
-        data, status = path.read_bytes(), wanted.get(path.name)
-        why = judge(data)
-        if status is None or (why is not None) != (status == 2):
-            bad.append(f"{path.name}: wanted status {status}, and the schema says: {why}")
-        if not agrees_with_jsonschema(data):
-            bad.append(f"{path.name}: jsonschema judges otherwise")
-        told = explain(data)
-        if status != 1 and not told.startswith(f"status {status}: "):
-            bad.append(f"{path.name}: wanted status {status}, and why.py says: {told}")
+    if words and words[0] == "--case":
+        print(next(case.given for case in cases() if case.shows.startswith(" ".join(words[1:]))))
+        return 0
+    tried = scans()
+    bad += [told for case in tried for told in check_case(case)]
     rows = list(reader_rows())
-    bad += [f"the reader's tests say {taken} of: {text}" for text, taken in rows if (judge(text.encode()) is None) != taken]
+    bad += [f"the reader says {taken} of: {text}" for text, taken in rows if (judge(text.encode()) is None) != taken]
     bad += [f"jsonschema judges otherwise: {text}" for text, _ in rows if not agrees_with_jsonschema(text.encode())]
-    if set(wanted) != {p.name for p in manifests()}:
-        bad.append("statuses.txt and cases/ name different examples")
-    if "--run" in words:
-        statuses, right = run(DATA / "cases")
-        bad += [] if right else ["the program wrote other lines"]
-        bad += [f"{n}: wanted status {wanted[n]}, found {statuses.get(n)}" for n in wanted if statuses.get(n) != wanted[n]]
+    bad += run_cases() if "--run" in words else []
     if "--variants" in words:
         with tempfile.TemporaryDirectory() as folder:
             texts = variants(400)
@@ -391,7 +443,7 @@ def main(words):
                 elif is_sure(text) and not explain(text).startswith(f"status {status}: "):
                     bad.append(f"status {status}, and why.py says: {explain(text)}: {text.decode()}")
             print(f"{len(texts)} variants, {sum(s == 2 for s in statuses.values())} of them refused by status 2")
-    print("\n".join(bad) or f"{len(wanted)} examples and {len(rows)} texts of the reader's tests agree")
+    print("\n".join(bad) or f"{len(tried)} cases and {len(rows)} texts of the reader agree")
     return 1 if bad else 0
 
 

@@ -9,7 +9,7 @@ import json
 
 RANGES = {f"{sign}{bits}": (0, 2**bits - 1) if sign == "u" else (-2**(bits - 1), 2**(bits - 1) - 1)
           for sign in "ui" for bits in (8, 16, 32, 64)}
-DEEPEST = 64
+DEEPEST, DEEPEST_EXPRESSION = 64, 100
 
 
 class Refused(Exception):
@@ -55,7 +55,7 @@ def check_once(names, place, is_scope):
 
 def check_scope(dtype, place, depth=1):
     kind, _, inner = dtype
-    if kind in ("list", "struct") and depth > DEEPEST:
+    if depth > DEEPEST:
         refuse(3, place, f"is deeper than {DEEPEST}")
     if kind == "list":
         check_scope(inner, f"{place}.list", depth + 1)
@@ -82,7 +82,8 @@ def literal_type(form, place):
     fits = {"bool": isinstance(value, bool), "utf8": isinstance(value, str)}.get(kind, False)
     if kind in RANGES and isinstance(value, int) and not isinstance(value, bool):
         fits = RANGES[kind][0] <= value <= RANGES[kind][1]
-    if not (nullable if value is None else fits):
+    is_scalar = kind in RANGES or kind in ("bool", "utf8")
+    if not (nullable and is_scalar if value is None else fits):
         refuse(3, f"{place}.lit", f"{json.dumps(value)} is no {said(dtype)}")
     return dtype
 
@@ -125,6 +126,17 @@ def two_type(op, first, second, place):
     return first[0] if is_sum else "bool", nullable, None
 
 
+def check_depth(form, place, depth=1):
+    """An expression is no deeper than it may be."""
+    if depth > DEEPEST_EXPRESSION:
+        refuse(3, place, f"is deeper than {DEEPEST_EXPRESSION}")
+    if isinstance(form, dict) and "lit" not in form:
+        op, args = operator(form)
+        parts = [part for _, part in args] if op == "pack" else args[1:] if op in ("get", "select", "exclude") else args
+        for part in parts if isinstance(parts, list) else [parts]:
+            check_depth(part, place, depth + 1)
+
+
 def operator(form):
     return next((key, value) for key, value in form.items() if key != "nullable")
 
@@ -153,9 +165,10 @@ def type_of(form, root, place):
 
 # ---- the values of a layout
 
-def flags_of(part, rows, spelling, what, place):
+def flags_of(part, rows, spelling, what, place, there=None):
+    """Truth values; in bytes, those of rows that are not there are ignored."""
     if spelling == 1:
-        if any(byte > 1 for byte in part):
+        if any(byte > 1 for byte, is_there in zip(part, there or [True] * rows) if is_there):
             refuse(4, place, f"has a {what} that is neither 00 nor 01")
         return [byte == 1 for byte in part]
     if part and rows % 8 and part[-1] >> rows % 8:
@@ -194,7 +207,7 @@ def segment_values(dtype, rows, spelling, data, place):
     if kind == "utf8":
         return texts_of(data, there, place)
     if kind == "bool":
-        values = flags_of(data, rows, spelling, "bool", place)
+        values = flags_of(data, rows, spelling, "bool", place, there)
     else:
         width = int(kind[1:]) // 8
         values = [int.from_bytes(data[k:k + width], "little", signed=kind[0] == "i") for k in range(0, len(data), width)]
@@ -257,6 +270,8 @@ class List:
         start, end = self.ends.read(row), self.ends.read(row + 1)
         if start > end or (row == 0 and start):
             refuse(4, self.place, f"its offsets {row} and {row + 1} are {start} and {end}: they start at 0 and none falls")
+        if end > self.elements_rows:
+            refuse(4, self.place, f"its offset {row + 1} is {end}, and there are {self.elements_rows} elements")
         return start, end
 
     def length(self, row):
@@ -265,8 +280,6 @@ class List:
 
     def read(self, row):
         start, end = self.span(row)
-        if end > self.elements_rows:
-            refuse(4, self.place, f"its offset {row + 1} is {end}, and there are {self.elements_rows} elements")
         return None if self.is_null(row) else [self.elements.read(at) for at in range(start, end)]
 
 
@@ -379,13 +392,23 @@ def value_of(form, cell, root, place):
     return value_of_two(op, lambda at: inner(args[at], f"[{at}]"), lambda: type_of(args[0], root, here)[0], here)
 
 
+def is_damaged(part):
+    """Whether a second side can't be read. One that overflows tells so, whatever the first side is."""
+    try:
+        read(part(1))
+    except Refused:
+        return True
+    return False
+
+
 def value_of_two(op, part, kind, place):
     if op == "mask":
         return part(0) if read(part(1)) else None
     first = read(part(0))
-    if op in ("and", "or"):
-        stops = op == "or"
-        return first if first is stops else both_of(op, first, read(part(1)))
+    if op == "and":
+        return first if first is False else both_of(op, first, read(part(1)))
+    if op == "or":
+        return both_of(op, first, True if first is True and is_damaged(part) else read(part(1)))
     second = read(part(1))
     if first is None or second is None:
         return None
@@ -403,8 +426,10 @@ def check_request(manifest):
     if "range" in request and request["range"][0] > request["range"][1]:
         refuse(3, "$.request.range", "starts after its end")
     check_scope(root, "$.dtype")
+    check_depth(request["projection"], "$.request.projection")
     type_of(request["projection"], root, "$.request.projection")
     if "filter" in request:
+        check_depth(request["filter"], "$.request.filter")
         dtype = type_of(request["filter"], root, "$.request.filter")
         if dtype[0] != "bool":
             refuse(3, "$.request.filter", f"is {said(dtype)}, and a filter is bool")
