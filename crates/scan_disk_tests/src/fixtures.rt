@@ -3,13 +3,12 @@ ghost use Rattle.std.specs.Prelude.{◌≡◌, IfOk};
 ghost use Rattle.scan_segments.specs.Source.{none_live};
 ghost use Rattle.scan_disk.specs.SourceView.{state_of};
 
-use scan_disk::{BytesAt, DiskFault, FileOpener, FileSource, MemoryFile};
-use scan_layout::{LayoutKind, LayoutNode};
+use scan_disk::{BytesAt, FileOpener, FileSource, MemoryFile};
 use scan_opener::{LayoutReaderFactory, Opening};
 use scan_segments::{ByteBuffer, Polled, SegmentId, SegmentSource};
-use scan_values::{DType, Nullability, PType};
 use sha2::{Digest, Sha256};
 use std::alloc::Global;
+use std::process::Abort;
 use std::test::Fail;
 
 /// What a file begins and ends with.
@@ -24,85 +23,81 @@ pub(crate) const FIRST: &str = "01000100000000000000";
 /// The second segment, in hex.
 pub(crate) const SECOND: &str = "01fdffffff";
 
-/// The SHA-256 of the first segment.
-pub(crate) const FIRST_DIGEST: &str =
-    "c79dfd1639cb01c6e9475beccd17d9e076ca80f62f4c5a505a1586cc7a3e9338";
+/// The footer of the whole file.
+pub(crate) const FOOTER: &str = r#"{<i32>,"segments":[[0,8,10,"<first>"],[1,18,5,"<second>"]]}"#;
 
-/// The SHA-256 of the second segment.
-pub(crate) const SECOND_DIGEST: &str =
-    "e9406fc075bc88ab770a2f00edbcbc8522888d56e2789d9ade1509353b0a6843";
+// Both segments and their SHA-256, what a footer says of their layout, and how it is shown.
+const NAMES: &str = r#"<1> 01000100000000000000
+<2> 01fdffffff
+<first> c79dfd1639cb01c6e9475beccd17d9e076ca80f62f4c5a505a1586cc7a3e9338
+<second> e9406fc075bc88ab770a2f00edbcbc8522888d56e2789d9ade1509353b0a6843
+<i32> "dtype":"i32?","layout":{"leaf":[[0,2],[1,1]],"rows":3}
+<leaf> leaf i32?, 3 rows, spelling 1, segments 0 (2), 1 (1)"#;
 
-/// What the footer says in front of its segments.
-pub(crate) const LAYOUT: &str = r#""dtype":"i32?","layout":{"leaf":[[0,2],[1,1]],"rows":3}"#;
+/// The two sides of a mark.
+pub(crate) fn sides<'a>(rt: &impl Abort, line: &'a str, mark: &str) -> (&'a str, &'a str) {
+    match line.split_once(mark) {
+        Some(sides) => sides,
+        None => panic!(rt; "half a line"),
+    }
+}
 
-/// A file that begins with this magic, of this body and footer, whose footer has this digest and this length.
+/// A text in which each name stands for its text.
+pub(crate) fn said(rt: &impl Abort, alloc: Global, text: &str) -> String {
+    let mut made = String::from_str(alloc, text).expect(rt, "from_str");
+    for line in NAMES.lines() {
+        let (name, meant) = sides(rt, line, " ");
+        made = made
+            .as_str()
+            .replace(alloc, name, meant)
+            .expect(rt, "replace");
+    }
+    made
+}
+
+/// A file that begins with this magic, of this body and footer, whose footer has the digest of another one and this length.
 pub(crate) fn file_of(
+    rt: &impl Abort,
     alloc: Global,
     magic: &[u8],
     body: &[u8],
     footer: &[u8],
-    digest: &[u8],
-    length: u64,
-) -> Result<Vec<u8>, Fail> {
-    let mut bytes = Vec::from_slice(alloc, magic)?;
-    bytes.extend_from_slice(body)?;
-    bytes.extend_from_slice(footer)?;
-    bytes.extend_from_slice(digest)?;
-    bytes.extend_from_slice(&length.to_le_bytes())?;
-    bytes.extend_from_slice(MAGIC)?;
-    Ok(bytes)
-}
-
-/// A file of this body and footer, with the digest of another one.
-pub(crate) fn file_sealed(
-    alloc: Global,
-    body: &[u8],
-    footer: &[u8],
     of: &[u8],
-) -> Result<Vec<u8>, Fail> {
+    length: u64,
+) -> Vec<u8> {
     let digest = Sha256::digest(of);
-    file_of(alloc, MAGIC, body, footer, &digest, footer.len() as u64)
+    let length = length.to_le_bytes();
+    let mut bytes = Vec::new(alloc);
+    for part in [
+        magic,
+        body,
+        footer,
+        digest.as_slice(),
+        length.as_slice(),
+        MAGIC,
+    ] {
+        bytes
+            .extend_from_slice(part)
+            .expect(rt, "extend_from_slice");
+    }
+    bytes
 }
 
 /// A file of this body and footer.
-pub(crate) fn file_with(alloc: Global, body: &[u8], footer: &[u8]) -> Result<Vec<u8>, Fail> {
-    file_sealed(alloc, body, footer, footer)
-}
-
-/// A footer that says these texts of its layout and of its segments.
-pub(crate) fn footer_saying(alloc: Global, layout: &str, segments: &str) -> Result<String, Fail> {
-    Ok(format!(in alloc; "{{{layout},\"segments\":[{segments}]}}")?)
-}
-
-/// A file of both segments, whose footer says these texts of its layout and of its segments.
-pub(crate) fn file_saying(alloc: Global, layout: &str, segments: &str) -> Result<Vec<u8>, Fail> {
-    let footer = footer_saying(alloc, layout, segments)?;
-    file_with(alloc, SEGMENTS, footer.as_bytes())
-}
-
-/// The footer of the whole file.
-pub(crate) fn whole_footer(alloc: Global) -> Result<String, Fail> {
-    let segments = format!(in alloc; "[0,8,10,\"{FIRST_DIGEST}\"],[1,18,5,\"{SECOND_DIGEST}\"]")?;
-    footer_saying(alloc, LAYOUT, segments.as_str())
+pub(crate) fn file_with(rt: &impl Abort, alloc: Global, body: &[u8], footer: &[u8]) -> Vec<u8> {
+    file_of(rt, alloc, MAGIC, body, footer, footer, footer.len() as u64)
 }
 
 /// The whole file.
-pub(crate) fn whole(alloc: Global) -> Result<Vec<u8>, Fail> {
-    let footer = whole_footer(alloc)?;
-    file_with(alloc, SEGMENTS, footer.as_bytes())
+pub(crate) fn whole(rt: &impl Abort, alloc: Global) -> Vec<u8> {
+    let footer = said(rt, alloc, FOOTER);
+    file_with(rt, alloc, SEGMENTS, footer.as_bytes())
 }
 
 /// A file in memory.
-pub(crate) fn memory(alloc: Global, bytes: &[u8]) -> Result<MemoryFile, Fail> {
-    let bytes = ByteBuffer::new(alloc, Vec::from_slice(alloc, bytes)?)?;
-    Ok(MemoryFile::new(bytes))
-}
-
-fn named(alloc: Global, fault: Option<DiskFault>) -> Result<String, Fail> {
-    match fault {
-        Some(fault) => Ok(format!(in alloc; "{fault:?}")?),
-        None => Ok(String::from_str(alloc, "no cause")?),
-    }
+pub(crate) fn memory(rt: &impl Abort, alloc: Global, bytes: &[u8]) -> MemoryFile {
+    let bytes = Vec::from_slice(alloc, bytes).expect(rt, "from_slice");
+    MemoryFile::new(ByteBuffer::new(alloc, bytes).expect(rt, "new"))
 }
 
 /// The cause of a segment that is missing.
@@ -112,14 +107,8 @@ fn refusal<F: BytesAt>(
     id: SegmentId,
 ) -> Result<String, Fail> {
     match source.refused() {
-        Some((of, fault)) => {
-            if of == id {
-                named(alloc, Some(fault))
-            } else {
-                named(alloc, None)
-            }
-        }
-        None => named(alloc, None),
+        Some((of, fault)) if of == id => Ok(format!(in alloc; "{fault:?}")?),
+        _ => Ok(String::from_str(alloc, "no cause")?),
     }
 }
 
@@ -143,51 +132,72 @@ pub(crate) fn segment_of<F: BytesAt>(
     }
 }
 
-/// What a file gives for a segment.
-pub(crate) fn segment_in<F: BytesAt + Drop>(
+/// Appends what a source gives for segments, one after the other.
+pub(crate) fn push_segments<F: BytesAt>(
+    rt: &impl Abort,
     alloc: Global,
-    file: F,
-    checks: bool,
-    id: u32,
-) -> Result<String, Fail> {
-    let mut source = FileSource::new(alloc, file, checks);
-    segment_of(alloc, &mut source, id)
-}
-
-/// What a file in memory gives for a segment.
-pub(crate) fn segment(alloc: Global, bytes: &[u8], checks: bool, id: u32) -> Result<String, Fail> {
-    segment_in(alloc, memory(alloc, bytes)?, checks, id)
-}
-
-fn leaf_text(alloc: Global, layout: &LayoutNode) -> Result<String, Fail> {
-    let is_int = *layout.dtype() == DType::primitive(PType::I32, Nullability::Nullable);
-    let mut text = format!(in alloc; "i32? {is_int}, {} rows", layout.row_count)?;
-    if let LayoutKind::Leaf(segments, spelling) = &layout.kind {
-        text.push_str(format!(in alloc; ", {spelling:?}")?.as_str())?;
-        for (id, rows) in segments.as_slice() {
-            let number = **id;
-            text.push_str(format!(in alloc; ", {rows} in {number}")?.as_str())?;
+    source: &mut FileSource<F>,
+    ids: &[u32],
+    text: &mut String,
+)
+    requires { (state_of F.bytes F.can_fail source.old).live ≡ none_live }
+{
+    for id in ids {
+        match segment_of(alloc, source, *id) {
+            Ok(segment) => {
+                text.push_str(" ").expect(rt, "push_str");
+                text.push_str(segment.as_str()).expect(rt, "push_str");
+            }
+            Err(_) => panic!(rt; "no answer"),
         }
     }
-    Ok(text)
 }
 
-/// What an opener answers: the leaf of i32 that it gives, or the name of the refusal.
-pub(crate) fn open_with<F: BytesAt>(
+/// What an opener answers, its layout or the name of the refusal.
+pub(crate) fn opened<F: BytesAt>(
+    rt: &impl Abort,
     alloc: Global,
     opener: &mut FileOpener<F>,
-) -> Result<String, Fail> {
+) -> String {
     match opener.poll_open(alloc) {
-        Opening::Opened(layout) => leaf_text(alloc, &layout),
-        Opening::Failed => named(alloc, opener.refused()),
-        Opening::Pending => Err(Fail::from("pending")),
-        Opening::Skipped => Err(Fail::from("skipped")),
-        Opening::NoMemory => Err(Fail::from("no memory")),
+        Opening::Opened(layout) => layout.to_string(alloc).expect(rt, "to_string"),
+        Opening::Failed => match opener.refused() {
+            Some(fault) => format!(in alloc; "{fault:?}").expect(rt, "format"),
+            None => panic!(rt; "no cause"),
+        },
+        Opening::Pending => panic!(rt; "pending"),
+        Opening::Skipped => panic!(rt; "skipped"),
+        Opening::NoMemory => panic!(rt; "no memory"),
     }
 }
 
-/// What an opener of a file in memory answers.
-pub(crate) fn open(alloc: Global, bytes: &[u8]) -> Result<String, Fail> {
-    let mut opener = FileOpener::new(memory(alloc, bytes)?);
-    open_with(alloc, &mut opener)
+/// What an opener of a file answers, and what a source of it gives for segments: `Magic | Magic Magic`.
+pub(crate) fn told<F: BytesAt + Drop>(
+    rt: &impl Abort,
+    alloc: Global,
+    for_opener: F,
+    for_source: F,
+    checks: bool,
+    ids: &[u32],
+) -> String {
+    let mut opener = FileOpener::new(for_opener);
+    let mut text = opened(rt, alloc, &mut opener);
+    text.push_str(" |").expect(rt, "push_str");
+    let mut source = FileSource::new(alloc, for_source, checks);
+    push_segments(rt, alloc, &mut source, ids, &mut text);
+    text
+}
+
+/// Whether that is told of a file in memory.
+pub(crate) fn tells(
+    rt: &impl Abort,
+    alloc: Global,
+    bytes: &[u8],
+    checks: bool,
+    ids: &[u32],
+    wanted: &str,
+) -> bool {
+    let (one, other) = (memory(rt, alloc, bytes), memory(rt, alloc, bytes));
+    let told = told(rt, alloc, one, other, checks, ids);
+    told.as_str() == said(rt, alloc, wanted).as_str()
 }

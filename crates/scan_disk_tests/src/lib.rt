@@ -14,5 +14,3 @@ mod refusals;
 mod system;
 #[cfg(test)]
 mod writing;
-#[cfg(test)]
-mod written;

@@ -1,64 +1,41 @@
 //! What is not written, and files of the system.
-use crate::written::{array, list, write_to, written};
-use scan_disk_writer::{BytesOut, MemoryOut, NewFile, OutFault, WriteFault, write_file};
+use crate::writing::rows;
+use scan_disk_writer::{
+    BytesOut, MemoryOut, NewFile, OutFault, WriteFault, file_of, write_file, write_rows,
+};
 use scan_encode::{Segments, WriteOptions, encode_rows};
 use scan_layout::{LayoutFault, LayoutKind, LayoutNode};
 use scan_spelling::Spelling;
-use scan_values::{Array, DType, Value};
+use scan_values::{Array, DType, Nullability};
 use std::alloc::Global;
 use std::fs::{self, File};
-use std::process;
+use std::process::{self, Abort};
 use std::test::Fail;
 
-/// Three bytes.
-fn bytes(alloc: Global) -> Result<Array, Fail> {
-    let mut rows = Vec::new(alloc);
-    for n in 1..4u8 {
-        rows.push(Value::Int(n as i128))?;
-    }
-    array(DType::u8(), rows)
-}
+const TWO_ROWS: WriteOptions = WriteOptions {
+    segment_rows: 2,
+    spelling: Spelling::One,
+};
 
-/// No rows of so many lists in one another.
-fn nested(alloc: Global, lists: usize) -> Result<Array, Fail> {
+/// Why no rows of so many lists in one another are not written.
+fn nested_fault(rt: &impl Abort, alloc: Global, lists: usize) -> Option<WriteFault> {
     let mut dtype = DType::u8();
     for _ in 0..lists {
-        dtype = list(alloc, dtype)?;
+        dtype = DType::list(alloc, dtype, Nullability::NonNullable).expect(rt, "list");
     }
-    array(dtype, Vec::new(alloc))
-}
-
-/// Why rows are not written.
-fn fault_of(alloc: Global, rows: &Array) -> Option<WriteFault> {
-    written(alloc, rows, 2, Spelling::One).err()
-}
-
-#[test]
-fn a_dtype_that_is_too_deep_is_refused(rt: HostRuntime) -> Result<(), Fail> {
-    let alloc = rt.alloc();
-    assert_eq!(rt; fault_of(alloc, &nested(alloc, 41)?), None);
-    assert_eq!(rt;
-        fault_of(alloc, &nested(alloc, 42)?),
-        Some(WriteFault::Depth)
-    );
-    Ok(())
+    let rows = Array::try_new(dtype, Vec::new(alloc)).expect(rt, "try_new");
+    file_of(alloc, &rows, &TWO_ROWS).err()
 }
 
 /// Why a struct without fields is not written of which a leaf is the layout.
-fn unserved(alloc: Global) -> Result<Option<WriteFault>, Fail> {
+fn unserved(rt: &impl Abort, alloc: Global) -> Option<WriteFault> {
     let kind = LayoutKind::Struct;
-    let layout = LayoutNode::from_parts(alloc, DType::u8(), 0, kind, Vec::new(alloc))?;
-    let mut out = MemoryOut::new(alloc);
-    Ok(write_file(alloc, &mut out, &layout, &Segments::new(alloc)).err())
-}
-
-#[test]
-fn a_layout_that_is_not_well_formed_is_refused(rt: HostRuntime) -> Result<(), Fail> {
-    assert_eq!(rt;
-        unserved(rt.alloc())?,
-        Some(WriteFault::Layout(LayoutFault::ChildDType))
+    let layout = LayoutNode::from_parts(alloc, DType::u8(), 0, kind, Vec::new(alloc)).expect(
+        rt,
+        "from_parts",
     );
-    Ok(())
+    let mut out = MemoryOut::new(alloc);
+    write_file(alloc, &mut out, &layout, &Segments::new(alloc)).err()
 }
 
 /// What takes bytes so often, and then fails.
@@ -84,46 +61,41 @@ impl BytesOut for Failing {
 }
 
 #[test]
-fn a_write_that_fails_is_told(rt: HostRuntime) -> Result<(), Fail> {
+fn what_is_too_deep_not_well_formed_or_fails_is_told(rt: HostRuntime) {
     let alloc = rt.alloc();
-    let rows = bytes(alloc)?;
-    for left in 0..7 {
+    assert_eq!(rt; nested_fault(&rt, alloc, 41), None);
+    assert_eq!(rt; nested_fault(&rt, alloc, 42), Some(WriteFault::Depth));
+    let wanted = WriteFault::Layout(LayoutFault::ChildDType);
+    assert_eq!(rt; unserved(&rt, alloc), Some(wanted));
+    let bytes = rows(&rt, alloc, "\"u8\"", "[1,2,3]");
+    for left in 0..8 {
         let mut out = Failing { left };
+        let wanted = if left < 7 {
+            Err(WriteFault::Failed)
+        } else {
+            Ok(())
+        };
         assert_eq!(rt;
-            write_to(alloc, &mut out, &rows, 2, Spelling::One),
-            Err(WriteFault::Failed),
+            write_rows(alloc, &mut out, &bytes, &TWO_ROWS),
+            wanted,
             "after {left}"
         );
     }
-    let mut out = Failing { left: 7 };
-    assert_eq!(rt; write_to(alloc, &mut out, &rows, 2, Spelling::One), Ok(()));
-    Ok(())
-}
-
-#[test]
-fn segments_have_numbers_from_nought_on(rt: HostRuntime) -> Result<(), Fail> {
-    let alloc = rt.alloc();
+    // segments have numbers from nought on
     let mut segments = Segments::new(alloc);
-    let options = WriteOptions {
-        segment_rows: 2,
-        spelling: Spelling::One,
-    };
     for (size, last) in [(2, [3u8]), (4, [3u8])] {
-        encode_rows(alloc, &bytes(alloc)?, &options, &mut segments).map_err(|_| Fail::from(
-            "not encoded",
-        ))?;
+        assert!(rt; encode_rows(alloc, &bytes, &TWO_ROWS, &mut segments).is_ok());
         let found = segments.as_slice();
         assert_eq!(rt; found.len(), size);
         assert_eq!(rt; found[size - 1].as_slice(), last.as_slice());
     }
-    Ok(())
 }
 
 /// Begins a file of the system, writes rows to it, and moves it to its name.
 fn write_new(rt: &HostRuntime, path: &str, rows: &Array) -> Result<bool, WriteFault> {
     let alloc = rt.alloc();
     let mut out = NewFile::create(alloc, rt, path)?;
-    write_to(alloc, &mut out, rows, 2, Spelling::One)?;
+    write_rows(alloc, &mut out, rows, &TWO_ROWS)?;
     let was_there = File::open(rt, path).is_ok();
     out.move_there(rt)?;
     Ok(was_there)
@@ -144,7 +116,7 @@ fn a_file_stands_under_its_name_only_when_it_is_whole(rt: HostRuntime) -> Result
     let id = process::id(rt.process());
     let path = format!(in alloc; "/tmp/scan_disk_write_{id}")?;
     let part = format!(in alloc; "{path}.part")?;
-    let rows = bytes(alloc)?;
+    let rows = rows(&rt, alloc, "\"u8\"", "[1,2,3]");
     assert_eq!(rt; begin_new(&rt, path.as_str()), Ok(()));
     assert!(rt; File::open(&rt, path.as_str()).is_err());
     assert!(rt; File::open(&rt, part.as_str()).is_err());
@@ -152,7 +124,7 @@ fn a_file_stands_under_its_name_only_when_it_is_whole(rt: HostRuntime) -> Result
     assert!(rt; File::open(&rt, part.as_str()).is_err());
     let found = fs::read(&rt, path.as_str())?;
     fs::remove_file(&rt, path.as_str())?;
-    let Ok(wanted) = written(alloc, &rows, 2, Spelling::One) else {
+    let Ok(wanted) = file_of(alloc, &rows, &TWO_ROWS) else {
         return Err(Fail::from("not written"));
     };
     assert_eq!(rt; found.as_slice(), wanted.as_slice());

@@ -1,51 +1,37 @@
 //! Files of the system, and files that change or fail while they are read.
-use crate::fixtures::{FIRST, SECOND, memory, open_with, segment_in, whole};
-use scan_disk::{BytesAt, FileOpener, MemoryFile, ReadFault};
+use crate::fixtures::{memory, opened, push_segments, said, sides, told, whole};
+use scan_disk::{BytesAt, FileOpener, FileSource, MemoryFile, ReadFault};
 use std::alloc::Global;
 use std::cell::Cell;
-use std::fs::{self, File};
-use std::process;
+use std::fs::{self, File, Files};
+use std::process::{self, Abort};
 use std::rc::Rc;
 use std::test::Fail;
 
 /// Writes the whole file, and reads it by its name.
-fn on_disk(rt: &HostRuntime, path: &str) -> Result<String, Fail> {
-    let alloc = rt.alloc();
-    fs::write(rt, path, whole(alloc)?.as_slice())?;
+fn on_disk(rt: &(impl Files + Abort), alloc: Global, path: &str) -> Result<String, Fail> {
+    fs::write(rt, path, whole(rt, alloc).as_slice())?;
     let file = Rc::new(alloc, File::open(rt, path)?)?;
-    let mut opener = FileOpener::new(Rc::clone(&file)?);
-    let layout = open_with(alloc, &mut opener)?;
-    let first = segment_in(alloc, Rc::clone(&file)?, true, 0)?;
-    let second = segment_in(alloc, file, false, 1)?;
-    Ok(format!(in alloc; "{layout}: {first} {second}")?)
+    Ok(told(rt, alloc, Rc::clone(&file)?, file, true, &[0, 1]))
 }
 
 #[test]
-fn a_file_of_the_system_is_read_as_one_in_memory(rt: HostRuntime) -> Result<(), Fail> {
+fn files_of_the_system_are_read_and_directories_are_refused(rt: HostRuntime) -> Result<(), Fail> {
     let alloc = rt.alloc();
     let id = process::id(rt.process());
     let path = format!(in alloc; "/tmp/scan_disk_{id}")?;
-    let found = on_disk(&rt, path.as_str())?;
+    let found = on_disk(&rt, alloc, path.as_str())?;
     fs::remove_file(&rt, path.as_str())?;
-    let wanted = format!(in alloc; "i32? true, 3 rows, One, 2 in 0, 1 in 1: {FIRST} {SECOND}")?;
-    assert_eq!(rt; found.as_str(), wanted.as_str());
-    Ok(())
-}
-
-#[test]
-fn a_missing_file_is_not_opened_and_a_directory_is_refused(rt: HostRuntime) -> Result<(), Fail> {
-    let alloc = rt.alloc();
+    assert_eq!(rt;
+        found.as_str(),
+        said(&rt, alloc, "<leaf> | <1> <2>").as_str()
+    );
     assert!(rt; File::open(&rt, "/tmp/scan_disk/none").is_err());
-    let mut opener = FileOpener::new(File::open(&rt, "/")?);
-    let found = open_with(alloc, &mut opener)?;
+    let (one, other) = (File::open(&rt, "/")?, File::open(&rt, "/")?);
+    let found = told(&rt, alloc, one, other, false, &[0]);
     // a directory has a size of its own on each system of files
     assert!(rt;
-        found.as_str() == "Failed" || found.as_str() == "Short",
-        "{found}"
-    );
-    let found = segment_in(alloc, File::open(&rt, "/")?, false, 0)?;
-    assert!(rt;
-        found.as_str() == "failed 1" || found.as_str() == "Short",
+        found.as_str() == "Failed | failed 1" || found.as_str() == "Short | Short",
         "{found}"
     );
     Ok(())
@@ -92,69 +78,55 @@ impl BytesAt for Turning {
     }
 }
 
-/// The whole file, of which the first bytes are left after so many calls.
-fn shrinking(alloc: Global, calls: u64, left: usize) -> Result<Turning, Fail> {
-    let bytes = whole(alloc)?;
-    let Some(part) = bytes.as_slice().get(..left) else {
-        return Err(Fail::from("longer"));
+/// The whole file, of which the first bytes are left after so many calls, or which fails then.
+fn turning(rt: &impl Abort, alloc: Global, calls: u64, left: &str) -> Turning {
+    let bytes = whole(rt, alloc);
+    let after = match left.parse::<usize>() {
+        Ok(left) => bytes.as_slice().get(..left),
+        Err(_) => None,
     };
-    Ok(Turning {
-        before: memory(alloc, bytes.as_slice())?,
-        after: Some(memory(alloc, part)?),
+    Turning {
+        before: memory(rt, alloc, bytes.as_slice()),
+        after: match after {
+            Some(part) => Some(memory(rt, alloc, part)),
+            None => None,
+        },
         left: Cell::new(calls),
-    })
+    }
 }
 
-/// The whole file, which fails after so many calls.
-fn failing(alloc: Global, calls: u64) -> Result<Turning, Fail> {
-    Ok(Turning {
-        before: memory(alloc, whole(alloc)?.as_slice())?,
-        after: None,
-        left: Cell::new(calls),
-    })
-}
-
-/// What an opener of a file answers, and how often it failed.
-fn open_counted(alloc: Global, file: Turning) -> Result<String, Fail> {
-    let mut opener = FileOpener::new(file);
-    let answer = open_with(alloc, &mut opener)?;
-    Ok(format!(in alloc; "{answer}, {} of {}", opener.faults(), opener.polled())?)
+/// Whether a line `CALLS LEFT -> OPENED, FAULTS of POLLS | FIRST` holds.
+fn holds(rt: &impl Abort, alloc: Global, line: &str) -> bool {
+    let (turns, wanted) = sides(rt, line, " -> ");
+    let (calls, left) = sides(rt, turns, " ");
+    let calls = calls.parse::<u64>().expect(rt, "parse");
+    let mut opener = FileOpener::new(turning(rt, alloc, calls, left));
+    let mut source = FileSource::new(alloc, turning(rt, alloc, calls, left), true);
+    let answer = opened(rt, alloc, &mut opener);
+    let (faults, polls) = (opener.faults(), opener.polled());
+    let mut text = format!(in alloc; "{answer}, {faults} of {polls} |").expect(rt, "format");
+    push_segments(rt, alloc, &mut source, &[0], &mut text);
+    text.as_str() == said(rt, alloc, wanted).as_str()
 }
 
 #[test]
-fn a_file_that_shrinks_while_it_is_read_is_refused(rt: HostRuntime) -> Result<(), Fail> {
-    let alloc = rt.alloc();
-    for (calls, opened, read) in [
-        (0, "Short, 1 of 1", "Short"),
-        (1, "Short, 1 of 1", "Short"),
-        (2, "Short, 1 of 1", "Short"),
-        (3, "Short, 1 of 1", "Short"),
-        (4, "Place, 1 of 1", "Place"),
-        (5, "i32? true, 3 rows, One, 2 in 0, 1 in 1, 0 of 1", "Place"),
-        (6, "i32? true, 3 rows, One, 2 in 0, 1 in 1, 0 of 1", FIRST),
-    ] {
-        let found = open_counted(alloc, shrinking(alloc, calls, 17)?)?;
-        assert_eq!(rt; found.as_str(), opened, "{calls} calls");
-        let found = segment_in(alloc, shrinking(alloc, calls, 17)?, true, 0)?;
-        assert_eq!(rt; found.as_str(), read, "{calls} calls");
+fn a_file_that_shrinks_is_refused_and_a_read_that_fails_is_counted(rt: HostRuntime) {
+    for line in TURNS.lines() {
+        assert!(rt; holds(&rt, rt.alloc(), line), "at {line}");
     }
-    Ok(())
 }
 
-#[test]
-fn a_read_that_fails_is_counted(rt: HostRuntime) -> Result<(), Fail> {
-    let alloc = rt.alloc();
-    for calls in 0..7 {
-        let opened = if calls < 5 {
-            "Failed, 1 of 1"
-        } else {
-            "i32? true, 3 rows, One, 2 in 0, 1 in 1, 0 of 1"
-        };
-        let found = open_counted(alloc, failing(alloc, calls)?)?;
-        assert_eq!(rt; found.as_str(), opened, "{calls} calls");
-        let read = if calls < 6 { "failed 1" } else { FIRST };
-        let found = segment_in(alloc, failing(alloc, calls)?, true, 0)?;
-        assert_eq!(rt; found.as_str(), read, "{calls} calls");
-    }
-    Ok(())
-}
+const TURNS: &str = "0 17 -> Short, 1 of 1 | Short
+1 17 -> Short, 1 of 1 | Short
+2 17 -> Short, 1 of 1 | Short
+3 17 -> Short, 1 of 1 | Short
+4 17 -> Place, 1 of 1 | Place
+5 17 -> <leaf>, 0 of 1 | Place
+6 17 -> <leaf>, 0 of 1 | <1>
+0 fails -> Failed, 1 of 1 | failed 1
+1 fails -> Failed, 1 of 1 | failed 1
+2 fails -> Failed, 1 of 1 | failed 1
+3 fails -> Failed, 1 of 1 | failed 1
+4 fails -> Failed, 1 of 1 | failed 1
+5 fails -> <leaf>, 0 of 1 | failed 1
+6 fails -> <leaf>, 0 of 1 | <1>";
