@@ -1,5 +1,5 @@
 -- The parts of a request cover its range, and together give what it asks for.
-use Rattle.std.proofs.Common.{◌≡◌, ◌≤◌, ◌<◌, ◌||◌, ◌==◌, not, ℕ, Bool, true, false, if◌then◌else◌, nat_lt, List, map, filter, Option, Some, None, Ok, refl, ap, sym, subst, ◌∙◌, arith, IsPermutation}
+use Rattle.std.proofs.Common.{◌≡◌, ◌≤◌, ◌||◌, ◌==◌, not, ℕ, Bool, true, false, if◌then◌else◌, nat_lt, List, map, filter, Option, Some, None, refl, ap, sym, subst, ◌∙◌, arith}
 use Rattle.std.specs.Prelude.{IfSome, min, max, option_map, ◌&&◌, is_some}
 use Rattle.std.proofs.lemmas.Bool.Decides.{nat_tests}
 use Rattle.std.proofs.lemmas.List.Sorted.{IsPermutation-map}
@@ -38,7 +38,7 @@ use Rattle.vortex_scan.specs.Sources.Empties.{EmptyData, empty_data}
 use Rattle.vortex_scan.specs.Sources.Faults as fault
 use Rattle.vortex_scan.specs.Sources.Parts.{PartsCoverTheScan, PartsGiveTheScan}
 use Rattle.vortex_scan.specs.Sources.Plain.{Plain}
-use Rattle.vortex_scan.specs.Sources.Requests.{asked_count, bound_request, builder_of, request_dtype, shared_limit}
+use Rattle.vortex_scan.specs.Sources.Requests.{asked_count, bound_request, builder_of, request_dtype}
 use Rattle.vortex_scan.specs.Sources.Scans.{PartsGiveTheirRows, ReaderScan, StartsScan, is_used, source_refusal}
 use Rattle.vortex_scan.specs.Sources.declared.fault.SourceFault.{SourceFault}
 use Rattle.vortex_scan.specs.Sources.declared.fault.SourceFault.TheVariants as fault_is

@@ -15,7 +15,7 @@ use Rattle.vortex_scan.specs.Streams.Grants.{HasRoom}
 use Rattle.vortex_scan.specs.Streams.Iters.{IterData}
 use Rattle.vortex_scan.specs.Streams.Splits.{reach}
 use Rattle.vortex_scan.specs.Streams.Streams.{LiveAs, StreamData}
-use Rattle.vortex_scan.specs.Core.BuilderData.{BuilderData, IsBuilder, IsFilter, IsOver, conjuncts_in}
+use Rattle.vortex_scan.specs.Core.BuilderData.{BuilderData, IsFilter, IsOver, conjuncts_in}
 use Rattle.vortex_scan.specs.Core.Given.{SplitsGiveWhatIsAsked, asked_values, passes, values_of}
 use Rattle.vortex_scan.specs.Core.LazyData.{IsIterOf}
 use Rattle.vortex_scan.specs.Core.Prepared.{IsPrepared}
@@ -25,7 +25,7 @@ use Rattle.vortex_scan.specs.Core.Settings.{builder_by}
 use Rattle.vortex_scan.specs.Core.Setup.{setup_fault}
 use Rattle.vortex_scan.specs.Core.Streaming.{IsStreamOf}
 use Rattle.vortex_scan.specs.Core.declared.settings.ScanSettings.{ScanSettings}
-use Rattle.vortex_scan.specs.Collect.Laws.{GivesRows, ReadsGiveTheFirstRows}
+use Rattle.vortex_scan.specs.Collect.Laws.{ReadsGiveTheFirstRows}
 use Rattle.vortex_scan.specs.Collect.Reads.{IsFresh, IsReadOf, values_given}
 use Rattle.vortex_scan.specs.Collect.Rows.{GivesFirst}
 use Rattle.vortex_scan.specs.Values.Arrays.{ArrayData}

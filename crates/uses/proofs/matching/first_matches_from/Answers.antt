@@ -1,4 +1,3 @@
-use Rattle.std.proofs.Common.{None}
 use Rattle.uses.proofs.Matched.{iter_read}
 use Rattle.uses.proofs.matching.first_matches_from.Goals as goal
 
