@@ -148,6 +148,7 @@ module _ {O S : Type 0} (opener : O → OpenerState) (source : S → SourceState
         chunks = [];
         took = nothing;
         shape = All-nil IsShaped;
+        nothing = λ z. refl;
         front = λ l. record {
           most = 0;
           within = least q.limit;
@@ -160,6 +161,7 @@ module _ {O S : Type 0} (opener : O → OpenerState) (source : S → SourceState
       pub ends_none : (Full : Type 0) → first_request_fault workers d q ≡ None → q.limit ≡ Some 0 → EndsScan opener source takes workers d q files files c c Full sink sink (record { flow = flow.More; report = no_counts })
       ends_none Full none zero-rows = record {
         types = none;
+        nothing = λ z. refl;
         stop = λ e. cc;
         whole = λ e. record { chunks = []; took = nothing; scan = scan_of_none none zero-rows };
       }

@@ -140,7 +140,7 @@ module _ {O S : Type 0} (opener : O → OpenerState) (source : S → SourceState
 
   module _ {K : Type 0} (takes : K → List ChunkData → K → Type 0) (sink sink' : K) where
     pub front_taken : Hands chunk_of IsEven takes sink sink' (DriveTakes (asked_state opener a) source row_items q.limit q.ordered old c) → TakesFront opener source takes d q old c sink sink'
-    front_taken h = record { chunks = map chunk_of h.chunks; took = h.took; shape = shaped_chunks h.chunks h.so.rows h.fitting; front = front_of h.chunks h.so h.fitting }
+    front_taken h = record { chunks = map chunk_of h.chunks; took = h.took; shape = shaped_chunks h.chunks h.so.rows h.fitting; nothing = λ z. absurd (no-zero z); front = front_of h.chunks h.so h.fitting }
 
     -- a sink has taken all that a drive gives, with this report
     abbrev TakesDrive : ScanReport → Type 0
@@ -154,6 +154,7 @@ module _ {O S : Type 0} (opener : O → OpenerState) (source : S → SourceState
     pub scan_ended : (Full : Type 0) (end : DriveEnd) → EndsBy end.flow Full (TakesDrive end.report) → EndsScan opener source takes workers d q old new c c' Full sink sink' end
     scan_ended Full end h = record {
       types = none;
+      nothing = λ z. absurd (no-zero z);
       stop = λ e. subst (λ f. EndsBy f Full (TakesDrive end.report)) e h;
       whole = λ e. all_taken end.report (subst (λ f. EndsBy f Full (TakesDrive end.report)) e h);
     }

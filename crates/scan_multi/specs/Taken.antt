@@ -1,5 +1,5 @@
 -- What a sink has taken of a scan: all that the scan gives, or a front of it.
-use Rattle.std.specs.Prelude.{◌≡◌, ℕ, List, None, Some, All}
+use Rattle.std.specs.Prelude.{◌≡◌, ℕ, List, [], None, Some, All}
 use Rattle.scan_values.specs.DataType.{DataType}
 use Rattle.scan_expr.specs.Infer.{infer}
 use Rattle.scan_expr.specs.declared.request.ScanRequest.{ScanRequest}
@@ -37,6 +37,8 @@ module _ {O S K : Type 0} (opener : O → OpenerState) (source : S → SourceSta
     pub took : takes sink chunks sink'
     -- each has a row, and a value for each of its rows
     pub shape : All IsShaped chunks
+    -- with a limit of 0 none
+    pub nothing : request.limit ≡ Some 0 → chunks ≡ []
     -- over lawful objects: a front of what the request admits
     pub front : IsLawful opener source old cache → IsFront d request (told opener source old) chunks
 
@@ -52,5 +54,7 @@ module _ {O S K : Type 0} (opener : O → OpenerState) (source : S → SourceSta
       (cache cache' : CacheState SegmentKey) (Full : Type 0) (sink sink' : K) (end : DriveEnd) : Type 0 where
     -- the request has no fault
     pub types : first_request_fault workers d request ≡ None
+    -- with a limit of 0 the sink is not asked
+    pub nothing : request.limit ≡ Some 0 → end.flow ≡ flow.More
     pub stop : end.flow ≡ flow.Stop → Full
     pub whole : end.flow ≡ flow.More → TakesScan workers d request old new cache cache' sink sink' end.report
