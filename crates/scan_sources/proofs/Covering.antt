@@ -8,22 +8,22 @@ use Rattle.scan_sources.specs.Parts.{GivesParts, PartsCoverTheScan}
 use Rattle.scan_sources.specs.Scans.{ReaderScan, after_split, is_used, next_range}
 use Rattle.scan_sources.specs.Splits.{ReaderSplit}
 
-or_left : (a b : Bool) → (a || b) ≡ false → a ≡ false
+pub or_left : (a b : Bool) → (a || b) ≡ false → a ≡ false
 or_left false b h = refl
 or_left true b h = absurd cc
 
-or_right : (a b : Bool) → (a || b) ≡ true → b ≡ false → a ≡ true
+pub or_right : (a b : Bool) → (a || b) ≡ true → b ≡ false → a ≡ true
 or_right true b h k = refl
 or_right false b h k = absurd cc
 
 -- a part has a row, where one is left
-has_row : (next size end : ℕ) → 0 < size → nat_le end next ≡ false → next < min (next + size) end
+pub has_row : (next size end : ℕ) → 0 < size → nat_le end next ≡ false → next < min (next + size) end
 has_row next size end some h = grind (arith, nat_tests, some, h)
 
-within : (next size end : ℕ) → min (next + size) end ≤ end
+pub within : (next size end : ℕ) → min (next + size) end ≤ end
 within next size end = grind arith
 
-parts_follow : {M : Type 0} (old new : ReaderScan M) (ps : List (ReaderSplit M)) → 0 < old.size → GivesParts old ps new → Follow old.next new.next (map (λ (p : ReaderSplit M). p.range) ps)
+pub parts_follow : {M : Type 0} (old new : ReaderScan M) (ps : List (ReaderSplit M)) → 0 < old.size → GivesParts old ps new → Follow old.next new.next (map (λ (p : ReaderSplit M). p.range) ps)
 parts_follow {M} old new [] some h = ap (λ (s : ReaderScan M). s.next) (sym h)
 parts_follow {M} old new (p ∷ ps) some h =
     let P : Range ℕ → Type 0 = λ r. (r.start ≡ old.next) × (r.start < r.end) × Follow r.end new.next (map (λ (q : ReaderSplit M). q.range) ps) in
@@ -33,11 +33,11 @@ parts_follow {M} old new (p ∷ ps) some h =
     subst P (sym is) (refl, has_row old.next old.size old.end some left, rest)
 
 -- they leave its end, and do not pass it
-parts_end : {M : Type 0} (old new : ReaderScan M) (ps : List (ReaderSplit M)) → GivesParts old ps new → old.next ≤ old.end → (new.end ≡ old.end) × (new.next ≤ old.end)
+pub parts_end : {M : Type 0} (old new : ReaderScan M) (ps : List (ReaderSplit M)) → GivesParts old ps new → old.next ≤ old.end → (new.end ≡ old.end) × (new.next ≤ old.end)
 parts_end {M} old new [] h low = subst (λ (s : ReaderScan M). (s.end ≡ old.end) × (s.next ≤ old.end)) (sym h) (refl, low)
 parts_end {M} old new (p ∷ ps) h low = parts_end (after_split old) new ps h.1 (within old.next old.size old.end)
 
-all_left : (end next : ℕ) → nat_le end next ≡ true → end ≤ next
+pub all_left : (end next : ℕ) → nat_le end next ≡ true → end ≤ next
 all_left end next h = grind (arith, nat_tests, h)
 
 pub parts_cover : {M : Type 0} → PartsCoverTheScan M

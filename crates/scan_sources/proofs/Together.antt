@@ -81,12 +81,12 @@ module _ {R M : Type 0} (state : ReaderState) (b : BuilderData R M) (store : Sto
       let value = value_of (numbered_state b.offset state) b.projection store in
       ap (map value) (filter-append kept is js) ∙ map-append value (filter kept is) (filter kept js)
 
-  asked_parts : (x y z : ℕ) → x ≤ y → y ≤ z → asked_values state b (Some (rows x z)) store ≡ asked_values state b (Some (rows x y)) store ++ asked_values state b (Some (rows y z)) store
+  pub asked_parts : (x y z : ℕ) → x ≤ y → y ≤ z → asked_values state b (Some (rows x z)) store ≡ asked_values state b (Some (rows x y)) store ++ asked_values state b (Some (rows y z)) store
   asked_parts x y z first last =
       ap of_rows (picked_parts b.range b.selection state.rows x y z first last)
       ∙ of_both (asked_rows b state.rows (Some (rows x y))) (asked_rows b state.rows (Some (rows y z)))
 
-  asked_none : (x : ℕ) → asked_values state b (Some (rows x x)) store ≡ []
+  pub asked_none : (x : ℕ) → asked_values state b (Some (rows x x)) store ≡ []
   asked_none x = ap of_rows (picked_none b.range b.selection state.rows x)
 
 -- ---- the parts of a scan
@@ -94,7 +94,7 @@ no_limit : (filtered : Bool) (values : List Marked) → first_of (limit_if (not 
 no_limit true values = refl
 no_limit false values = refl
 
-not_past : (r : Range ℕ) (n : ℕ) → r.start ≤ r.end → r.end ≤ n → is_past (Some r) n ≡ false
+pub not_past : (r : Range ℕ) (n : ℕ) → r.start ≤ r.end → r.end ≤ n → is_past (Some r) n ≡ false
 not_past r n low high = go (nat_lt r.end r.start) (nat_lt n r.end) refl refl
   where
     go : (a b : Bool) → nat_lt r.end r.start ≡ a → nat_lt n r.end ≡ b → (a || b) ≡ false
@@ -106,7 +106,7 @@ not_past r n low high = go (nat_lt r.end r.start) (nat_lt n r.end) refl refl
         absurd (omega (arith, high, past))
     go false false e f = refl
 
-follow_up : (first last : ℕ) (rs : List (Range ℕ)) → Follow first last rs → first ≤ last
+pub follow_up : (first last : ℕ) (rs : List (Range ℕ)) → Follow first last rs → first ≤ last
 follow_up first last [] h = omega (arith, h)
 follow_up first last (r ∷ rs) h =
     let here = h.0 in

@@ -1,5 +1,5 @@
 //! Laws of the parts of scans. Each is the contract of a function that calls the laws it rests on.
-ghost use Rattle.scan_sources.specs.Parts.{PartsCoverTheScan, PartsGiveTheScan};
+ghost use Rattle.scan_sources.specs.Parts.{PartsCoverTheScan, PartsGiveTheFirstRows, PartsGiveTheScan};
 ghost use Rattle.scan_sources.specs.Scans.{PartsGiveTheirRows};
 
 use scan_core::{splits_give_what_is_asked, streams_give_the_first_rows};
@@ -26,6 +26,16 @@ pub fn parts_cover_the_scan<M>()
 /// the rows.
 pub fn parts_give_the_scan<M>()
     ensures { PartsGiveTheScan M }
+{
+    splits_give_their_rows::<M>();
+}
+
+/// With a limit that the parts don't share, they together give the first of the rows that the request asks for, as many as
+/// its limit, in the order of the rows. Without a filter they give exactly these, and there is no further part once they
+/// gave as many. With one, in order, each part gives up to the whole limit, and the first of what the parts give one after
+/// the other are the first of the request, once no part is left or they gave enough.
+pub fn parts_give_the_first_rows<M>()
+    ensures { PartsGiveTheFirstRows M }
 {
     splits_give_their_rows::<M>();
 }

@@ -13,7 +13,9 @@ mod split;
 
 pub use empty::Empty;
 pub use fault::SourceFault;
-pub use laws::{parts_cover_the_scan, parts_give_the_scan, splits_give_their_rows};
+pub use laws::{
+    parts_cover_the_scan, parts_give_the_first_rows, parts_give_the_scan, splits_give_their_rows,
+};
 pub use precision::Precision;
 pub use request::{BoundScanRequest, Plain, range_or_all};
 pub use scan::{LayoutReaderScan, LayoutScan};
