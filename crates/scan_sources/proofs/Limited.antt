@@ -187,11 +187,11 @@ module _ {M : Type 0} (law : PartsGiveTheirRows M) (state : ReaderState) (q : Bo
       let none_in : q.filter ≡ None = no_filter q.filter (sym filtered ∙ none) in
       let picked = asked_rows (builder_of q s.step) state.rows (Some (rows x y)) in
       sym (
-        ap (λ (o : Option Bound). length (map value (filter (passes (numbered_state 0 state) (conjuncts_in o) store) picked))) none_in
-        ∙ length-map (filter (λ i. true) picked) value
-        ∙ ap length (keeps_all picked ∙ picked_within q.row_range q.selection state.rows x y low high end)
-        ∙ length-filter (selects q.selection) (numbers x y)
-        ∙ ap (λ (t : Selection). row_count t (rows x y)) (sym is.selection)
+      ap (λ (o : Option Bound). length (map value (filter (passes (numbered_state 0 state) (conjuncts_in o) store) picked))) none_in
+      ∙ length-map (filter (λ i. true) picked) value
+      ∙ ap length (keeps_all picked ∙ picked_within q.row_range q.selection state.rows x y low high end)
+      ∙ length-filter (selects q.selection) (numbers x y)
+      ∙ ap (λ (t : Selection). row_count t (rows x y)) (sym is.selection)
       )
 
   module _ (end size : ℕ) (some : 0 < size) (last : end ≤ state.rows) (inside : end ≤ (range_or_all q.row_range state.rows).end) (new : ReaderScan M) where

@@ -8,4 +8,5 @@ pub mod Matched
 pub mod OnDisk
 pub mod Parting
 pub mod Showing
+pub mod Streamed
 pub mod Summing

@@ -1,23 +1,21 @@
 -- What a catalogue concludes that asks for rows in parts.
-use Rattle.std.specs.Prelude.{◌≡◌, ◌<◌, ◌++◌, ℕ, List, [], ◌∷◌, map, true, false, Option, None, Some, Ok}
+use Rattle.std.specs.Prelude.{◌≡◌, ◌≤◌, ◌++◌, ℕ, Bool, true, false, List, [], ◌∷◌, map, is_some, Option, None, Some, Ok, IsPermutation}
 use Rattle.std.specs.List.{flat_map}
 use Rattle.std.specs.declared.ops.Range.{Range}
 use Rattle.vortex_scan.specs.Values.Marked.{Marked}
 use Rattle.vortex_scan.specs.Segments.Source.{Store}
 use Rattle.vortex_scan.specs.Readers.Readers.{ReaderState}
-use Rattle.vortex_scan.specs.Core.BuilderData.{IsBuilder, range_or_all}
-use Rattle.vortex_scan.specs.Core.Given.{Rises, asked_values}
-use Rattle.vortex_scan.specs.Core.RowRanges.{is_past}
-use Rattle.vortex_scan.specs.Core.ScanData.{IsScan, ScanData}
+use Rattle.vortex_scan.specs.Core.BuilderData.{range_or_all}
+use Rattle.vortex_scan.specs.Core.Given.{asked_values}
 use Rattle.vortex_scan.specs.Core.SplitRanges.{Follow}
-use Rattle.vortex_scan.specs.Core.Streaming.{streamed, values_in}
+use Rattle.vortex_scan.specs.Core.Streaming.{first_of, limit_after, streamed, values_in}
 use Rattle.vortex_scan.specs.Collect.Reads.{values_given}
 use Rattle.vortex_scan.specs.Collect.Rows.{GivesFirst}
 use Rattle.vortex_scan.specs.Streams.declared.fault.StreamFault.TheVariants as fault
 use Rattle.vortex_scan.specs.Sources.Empties.{empty_data}
-use Rattle.vortex_scan.specs.Sources.Parts.{GivesParts}
+use Rattle.vortex_scan.specs.Sources.Parts.{GivesFirstOf, GivesParts}
 use Rattle.vortex_scan.specs.Sources.Plain.{Plain}
-use Rattle.vortex_scan.specs.Sources.Requests.{IsScanOfRequest, asked_count, builder_of, request_dtype}
+use Rattle.vortex_scan.specs.Sources.Requests.{asked_count, builder_of, request_dtype}
 use Rattle.vortex_scan.specs.Sources.Scans.{GivesPart, IsReaderScan, ReaderScan, is_over}
 use Rattle.vortex_scan.specs.Sources.Splits.{ReaderSplit}
 use Rattle.vortex_scan.specs.Sources.declared.request.BoundScanRequest.{BoundScanRequest}
@@ -34,11 +32,21 @@ part_rows parts = map (λ (p : RowsOfPart). p.rows) parts
 abbrev pub part_values : List RowsOfPart → List Marked
 part_values parts = flat_map (λ (p : RowsOfPart). values_given p.arrays.items) parts
 
--- Parts of what a request asks of a reader's rows: they follow each other from the first row of its range to the last, and
--- over a source that tells what it holds they together give what it asks for, in order or in some order.
+-- the first of what is asked for, as many as a limit: in order, or, without an order, exactly these in some order
+abbrev pub GivesAsked : Bool → Bool → Option ℕ → List Marked → List Marked → Type 0
+GivesAsked true filtered limit asked given = GivesFirstOf filtered limit asked given
+GivesAsked false filtered limit asked given = IsPermutation (first_of limit asked) given
+
+-- Parts of what a request asks of a reader's rows.
 pub record CoverAndGive (state : ReaderState) (q : BoundScanRequest) (holds : Option Store) (parts : List RowsOfPart) : Type 0 where
-  pub follow : Follow (range_or_all q.row_range state.rows).start (range_or_all q.row_range state.rows).end (part_rows parts)
-  pub values : (store : Store) → holds ≡ Some store → GivesFirst q.ordered None (asked_values state (builder_of q (tt {0})) None store) (part_values parts)
+  -- they follow each other from the first row of its range on
+  pub last : ℕ
+  pub follow : Follow (range_or_all q.row_range state.rows).start last (part_rows parts)
+  -- within the range, and without a limit to its end
+  pub within : last ≤ (range_or_all q.row_range state.rows).end
+  pub whole : q.limit ≡ None → last ≡ (range_or_all q.row_range state.rows).end
+  -- over a source that tells what it holds they together give the first of what it asks for
+  pub values : (store : Store) → holds ≡ Some store → GivesAsked q.ordered (is_some q.filter) q.limit (asked_values state (builder_of q (tt {0})) None store) (part_values parts)
 
 -- so many rows of which nothing is read, or parts
 abbrev pub IsReadInParts : ReaderState → BoundScanRequest → Option Store → InParts → Type 0
@@ -46,27 +54,21 @@ IsReadInParts state q holds (Counted e) = e ≡ empty_data (request_dtype q) (as
 IsReadInParts state q holds (Read parts) = CoverAndGive state q holds parts.items
 
 -- ---- one part after the other
--- a scan is that of a request over a reader's rows, as the laws of its parts ask
-pub record IsSetUp (state : ReaderState) (q : BoundScanRequest) (s : ScanData Plain) : Type 0 where
-  pub builder : IsBuilder state q.projection q.filter None
-  pub rises : Rises q.selection
-  pub scan : IsScanOfRequest state q s
-  pub stands : IsScan s
+-- what is given of a part that shares no limit: what its splits give, with a filter as many of it as its limit, in order or in some order
+abbrev pub GivesOf : Option Store → ReaderSplit Plain → List Marked → Type 0
+GivesOf holds p given = (store : Store) → holds ≡ Some store → GivesFirst (p.scan).ordered (limit_after p.scan) (values_in (streamed p.scan (Some p.range)) store) given
 
--- what is given of a range of the rows of a request's scan: what all its splits give, in order or in some order
-abbrev pub GivesRange : Option Store → ScanData Plain → Range ℕ → List Marked → Type 0
-GivesRange holds s r given =
-    (state : ReaderState) (q : BoundScanRequest) (store : Store) → IsSetUp state q s → is_past (Some r) state.rows ≡ false → holds ≡ Some store
-    → GivesFirst s.ordered None (values_in (streamed s (Some r)) store) given
+-- what is read of a part
+pub record IsRead (holds : Option Store) (part : ReaderSplit Plain) (read : RowsOfPart) : Type 0 where
+  pub rows : read.rows ≡ part.range
+  pub values : GivesOf holds part (values_given read.arrays.items)
 
--- its parts have no limit, neither each its own nor together
-pub record HasNoLimit (s : ReaderScan Plain) : Type 0 where
-  pub left : s.left ≡ None
-  pub seat : s.seat ≡ None
-
--- what all splits of a scan without its limit give of these ranges, one range after the other
-abbrev pub values_of_ranges : ScanData Plain → List (Range ℕ) → Store → List Marked
-values_of_ranges s rs store = flat_map (λ (r : Range ℕ). values_in (streamed (record s { limit = None }) (Some r)) store) rs
+-- of each of several
+abbrev pub AreRead : Option Store → List (ReaderSplit Plain) → List RowsOfPart → Type 0
+AreRead holds [] [] = Unit {0}
+AreRead holds [] (r ∷ rs) = ⊥
+AreRead holds (p ∷ ps) [] = ⊥
+AreRead holds (p ∷ ps) (r ∷ rs) = IsRead holds p r × AreRead holds ps rs
 
 -- what a part gives is kept, or memory lacks
 abbrev pub PushesPart : RowsOfPart → List RowsOfPart → List RowsOfPart → Turn → Type 0
@@ -78,8 +80,7 @@ PushesPart rows before after (Stop f) = f ≡ fault.NoMemory
 pub record KeepsOne (holds : Option Store) (part : ReaderSplit Plain) (before after : List RowsOfPart) : Type 0 where
   pub read : RowsOfPart
   pub kept : after ≡ before ++ read ∷ []
-  pub rows : read.rows ≡ part.range
-  pub values : GivesRange holds part.scan part.range (values_given read.arrays.items)
+  pub is : IsRead holds part read
 
 abbrev pub KeepsPart : Option Store → ReaderSplit Plain → List RowsOfPart → List RowsOfPart → Turn → Type 0
 KeepsPart holds part before after More = KeepsOne holds part before after
@@ -103,14 +104,10 @@ ReadsNext holds old new before after (Stop f) = Unit {0}
 pub record HasParts (holds : Option Store) (old new : ReaderScan Plain) (parts : List RowsOfPart) : Type 0 where
   pub splits : List (ReaderSplit Plain)
   pub gives : GivesParts old splits new
-  pub rows : part_rows parts ≡ map (λ (p : ReaderSplit Plain). p.range) splits
-  pub values : (state : ReaderState) (q : BoundScanRequest) (store : Store) → IsSetUp state q old.scan → holds ≡ Some store
-      → GivesFirst (old.scan).ordered None (values_of_ranges old.scan (part_rows parts) store) (part_values parts)
+  pub read : AreRead holds splits parts
 
 -- all parts
 pub record ReadsParts (holds : Option Store) (old new : ReaderScan Plain) (parts : List RowsOfPart) : Type 0 where
-  pub size : 0 < old.size
-  pub stands : IsScan old.scan
+  pub lies : IsReaderScan old
   pub over : is_over new ≡ true
-  pub left : new.left ≡ None
   pub has : HasParts holds old new parts

@@ -3,8 +3,8 @@ ghost use Rattle.std.specs.Prelude.{◌≡◌, IfOk, None};
 ghost use Rattle.vortex_scan.specs.Collect.Reads.{values_given};
 ghost use Rattle.vortex_scan.specs.Core.Given.{Rises};
 ghost use Rattle.vortex_scan.specs.Segments.Source.{none_live};
-ghost use Rattle.vortex_scan.specs.Sources.Requests.{bound_request};
-ghost use Rattle.uses.specs.InParts.{GivesRange, HasNoLimit, IsReadInParts, KeepsPart, PushesPart, ReadsNext, ReadsParts};
+ghost use Rattle.vortex_scan.specs.Sources.Requests.{bound_request, shared_limit};
+ghost use Rattle.uses.specs.InParts.{GivesOf, IsReadInParts, KeepsPart, PushesPart, ReadsNext, ReadsParts};
 
 use std::alloc::Global;
 use std::ops::Range;
@@ -12,10 +12,10 @@ use vortex_scan::LayoutReader;
 use vortex_scan::arrays::Array;
 use vortex_scan::expr::transform::parts_may_be_parted;
 use vortex_scan::scan::ScanRequest;
-use vortex_scan::scan::collect::{read_stream, reads_give_the_first_rows};
+use vortex_scan::scan::collect::read_stream;
 use vortex_scan::scan::layout::{
     Empty, LayoutReaderDataSource, LayoutReaderScan, LayoutReaderSplit, LayoutScan, SourceFault,
-    parts_cover_the_scan, parts_give_the_scan, splits_give_their_rows,
+    parts_cover_the_scan, parts_give_the_first_rows,
 };
 use vortex_scan::scan::repeated_scan::{Identity, StreamFault};
 use vortex_scan::segments::SegmentSource;
@@ -53,10 +53,13 @@ enum Turn {
     Stop(StreamFault<()>),
 }
 
-/// All rows that a request without a limit asks of a source, part by part. The parts follow each other from the first row
-/// of the request's range to its last, and over segments that are told they together give what the request asks for: the
-/// values of its projection at the selected rows of its range at which its filter is true, in the order of the rows, or,
-/// where it has no order, in some order. Whatever is answered, the source's rows are as they were, and nothing is live.
+/// The rows that a request asks of a source, part by part, as long as there is a part: of a request without a limit, without
+/// a filter, or in order, whose parts share no limit. The parts follow each other from the first row of the request's range,
+/// without a limit to its last. What they give, over segments that are told, are the first of the rows that the request asks
+/// for, as many as its limit: the values of its projection at the selected rows of its range at which its filter is true. In
+/// order, with a filter and a limit, these are the first of what the parts give one after the other; else they are all of it,
+/// in the order of the rows or, where the request has none, in some order. Whatever is answered, the source's rows are as
+/// they were, and nothing is live.
 ///
 /// # Errors
 /// `Source` with a fault of `LayoutReaderDataSource::scan`, `Part` with one of `read_stream`.
@@ -66,7 +69,7 @@ pub fn rows_in_parts<R: LayoutReader + Drop, S: SegmentSource>(
     request: ScanRequest,
     segments: &mut S,
 ) -> Result<InParts, PartsFault>
-    requires unlimited { request.limit ≡ None }
+    requires own { shared_limit (bound_request (R.state source.old.reader).dtype request) ≡ None }
     requires rises { Rises request.selection }
     requires idle { (S.state segments.old).live ≡ none_live }
     ensures parts { IfOk result (IsReadInParts (R.state source.old.reader)
@@ -76,7 +79,7 @@ pub fn rows_in_parts<R: LayoutReader + Drop, S: SegmentSource>(
 {
     parts_may_be_parted();
     parts_cover_the_scan::<Identity<()>>();
-    parts_give_the_scan::<Identity<()>>();
+    parts_give_the_first_rows::<Identity<()>>();
     let scan = match source.scan(alloc, request) {
         Ok(scan) => scan,
         Err(fault) => return Err(PartsFault::Source(fault)),
@@ -91,13 +94,13 @@ pub fn rows_in_parts<R: LayoutReader + Drop, S: SegmentSource>(
     }
 }
 
-/// All parts of a scan without a limit, read to their end.
+/// All parts of a scan that share no limit, read to their end.
 fn read_parts<S: SegmentSource>(
     alloc: Global,
     scan: &mut LayoutReaderScan,
     segments: &mut S,
 ) -> Result<Vec<RowsOfPart>, StreamFault<()>>
-    requires unlimited { HasNoLimit scan.old }
+    requires own { scan.old.seat ≡ None }
     requires idle { (S.state segments.old).live ≡ none_live }
     ensures parts { IfOk result (λ v. ReadsParts (S.state segments.old).holds scan.old scan.new v.items) }
     ensures idle { (S.state segments.new).live ≡ none_live }
@@ -112,14 +115,14 @@ fn read_parts<S: SegmentSource>(
     }
 }
 
-/// The next part of a scan without a limit, read to its end and kept, where there is one.
+/// The next part of a scan whose parts share no limit, read to its end and kept, where there is one.
 fn read_part<S: SegmentSource>(
     alloc: Global,
     scan: &mut LayoutReaderScan,
     read: &mut Vec<RowsOfPart>,
     segments: &mut S,
 ) -> Turn
-    requires unlimited { HasNoLimit scan.old }
+    requires own { scan.old.seat ≡ None }
     requires idle { (S.state segments.old).live ≡ none_live }
     ensures reads { ReadsNext (S.state segments.old).holds scan.old scan.new read.old.items read.new.items result }
     ensures idle { (S.state segments.new).live ≡ none_live }
@@ -132,7 +135,7 @@ fn read_part<S: SegmentSource>(
     }
 }
 
-/// Reads a part that has no limit to its end, and keeps what it gives.
+/// Reads a part that shares no limit to its end, and keeps what it gives.
 fn keep_part<S: SegmentSource>(
     alloc: Global,
     part: LayoutReaderSplit,
@@ -140,7 +143,6 @@ fn keep_part<S: SegmentSource>(
     segments: &mut S,
 ) -> Turn
     requires own { part.seat ≡ None }
-    requires unlimited { (part.scan).limit ≡ None }
     requires idle { (S.state segments.old).live ≡ none_live }
     ensures keeps { KeepsPart (S.state segments.old).holds part read.old.items read.new.items result }
     ensures idle { (S.state segments.new).live ≡ none_live }
@@ -162,23 +164,19 @@ fn push_part(read: &mut Vec<RowsOfPart>, rows: RowsOfPart) -> Turn
     }
 }
 
-/// What a part gives that has no limit, read to its end.
+/// What a part gives that shares no limit, read to its end.
 fn rows_of_part<S: SegmentSource>(
     alloc: Global,
     part: LayoutReaderSplit,
     segments: &mut S,
 ) -> Result<RowsOfPart, StreamFault<()>>
     requires own { part.seat ≡ None }
-    requires unlimited { (part.scan).limit ≡ None }
     requires idle { (S.state segments.old).live ≡ none_live }
     ensures rows { IfOk result (λ r. r.rows ≡ part.range) }
-    ensures values { IfOk result (λ r. GivesRange (S.state segments.old).holds part.scan part.range
-        (values_given r.arrays.items)) }
+    ensures values { IfOk result (λ r. GivesOf (S.state segments.old).holds part (values_given r.arrays.items)) }
     ensures idle { (S.state segments.new).live ≡ none_live }
     ensures holds { (S.state segments.new).holds ≡ (S.state segments.old).holds }
 {
-    reads_give_the_first_rows::<(), Identity<()>>();
-    splits_give_their_rows::<Identity<()>>();
     let range = part.row_range();
     let rows = range.start..range.end;
     let stream = match part.execute(alloc) {

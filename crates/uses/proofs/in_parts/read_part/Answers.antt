@@ -1,11 +1,8 @@
-use Rattle.uses.proofs.Parting.{over_read, part_limit, part_seat, reads_kept}
+use Rattle.uses.proofs.Parting.{over_read, part_seat, reads_kept}
 use Rattle.uses.proofs.in_parts.read_part.Goals as goal
 
 pub keep_part-requires-clause-own : goal.keep_part-requires-clause-own
-keep_part-requires-clause-own g c = part_seat c.args.scan.now c.next_partition.new.self c.in-Ok-Some.part c.requires.unlimited (rw c.in-Ok-Some.field-0-is at c.in-Ok-Some.ensures.gives)
-
-pub keep_part-requires-clause-unlimited : goal.keep_part-requires-clause-unlimited
-keep_part-requires-clause-unlimited g c = part_limit c.args.scan.now c.next_partition.new.self c.in-Ok-Some.part c.requires.unlimited (rw c.in-Ok-Some.field-0-is at c.in-Ok-Some.ensures.gives)
+keep_part-requires-clause-own g c = part_seat c.args.scan.now c.next_partition.new.self c.in-Ok-Some.part c.requires.own (rw c.in-Ok-Some.field-0-is at c.in-Ok-Some.ensures.gives)
 
 pub returns-in-Ok-Some-clause-reads : goal.returns-in-Ok-Some-clause-reads
 returns-in-Ok-Some-clause-reads g c =

@@ -9,7 +9,7 @@ parts-init g c =
     let holds = (g.S.SegmentSource.state c.args.segments.now).holds in
     let scan = c.args.scan.now in
     record {
-      none = c.requires.unlimited;
+      none = c.requires.own;
       idle = c.requires.idle;
       holds = refl;
       has = subst (λ (ps : List RowsOfPart). HasParts holds scan scan ps) (sym c.new-read.ensures.items) (parts_none holds scan);
@@ -20,9 +20,9 @@ parts-preserved g c =
     let state = g.S.SegmentSource.state in
     let holds = (state c.args.segments.now).holds in
     let first = c.args.scan.now in
-    let has = read_more holds (state c.parts.segments).holds first c.parts.scan c.read_part.new.scan c.parts.read.items c.read_part.new.read.items c.requires.unlimited c.parts.invariant.holds c.parts.invariant.has c.in-More.ensures.reads in
+    let has = read_more holds (state c.parts.segments).holds first c.parts.scan c.read_part.new.scan c.parts.read.items c.read_part.new.read.items c.parts.invariant.holds c.parts.invariant.has c.in-More.ensures.reads in
     record {
-      none = still_none holds first c.read_part.new.scan c.read_part.new.read.items c.requires.unlimited has;
+      none = still_none holds first c.read_part.new.scan c.read_part.new.read.items c.requires.own has;
       idle = c.read_part.ensures.idle;
       holds = c.read_part.ensures.holds ∙ c.parts.invariant.holds;
       has = has;
@@ -33,4 +33,4 @@ parts-smaller g c = part_nearer (g.S.SegmentSource.state c.parts.segments).holds
 
 pub returns-in-Last-clause-parts : goal.returns-in-Last-clause-parts
 returns-in-Last-clause-parts g c =
-    parts_read (g.S.SegmentSource.state c.args.segments.now).holds c.args.scan.now c.parts.scan c.read_part.new.scan c.parts.read.items c.read_part.new.read.items c.requires.unlimited c.parts.invariant.has c.in-Last.ensures.reads
+    parts_read (g.S.SegmentSource.state c.args.segments.now).holds c.args.scan.now c.parts.scan c.read_part.new.scan c.parts.read.items c.read_part.new.read.items c.requires.own c.parts.invariant.has c.in-Last.ensures.reads
