@@ -1,6 +1,6 @@
 //! Lines of cases. A line says what is looked at, a file, what is asked of it and further words, and then what is told; one
 //! that begins with `#` says what those behind it show.
-use crate::files::{Case, case};
+use crate::files::{Case, case_of};
 use crate::scans::scan;
 use crate::words::sides;
 use crate::{claims, iters, lazily, many, setup, sources, splits, streams};
@@ -32,7 +32,7 @@ fn twice(rt: &impl Abort, alloc: Global, kind: &str, text: &str) -> String {
         request,
         reader,
         ..
-    } = case(rt, alloc, text);
+    } = case_of(rt, alloc, text);
     let mut reader = reader;
     let mut scan = scan(rt, alloc, &mut reader, request, text)
         .prepare(alloc)

@@ -1,7 +1,7 @@
 //! Streams of one scan that claim their rows of one limit.
 ghost use Rattle.std.specs.Prelude.{◌≡◌, ◌≤◌, None};
 
-use crate::files::{Case, case, source};
+use crate::files::{Case, case_of, source};
 use crate::scans::scan_all;
 use crate::setup::refused;
 use crate::streams::drained;
@@ -18,7 +18,7 @@ fn unlimited(rt: &impl Abort, alloc: Global, text: &str) -> RepeatedScan<Identit
     ensures rows { result.rows ≡ 3 }
     ensures limit { result.limit ≡ None }
 {
-    let Case { reader, .. } = case(rt, alloc, text);
+    let Case { reader, .. } = case_of(rt, alloc, text);
     let mut reader = reader;
     if reader.row_count() != 3 {
         panic!(rt; "not three rows");
@@ -57,7 +57,7 @@ fn claimed(
         segments,
         calls,
         ..
-    } = case(rt, alloc, text);
+    } = case_of(rt, alloc, text);
     let mut source = source(alloc, segments, calls);
     let stream = match range(rt, text, "asked:") {
         Some(rows) => scan.execute_claiming(alloc, Some(rows), claims),

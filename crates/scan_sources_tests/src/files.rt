@@ -163,7 +163,7 @@ pub(crate) struct Case {
 }
 
 /// The case of a line.
-pub(crate) fn case(rt: &impl Abort, alloc: Global, text: &str) -> Case {
+pub(crate) fn case_of(rt: &impl Abort, alloc: Global, text: &str) -> Case {
     let Manifest { files, request, .. } = manifest_of(rt, alloc, text);
     let FileSpec {
         layout,

@@ -1,5 +1,5 @@
 //! Iterators of scans that are set up.
-use crate::files::{Case, case, source};
+use crate::files::{Case, case_of, source};
 use crate::setup::refused;
 use crate::told::push_next;
 use crate::words::{number, range};
@@ -38,7 +38,7 @@ pub(crate) fn iterated(
         segments,
         calls,
         ..
-    } = case(rt, alloc, text);
+    } = case_of(rt, alloc, text);
     let source = source(alloc, segments, calls);
     match scan.execute_array_iter(alloc, range(rt, text, "asked:"), source) {
         Ok(iter) => called(rt, alloc, iter, number(rt, text, "polls:", 3)),

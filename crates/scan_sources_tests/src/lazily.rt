@@ -5,7 +5,7 @@ ghost use Rattle.scan_segments.specs.Source.{none_live};
 ghost use Rattle.scan_streams.specs.Streams.{LiveAs};
 ghost use Rattle.scan_core.specs.LazyData.{lazy_live};
 
-use crate::files::{Case, case, source};
+use crate::files::{Case, case_of, source};
 use crate::scans::scan;
 use crate::splits::story;
 use crate::told::{Made, push_next, push_poll, push_source};
@@ -97,7 +97,7 @@ pub(crate) fn streamed(rt: &impl Abort, alloc: Global, text: &str) -> String {
         reader,
         segments,
         calls,
-    } = case(rt, alloc, text);
+    } = case_of(rt, alloc, text);
     let mut reader = reader;
     let stream = scan(rt, alloc, &mut reader, request, text).into_array_stream();
     let source = source(alloc, segments, calls);
@@ -111,7 +111,7 @@ pub(crate) fn iterated(rt: &impl Abort, alloc: Global, text: &str) -> String {
         reader,
         segments,
         calls,
-    } = case(rt, alloc, text);
+    } = case_of(rt, alloc, text);
     let mut reader = reader;
     let source = source(alloc, segments, calls);
     let iter = scan(rt, alloc, &mut reader, request, text).into_array_iter(source);
@@ -141,7 +141,7 @@ pub(crate) fn counted(rt: &impl Abort, alloc: Global, kind: &str, text: &str) ->
         reader,
         segments,
         calls: fails,
-    } = case(rt, alloc, text);
+    } = case_of(rt, alloc, text);
     let mut reader = reader;
     let mut source = source(alloc, segments, fails);
     let polls = number(rt, text, "polls:", 3);
@@ -166,7 +166,7 @@ pub(crate) fn counted_splits(rt: &impl Abort, alloc: Global, kind: &str, text: &
         reader,
         segments,
         ..
-    } = case(rt, alloc, text);
+    } = case_of(rt, alloc, text);
     let mut reader = reader;
     let segments = segments.into_map();
     let counts = scan(rt, alloc, &mut reader, request, text).map(|array| count(array));

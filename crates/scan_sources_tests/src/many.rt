@@ -5,7 +5,7 @@ ghost use Rattle.std.specs.Prelude.{◌≡◌};
 ghost use Rattle.scan_segments.specs.MemorySource.{source_state};
 ghost use Rattle.scan_segments.specs.Source.{none_live};
 
-use crate::files::{Case, PAIR, THREE, begins, case, manifest, only, source};
+use crate::files::{Case, PAIR, THREE, begins, case_of, manifest, only, source};
 use crate::streams::drained;
 use crate::words::{after, number};
 use scan_layout::LayoutRef;
@@ -194,7 +194,7 @@ pub(crate) fn told(rt: &impl Abort, alloc: Global, text: &str) -> String {
         segments,
         calls,
         ..
-    } = case(rt, alloc, r#"A "$""#);
+    } = case_of(rt, alloc, r#"A "$""#);
     let at_once = number(rt, text, "at_once:", 8) as usize;
     let of = match made(rt, alloc, dtype, files, text) {
         Ok(of) => of,

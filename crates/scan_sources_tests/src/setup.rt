@@ -1,5 +1,5 @@
 //! What a builder tells of itself, the ranges of its splits, where a whole file is split, and the fields that are asked for.
-use crate::files::{Case, case};
+use crate::files::{Case, case_of};
 use crate::scans::scan;
 use crate::words::range;
 use scan_core::{SetupFault, referenced_field_masks};
@@ -21,7 +21,7 @@ pub(crate) fn ranges(rt: &impl Abort, alloc: Global, text: &str) -> String {
         request,
         reader,
         ..
-    } = case(rt, alloc, text);
+    } = case_of(rt, alloc, text);
     let mut reader = reader;
     match scan(rt, alloc, &mut reader, request, text).prepare(alloc) {
         Ok(scan) => {
@@ -47,7 +47,7 @@ pub(crate) fn whole(rt: &impl Abort, alloc: Global, text: &str) -> String {
         request,
         reader,
         ..
-    } = case(rt, alloc, text);
+    } = case_of(rt, alloc, text);
     let mut reader = reader;
     let mut builder = scan(rt, alloc, &mut reader, request, text);
     match builder.full_file_splits(alloc) {
@@ -81,7 +81,7 @@ pub(crate) fn masks(rt: &impl Abort, alloc: Global, text: &str) -> String {
         request,
         reader,
         ..
-    } = case(rt, alloc, text);
+    } = case_of(rt, alloc, text);
     let request = BoundScanRequest::try_new(alloc, request, reader.dtype()).expect(rt, "try_new");
     let masks = referenced_field_masks(alloc, &request.projection, request.filter.as_ref()).expect(
         rt,

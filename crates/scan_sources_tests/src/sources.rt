@@ -3,7 +3,7 @@ ghost use Rattle.std.specs.Prelude.{◌≡◌};
 ghost use Rattle.scan_segments.specs.MemorySource.{source_state};
 ghost use Rattle.scan_segments.specs.Source.{none_live};
 
-use crate::files::{Case, case, source};
+use crate::files::{Case, case_of, source};
 use crate::streams::drained;
 use crate::words::number;
 use scan_readers::Reader;
@@ -92,7 +92,7 @@ pub(crate) fn told(rt: &impl Abort, alloc: Global, text: &str) -> String {
         reader,
         segments,
         calls,
-    } = case(rt, alloc, text);
+    } = case_of(rt, alloc, text);
     let of = LayoutReaderDataSource::new(reader);
     let mut of = of.with_split_max_row_count(number(rt, text, "parts:", 4));
     match of.scan(alloc, request) {

@@ -1,5 +1,5 @@
 //! The splits of scans: what each wants, poll by poll, and what it gives.
-use crate::files::{Case, case};
+use crate::files::{Case, case_of};
 use crate::scans::scan;
 use crate::setup::refused;
 use crate::told::{Made, push_split};
@@ -100,7 +100,7 @@ pub(crate) fn built(rt: &impl Abort, alloc: Global, text: &str) -> String {
         reader,
         segments,
         ..
-    } = case(rt, alloc, text);
+    } = case_of(rt, alloc, text);
     let mut reader = reader;
     let segments = segments.into_map();
     let splits = scan(rt, alloc, &mut reader, request, text).build(alloc);
@@ -114,7 +114,7 @@ pub(crate) fn executed(
     scan: &mut RepeatedScan<Identity<u8>>,
     text: &str,
 ) -> String {
-    let Case { segments, .. } = case(rt, alloc, text);
+    let Case { segments, .. } = case_of(rt, alloc, text);
     let segments = segments.into_map();
     let splits = scan.execute(alloc, range(rt, text, "asked:"));
     story(rt, alloc, &segments, splits)

@@ -4,7 +4,7 @@ ghost use Rattle.scan_segments.specs.MemorySource.{source_state};
 ghost use Rattle.scan_segments.specs.Source.{none_live};
 ghost use Rattle.scan_streams.specs.Streams.{LiveAs};
 
-use crate::files::{Case, case, source};
+use crate::files::{Case, case_of, source};
 use crate::setup::refused;
 use crate::told::{Made, push_poll, push_source};
 use crate::words::{number, range};
@@ -89,7 +89,7 @@ pub(crate) fn streamed(
         segments,
         calls,
         ..
-    } = case(rt, alloc, text);
+    } = case_of(rt, alloc, text);
     let mut source = source(alloc, segments, calls);
     match scan.execute_array_stream(alloc, range(rt, text, "asked:")) {
         Ok(stream) => {
@@ -112,7 +112,7 @@ pub(crate) fn in_columns(
         segments,
         calls,
         ..
-    } = case(rt, alloc, text);
+    } = case_of(rt, alloc, text);
     let mut source = source(alloc, segments, calls);
     let mut stream = scan
         .execute_array_stream(alloc, None)
