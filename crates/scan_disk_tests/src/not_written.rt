@@ -83,11 +83,14 @@ fn what_is_too_deep_not_well_formed_or_fails_is_told(rt: HostRuntime) {
     }
     // segments have numbers from nought on
     let mut segments = Segments::new(alloc);
-    for (size, last) in [(2, [3u8]), (4, [3u8])] {
+    for size in [2, 4] {
         assert!(rt; encode_rows(alloc, &bytes, &TWO_ROWS, &mut segments).is_ok());
         let found = segments.as_slice();
         assert_eq!(rt; found.len(), size);
-        assert_eq!(rt; found[size - 1].as_slice(), last.as_slice());
+        let Some(last) = found.last() else {
+            panic!(rt; "no segment");
+        };
+        assert_eq!(rt; last.as_slice(), [3u8].as_slice());
     }
 }
 

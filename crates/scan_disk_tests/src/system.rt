@@ -9,7 +9,11 @@ use std::rc::Rc;
 use std::test::Fail;
 
 /// Writes the whole file, and reads it by its name.
-fn on_disk(rt: &(impl Files + Abort), alloc: Global, path: &str) -> Result<String, Fail> {
+fn on_disk(
+    rt: &(impl Files<File = File> + Abort),
+    alloc: Global,
+    path: &str,
+) -> Result<String, Fail> {
     fs::write(rt, path, whole(rt, alloc).as_slice())?;
     let file = Rc::new(alloc, File::open(rt, path)?)?;
     Ok(told(rt, alloc, Rc::clone(&file)?, file, true, &[0, 1]))

@@ -105,7 +105,8 @@ fn segments_text(
         let copy = Vec::from_slice(alloc, behind)?;
         let file = first(rt, made(alloc, manifest)?.files);
         let source = UnionSource::new(alloc, file.source, copy);
-        push_bytes(rt, alloc, source, SegmentId::from(i as u32), &mut text);
+        let id = SegmentId::try_from(i).expect(rt, "try_from");
+        push_bytes(rt, alloc, source, id, &mut text);
     }
     Ok(text)
 }
