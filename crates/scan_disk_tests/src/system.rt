@@ -83,7 +83,7 @@ impl BytesAt for Turning {
 }
 
 /// The whole file, of which the first bytes are left after so many calls, or which fails then.
-fn turning(rt: &impl Abort, alloc: Global, calls: u64, left: &str) -> Turning {
+fn turned_after(rt: &impl Abort, alloc: Global, calls: u64, left: &str) -> Turning {
     let bytes = whole(rt, alloc);
     let after = match left.parse::<usize>() {
         Ok(left) => bytes.as_slice().get(..left),
@@ -104,8 +104,8 @@ fn holds(rt: &impl Abort, alloc: Global, line: &str) -> bool {
     let (turns, wanted) = sides(rt, line, " -> ");
     let (calls, left) = sides(rt, turns, " ");
     let calls = calls.parse::<u64>().expect(rt, "parse");
-    let mut opener = FileOpener::new(turning(rt, alloc, calls, left));
-    let mut source = FileSource::new(alloc, turning(rt, alloc, calls, left), true);
+    let mut opener = FileOpener::new(turned_after(rt, alloc, calls, left));
+    let mut source = FileSource::new(alloc, turned_after(rt, alloc, calls, left), true);
     let answer = opened(rt, alloc, &mut opener);
     let (faults, polls) = (opener.faults(), opener.polled());
     let mut text = format!(in alloc; "{answer}, {faults} of {polls} |").expect(rt, "format");

@@ -23,7 +23,7 @@ pub(crate) struct Made {
 }
 
 /// What a manifest says.
-pub(crate) fn made(alloc: Global, text: &str) -> Result<Made, ParseFault>
+pub(crate) fn make(alloc: Global, text: &str) -> Result<Made, ParseFault>
     ensures { IfOk result (λ m. All (IsIdle memory_opener source_state) m.files.items) }
 {
     let manifest = manifest_of_bytes(alloc, text.as_bytes())?;

@@ -1,5 +1,5 @@
 //! Which dtype fits another, and how many segments a layout may have under a dtype.
-use crate::files::made;
+use crate::files::make;
 use crate::texts::sides;
 use scan_layout::{LayoutKind, LayoutNode, LayoutRef};
 use scan_segments::SegmentId;
@@ -14,7 +14,7 @@ fn dtype(rt: &impl Abort, alloc: Global, text: &str) -> DType {
     let manifest = format!(in alloc;
         "{{\"dtype\":{text},\"files\":[],\"request\":{{\"projection\":\"$\"}}}}"
     ).expect(rt, "format");
-    made(alloc, manifest.as_str()).expect(rt, "made").dtype
+    make(alloc, manifest.as_str()).expect(rt, "make").dtype
 }
 
 /// Whether a line `FROM under TO -> fits` holds, or `-> no`.

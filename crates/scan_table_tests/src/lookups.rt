@@ -1,7 +1,7 @@
 //! Look-ups over one session, one after the other: what each gives, and which segments it asks of each file's source.
 ghost use Rattle.std.specs.Prelude.{◌≡◌, ◌≤◌, length};
 
-use crate::files::{Made, made, push_asked};
+use crate::files::{Made, make, push_asked};
 use crate::texts::{expanded, rising, sides};
 use scan_caches::{MemoryCache, MokaSegmentCache, NoOpSegmentCache, SegmentEviction};
 use scan_lookup::{LookupFault, LookupSession, Place};
@@ -97,7 +97,7 @@ fn hold_over<C: KeyedSegmentCache + Drop>(
         dtype,
         files,
         request,
-    } = made(alloc, manifest)?;
+    } = make(alloc, manifest)?;
     let count = files.len();
     let mut session = LookupSession::new(alloc, &dtype, &request.projection, files, cache).expect(
         rt, "new",

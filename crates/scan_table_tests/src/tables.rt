@@ -1,5 +1,5 @@
 //! Which fault of a table is told first, which sum is past 64 bits, and what a table asks of its files.
-use crate::files::{Made, made, push_files};
+use crate::files::{Made, make, push_files};
 use crate::texts::{expanded, sides};
 use scan_caches::NoOpSegmentCache;
 use scan_expr::Expression;
@@ -90,7 +90,7 @@ fn told<R: Abort + Threads + Sync>(
         dtype,
         mut files,
         request: _,
-    } = made(alloc, manifest)?;
+    } = make(alloc, manifest)?;
     let mut cache = NoOpSegmentCache::new();
     let gate = NoGate::new();
     let given = scan_table(

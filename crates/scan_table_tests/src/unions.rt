@@ -1,5 +1,5 @@
 //! What a scan of files of older schemas gives or why it gives nothing, and what it asks of its files.
-use crate::files::{Made, made, push_files};
+use crate::files::{Made, make, push_files};
 use crate::texts::{expanded, sides};
 use scan_manifest::ParseFault;
 use scan_multi::{NoGate, ScanChunk, ScanOutput};
@@ -46,7 +46,7 @@ fn told<R: Abort + Threads + Sync>(
         dtype,
         mut files,
         request,
-    } = made(alloc, manifest)?;
+    } = make(alloc, manifest)?;
     let gate = NoGate::new();
     let given = scan_union(
         rt, alloc, &dtype, &mut files, 1_048_576, 1_024, &request, workers, &gate,

@@ -7,7 +7,7 @@ ghost use Rattle.scan_multi.specs.Lawful.{IsIdle};
 ghost use Rattle.scan_run.specs.FileOf.{memory_opener};
 ghost use Rattle.scan_widen.specs.Parts.{IsReadable};
 
-use crate::files::{Made, made, push_asked};
+use crate::files::{Made, make, push_asked};
 use crate::texts::{expanded, sides};
 use scan_manifest::ParseFault;
 use scan_multi::{MemoryOpener, ScanFile};
@@ -103,7 +103,7 @@ fn segments_text(
     for (i, one) in behind.iter().enumerate() {
         push_behind(rt, one, &mut text);
         let copy = Vec::from_slice(alloc, behind)?;
-        let file = first(rt, made(alloc, manifest)?.files);
+        let file = first(rt, make(alloc, manifest)?.files);
         let source = UnionSource::new(alloc, file.source, copy);
         let id = SegmentId::try_from(i).expect(rt, "try_from");
         push_bytes(rt, alloc, source, id, &mut text);
@@ -117,7 +117,7 @@ fn told(rt: &impl Abort, alloc: Global, manifest: &str, before: u64) -> Result<S
         dtype,
         files,
         request,
-    } = made(alloc, manifest)?;
+    } = make(alloc, manifest)?;
     let mut file = first(rt, files);
     match open_under(alloc, &dtype, &request.row_range, before, &mut file.opener) {
         Ok(Some(union)) => segments_text(rt, alloc, manifest, union.segments.as_slice()),

@@ -1,6 +1,6 @@
 use Rattle.scan_manifest.proofs.CallerLemmas.{manifest_agrees}
 use Rattle.scan_run.proofs.Stopping.{ready}
-use Rattle.scan_table_tests.proofs.files.made.Goals as goal
+use Rattle.scan_table_tests.proofs.files.make.Goals as goal
 
 pub returns-in_ok-files : goal.returns-in_ok-files
 returns-in_ok-files c =
