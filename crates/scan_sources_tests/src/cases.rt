@@ -359,6 +359,10 @@ files 3?,3 "$" -> {a=i32, b=i32} Inexact(2); pending; / 0 of 0 Exact(3) Absent: 
 files 3?,3 "$","ordered":false -> {a=i32, b=i32} Inexact(2); / 0 of 1 Exact(3) Absent: {a=i32, b=i32}; {1, 10},{2, 20},{3, 30}; end; asked 0 1, live 0; live 0; / 1 of 0 Exact(3) Absent: {a=i32, b=i32}; {1, 10},{2, 20},{3, 30}; end; asked 0 1 0 1, live 0; live 0; Exact(0)
 # faults are numbered too
 files 3!,1,3 "$","range":[1,3] -> {a=i32, b=i32} Inexact(3); Opener(0); RowRange(1); / 2 of 2 Exact(2) Absent: {a=i32, b=i32}; {2, 20},{3, 30}; end; asked 0 1, live 0; live 0; Exact(0)
+# a file of another dtype, or of an ill-formed layout, is a fault by its place, and the others are given
+files 3#,2/3,3 "$" -> {a=i32, b=i32} Inexact(3); DTypeMismatch(0); Layout(1, ChildRows); / 2 of 2 Exact(3) Absent: {a=i32, b=i32}; {1, 10},{2, 20},{3, 30}; end; asked 0 1, live 0; live 0; Exact(0)
+# the dtype is looked at first, then the layout, then the range
+files 2/3#,2/3,3 "$","range":[0,9] -> {a=i32, b=i32} Inexact(3); DTypeMismatch(0); Layout(1, ChildRows); RowRange(2); Exact(0)
 # unordered files share the limit
 files 3,3,18446744073709551610 "$","ordered":false,"limit":4 -> {a=i32, b=i32} Inexact(3); / 0 of 0 Inexact(3) Absent: {a=i32, b=i32}; {1, 10},{2, 20},{3, 30}; end; asked 0 1, live 0; live 0; / 1 of 1 Inexact(3) Absent: {a=i32, b=i32}; {1, 10}; end; asked 0 1 0 1, live 0; live 0; TooManyRows(2); Exact(0)
 # an opened file comes first

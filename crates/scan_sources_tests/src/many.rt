@@ -1,6 +1,7 @@
 //! Sources of many files of two columns: what is known of them, which files a scan gives, by which numbers, and why it
 //! does not. A line names files first: `-,3,3!,3?`, each by so many rows, `-` one that is skipped, with `!` where its first
-//! poll fails and `?` where it waits, and `no` for none. An opened file stands before them where it says so: `first:3`.
+//! poll fails and `?` where it waits, `3#` one of another dtype, `2/3` one whose first column has two of three rows, and
+//! `no` for none. An opened file stands before them where it says so: `first:3`.
 ghost use Rattle.std.specs.Prelude.{◌≡◌};
 ghost use Rattle.scan_segments.specs.MemorySource.{source_state};
 ghost use Rattle.scan_segments.specs.Source.{none_live};
@@ -20,13 +21,16 @@ use std::alloc::Global;
 use std::process::Abort;
 use std::string::String;
 
-// The rows of a file's word, and what its opener does.
+// The rows of a file's word, and what its opener does, or its own dtype.
 fn opening(word: &str) -> (&str, &'static str) {
     if let Some((rows, _)) = word.split_once('!') {
         return (rows, r#","open":{"fail":[0]}"#);
     }
     if let Some((rows, _)) = word.split_once('?') {
         return (rows, r#","open":{"pending":[0]}"#);
+    }
+    if let Some((rows, _)) = word.split_once('#') {
+        return (rows, r#","dtype":{"struct":[["a","i64"],["b","i32"]]}"#);
     }
     match word {
         "-" => ("3", r#","skip":true"#),
@@ -36,13 +40,17 @@ fn opening(word: &str) -> (&str, &'static str) {
 
 fn push_file(rt: &impl Abort, word: &str, text: &mut String) {
     let (rows, rest) = opening(word);
+    let (first, rows) = match rows.split_once('/') {
+        Some(both) => both,
+        None => (rows, rows),
+    };
     let segments = THREE;
     if !text.is_empty() {
         text.push_str(",").expect(rt, "push_str");
     }
     write!(
         text,
-        "{{\"id\":\"A\",\"layout\":{{\"struct\":[{{\"leaf\":[[0,{rows}]],\"rows\":{rows}}},{{\"leaf\":[[1,{rows}]],\"rows\":{rows}}}],\"rows\":{rows}}},\"segments\":[{segments}]{rest}}}"
+        "{{\"id\":\"A\",\"layout\":{{\"struct\":[{{\"leaf\":[[0,{first}]],\"rows\":{first}}},{{\"leaf\":[[1,{rows}]],\"rows\":{rows}}}],\"rows\":{rows}}},\"segments\":[{segments}]{rest}}}"
     )
     .expect(rt, "write")
 }

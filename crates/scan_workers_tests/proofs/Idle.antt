@@ -1,6 +1,5 @@
 -- Of the sources that a manifest tells none has a live request.
 use Rattle.std.specs.Prelude.{◌≡◌, List, [], ◌∷◌, All}
-use Rattle.std.proofs.Common.{absurd}
 use Rattle.std.proofs.lemmas.List.Elements.{All-cons, All-nil}
 use Rattle.scan_segments.specs.Source.{none_live}
 use Rattle.scan_segments.specs.MemorySource.{source_state}
