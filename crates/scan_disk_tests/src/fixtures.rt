@@ -55,6 +55,12 @@ pub(crate) fn said(rt: &impl Abort, alloc: Global, text: &str) -> String {
     made
 }
 
+fn push_bytes(rt: &impl Abort, bytes: &mut Vec<u8>, more: &[u8]) {
+    bytes
+        .extend_from_slice(more)
+        .expect(rt, "extend_from_slice");
+}
+
 /// A file that begins with this magic, of this body and footer, whose footer has the digest of another one and this length.
 pub(crate) fn file_of(
     rt: &impl Abort,
@@ -67,19 +73,12 @@ pub(crate) fn file_of(
 ) -> Vec<u8> {
     let digest = Sha256::digest(of);
     let length = length.to_le_bytes();
-    let mut bytes = Vec::new(alloc);
-    for part in [
-        magic,
-        body,
-        footer,
-        digest.as_slice(),
-        length.as_slice(),
-        MAGIC,
-    ] {
-        bytes
-            .extend_from_slice(part)
-            .expect(rt, "extend_from_slice");
-    }
+    let mut bytes = Vec::from_slice(alloc, magic).expect(rt, "from_slice");
+    push_bytes(rt, &mut bytes, body);
+    push_bytes(rt, &mut bytes, footer);
+    push_bytes(rt, &mut bytes, digest.as_slice());
+    push_bytes(rt, &mut bytes, length.as_slice());
+    push_bytes(rt, &mut bytes, MAGIC);
     bytes
 }
 

@@ -3,13 +3,14 @@ use crate::writing::rows;
 use scan_disk_writer::{
     BytesOut, MemoryOut, NewFile, OutFault, WriteFault, file_of, write_file, write_rows,
 };
-use scan_encode::{Segments, WriteOptions, encode_rows};
+use scan_encode::{Segments, WriteOptions, encode_batches, encode_rows};
 use scan_layout::{LayoutFault, LayoutKind, LayoutNode};
 use scan_spelling::Spelling;
 use scan_values::{Array, DType, Nullability};
 use std::alloc::Global;
 use std::fs::{self, File};
 use std::process::{self, Abort};
+use std::slice;
 use std::test::Fail;
 
 const TWO_ROWS: WriteOptions = WriteOptions {
@@ -67,7 +68,7 @@ fn what_is_too_deep_not_well_formed_or_fails_is_told(rt: HostRuntime) {
     assert_eq!(rt; nested_fault(&rt, alloc, 42), Some(WriteFault::Depth));
     let wanted = WriteFault::Layout(LayoutFault::ChildDType);
     assert_eq!(rt; unserved(&rt, alloc), Some(wanted));
-    let bytes = rows(&rt, alloc, "\"u8\"", "[1,2,3]");
+    let bytes = rows(&rt, alloc, &DType::u8(), "\"u8\"", "[1,2,3]");
     for left in 0..8 {
         let mut out = Failing { left };
         let wanted = if left < 7 {
@@ -92,6 +93,10 @@ fn what_is_too_deep_not_well_formed_or_fails_is_told(rt: HostRuntime) {
         };
         assert_eq!(rt; last.as_slice(), [3u8].as_slice());
     }
+    let batches = slice::from_ref(&bytes);
+    let encoded = encode_batches(alloc, bytes.dtype(), batches, &TWO_ROWS, &mut segments);
+    assert!(rt; encoded.is_ok());
+    assert_eq!(rt; segments.as_slice().len(), 6);
 }
 
 /// Begins a file of the system, writes rows to it, and moves it to its name.
@@ -119,7 +124,7 @@ fn a_file_stands_under_its_name_only_when_it_is_whole(rt: HostRuntime) -> Result
     let id = process::id(rt.process());
     let path = format!(in alloc; "/tmp/scan_disk_write_{id}")?;
     let part = format!(in alloc; "{path}.part")?;
-    let rows = rows(&rt, alloc, "\"u8\"", "[1,2,3]");
+    let rows = rows(&rt, alloc, &DType::u8(), "\"u8\"", "[1,2,3]");
     assert_eq!(rt; begin_new(&rt, path.as_str()), Ok(()));
     assert!(rt; File::open(&rt, path.as_str()).is_err());
     assert!(rt; File::open(&rt, part.as_str()).is_err());

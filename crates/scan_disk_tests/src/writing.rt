@@ -1,6 +1,8 @@
 //! Files that are written, byte by byte as another writer of the form writes them.
+ghost use Rattle.std.specs.Prelude.{◌≡◌};
+
 use crate::fixtures::sides;
-use scan_disk_writer::file_of;
+use scan_disk_writer::{MemoryOut, file_of, write_batches};
 use scan_encode::WriteOptions;
 use scan_import::rows_of_json;
 use scan_manifest::manifest_of_bytes;
@@ -38,15 +40,40 @@ fn values(rt: &impl Abort, alloc: Global, of: &str, list: &str) -> Vec<Value> {
     values.try_clone(alloc).expect(rt, "try_clone").into_vec()
 }
 
-/// The rows of a dtype in a list of JSON.
-pub(crate) fn rows(rt: &impl Abort, alloc: Global, of: &str, list: &str) -> Array {
-    match Array::try_new(dtype(rt, alloc, of), values(rt, alloc, of, list)) {
+/// The rows of a dtype, which a text says too, in a list of JSON.
+pub(crate) fn rows(rt: &impl Abort, alloc: Global, dtype: &DType, of: &str, list: &str) -> Array
+    ensures { result.dtype ≡ dtype.now }
+{
+    let dtype = dtype.try_clone(alloc).expect(rt, "try_clone");
+    match Array::try_new(dtype, values(rt, alloc, of, list)) {
         Ok(rows) => rows,
         Err(_) => panic!(rt; "no array"),
     }
 }
 
-/// Whether a block holds: a line `DTYPE of ROWS by SEGMENT_ROWS spelled SPELLING`, and the body, the footer and its digest of
+/// The bytes of a file of the rows of a list, or of those of two arrays: `[1,2] and [3]`.
+fn written(
+    rt: &impl Abort,
+    alloc: Global,
+    of: &str,
+    lists: &str,
+    options: &WriteOptions,
+) -> Vec<u8> {
+    let dtype = dtype(rt, alloc, of);
+    let Some((first, second)) = lists.split_once(" and ") else {
+        let rows = rows(rt, alloc, &dtype, of, lists);
+        return file_of(alloc, &rows, options).expect(rt, "file_of");
+    };
+    let batches = [
+        rows(rt, alloc, &dtype, of, first),
+        rows(rt, alloc, &dtype, of, second),
+    ];
+    let mut out = MemoryOut::new(alloc);
+    write_batches(alloc, &mut out, &dtype, batches.as_slice(), options).expect(rt, "write_batches");
+    out.into_bytes()
+}
+
+/// Whether a block holds: a line `DTYPE of LISTS by SEGMENT_ROWS spelled SPELLING`, and the body, the footer and its digest of
 /// a file of these rows.
 fn holds(rt: &impl Abort, alloc: Global, block: &str) -> bool {
     let (line, rest) = sides(rt, block, "\n");
@@ -60,9 +87,7 @@ fn holds(rt: &impl Abort, alloc: Global, block: &str) -> bool {
         segment_rows: segment_rows.parse::<usize>().expect(rt, "parse"),
         spelling: if one { Spelling::One } else { Spelling::Two },
     };
-    let Ok(file) = file_of(alloc, &rows(rt, alloc, of, list), &options) else {
-        panic!(rt; "not written");
-    };
+    let file = written(rt, alloc, of, list, &options);
     let found = hex::encode(alloc, file.as_slice()).expect(rt, "encode");
     found.as_str() == file_text(rt, alloc, body, footer, digest).as_str()
 }
@@ -83,10 +108,15 @@ fn rows_are_written_byte_by_byte_as_another_writer_writes_them(rt: HostRuntime) 
     }
 }
 
-// Segments of so many rows, by both spellings; a null struct has rows in its fields, and 0 rows a segment are 1; a file of
+// Segments of so many rows, by both spellings; rows of two arrays, of which both have rows in one segment; a null struct has rows in its fields, and 0 rows a segment are 1; a file of
 // no lists has the offset where the first would begin.
 const FILES: &str =
     r#"{"struct":[["n","i32?"],["l",{"list":"utf8?","nullable":true}]]} of [{"n":1,"l":["a",null]},{"n":null,"l":null},{"n":-3,"l":["bc"]}] by 2 spelled One
+0100010000000000000001fdffffff0000000000000000020000000000000002000000000000000300000000000000010001010001000000610000000001020000006263
+{"dtype":{"nullable":false,"struct":[["n","i32?"],["l",{"list":"utf8?","nullable":true}]]},"layout":{"rows":3,"struct":[{"leaf":[[0,2],[1,1]],"rows":3,"spelling":1},{"list":[{"leaf":[[6,2],[7,1]],"rows":3,"spelling":1},{"leaf":[[2,2],[3,2]],"rows":4,"spelling":1},{"leaf":[[4,2],[5,1]],"rows":3,"spelling":1}],"offsets":"u64","rows":3}]},"segments":[[0,8,10,"c79dfd1639cb01c6e9475beccd17d9e076ca80f62f4c5a505a1586cc7a3e9338"],[1,18,5,"e9406fc075bc88ab770a2f00edbcbc8522888d56e2789d9ade1509353b0a6843"],[2,23,16,"c571327cb01ac1de6972713cbf6cc1fc3c2cab8b581ee0bc3fe6d8b56963fd5b"],[3,39,16,"fe6d3d3bb5dd778af1128cc7b2b33668d51b9a52dfc8f2342be37ddc06a0072d"],[4,55,2,"47dc540c94ceb704a23875c11273e16bb0b8a87aed84de911f2133568115f254"],[5,57,1,"4bf5122f344554c53bde2ebb8cd2b7e3d1600ad631c385a5d7cce23c7785459a"],[6,58,11,"040558f299d8307a7451278ed0899cac3d097bd3d3b8c6b91b032c87746b98c3"],[7,69,7,"3d17acefc7e16ee2ff235ed83ac8e9eb87c8e22182803f0ce1da57d9acec72fc"]]}
+191490eb471b1fbcdcb2e898b55e00bed2493360d4f1c76d92d1b1225d934eb6
+
+{"struct":[["n","i32?"],["l",{"list":"utf8?","nullable":true}]]} of [{"n":1,"l":["a",null]}] and [{"n":null,"l":null},{"n":-3,"l":["bc"]}] by 2 spelled One
 0100010000000000000001fdffffff0000000000000000020000000000000002000000000000000300000000000000010001010001000000610000000001020000006263
 {"dtype":{"nullable":false,"struct":[["n","i32?"],["l",{"list":"utf8?","nullable":true}]]},"layout":{"rows":3,"struct":[{"leaf":[[0,2],[1,1]],"rows":3,"spelling":1},{"list":[{"leaf":[[6,2],[7,1]],"rows":3,"spelling":1},{"leaf":[[2,2],[3,2]],"rows":4,"spelling":1},{"leaf":[[4,2],[5,1]],"rows":3,"spelling":1}],"offsets":"u64","rows":3}]},"segments":[[0,8,10,"c79dfd1639cb01c6e9475beccd17d9e076ca80f62f4c5a505a1586cc7a3e9338"],[1,18,5,"e9406fc075bc88ab770a2f00edbcbc8522888d56e2789d9ade1509353b0a6843"],[2,23,16,"c571327cb01ac1de6972713cbf6cc1fc3c2cab8b581ee0bc3fe6d8b56963fd5b"],[3,39,16,"fe6d3d3bb5dd778af1128cc7b2b33668d51b9a52dfc8f2342be37ddc06a0072d"],[4,55,2,"47dc540c94ceb704a23875c11273e16bb0b8a87aed84de911f2133568115f254"],[5,57,1,"4bf5122f344554c53bde2ebb8cd2b7e3d1600ad631c385a5d7cce23c7785459a"],[6,58,11,"040558f299d8307a7451278ed0899cac3d097bd3d3b8c6b91b032c87746b98c3"],[7,69,7,"3d17acefc7e16ee2ff235ed83ac8e9eb87c8e22182803f0ce1da57d9acec72fc"]]}
 191490eb471b1fbcdcb2e898b55e00bed2493360d4f1c76d92d1b1225d934eb6
