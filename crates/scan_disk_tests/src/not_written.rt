@@ -11,7 +11,6 @@ use std::alloc::Global;
 use std::fs::{self, File};
 use std::process::{self, Abort};
 use std::slice;
-use std::test::Fail;
 
 const TWO_ROWS: WriteOptions = WriteOptions {
     segment_rows: 2,
@@ -119,26 +118,23 @@ fn begin_new(rt: &HostRuntime, path: &str) -> Result<(), WriteFault> {
 }
 
 #[test]
-fn a_file_stands_under_its_name_only_when_it_is_whole(rt: HostRuntime) -> Result<(), Fail> {
+fn a_file_stands_under_its_name_only_when_it_is_whole(rt: HostRuntime) {
     let alloc = rt.alloc();
     let id = process::id(rt.process());
-    let path = format!(in alloc; "/tmp/scan_disk_write_{id}")?;
-    let part = format!(in alloc; "{path}.part")?;
+    let path = format!(in alloc; "/tmp/scan_disk_write_{id}").expect(&rt, "format");
+    let part = format!(in alloc; "{path}.part").expect(&rt, "format");
     let rows = rows(&rt, alloc, &DType::u8(), "\"u8\"", "[1,2,3]");
     assert_eq!(rt; begin_new(&rt, path.as_str()), Ok(()));
     assert!(rt; File::open(&rt, path.as_str()).is_err());
     assert!(rt; File::open(&rt, part.as_str()).is_err());
     assert_eq!(rt; write_new(&rt, path.as_str(), &rows), Ok(false));
     assert!(rt; File::open(&rt, part.as_str()).is_err());
-    let found = fs::read(&rt, path.as_str())?;
-    fs::remove_file(&rt, path.as_str())?;
-    let Ok(wanted) = file_of(alloc, &rows, &TWO_ROWS) else {
-        return Err(Fail::from("not written"));
-    };
+    let found = fs::read(&rt, path.as_str()).expect(&rt, "read");
+    fs::remove_file(&rt, path.as_str()).expect(&rt, "remove_file");
+    let wanted = file_of(alloc, &rows, &TWO_ROWS).expect(&rt, "file_of");
     assert_eq!(rt; found.as_slice(), wanted.as_slice());
     assert_eq!(rt;
         write_new(&rt, "/tmp/none/of/these", &rows),
         Err(WriteFault::Failed)
     );
-    Ok(())
 }

@@ -101,7 +101,7 @@ fn asks_again(alloc: Global, source: &mut FileSource<MemoryFile>) -> Result<Stri
 }
 
 #[test]
-fn openers_sources_and_files_tell_what_they_did_and_have(rt: HostRuntime) -> Result<(), Fail> {
+fn openers_sources_and_files_tell_what_they_did_and_have(rt: HostRuntime) {
     let alloc = rt.alloc();
     let mut opener = FileOpener::new(memory(&rt, alloc, &[0; 56]));
     assert_eq!(rt;
@@ -119,7 +119,10 @@ fn openers_sources_and_files_tell_what_they_did_and_have(rt: HostRuntime) -> Res
     assert_eq!(rt; opener.file().size(), Ok(56));
     let file = memory(&rt, alloc, whole(&rt, alloc).as_slice());
     let mut source = FileSource::new(alloc, file, true);
-    assert_eq!(rt; asks_again(alloc, &mut source)?.as_str(), FIRST);
+    let Ok(first) = asks_again(alloc, &mut source) else {
+        panic!(rt; "no answer");
+    };
+    assert_eq!(rt; first.as_str(), FIRST);
     assert_eq!(rt; (source.refused(), source.fault_count()), (None, 0));
     assert_eq!(rt; source.file().size(), Ok(293));
     let file = memory(&rt, alloc, &[1, 2, 3]);
@@ -133,5 +136,4 @@ fn openers_sources_and_files_tell_what_they_did_and_have(rt: HostRuntime) -> Res
         assert_eq!(rt; file.fill(offset, &mut buffer), wanted);
         assert_eq!(rt; buffer, bytes);
     }
-    Ok(())
 }

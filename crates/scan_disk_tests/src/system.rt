@@ -20,25 +20,27 @@ fn on_disk(
 }
 
 #[test]
-fn files_of_the_system_are_read_and_directories_are_refused(rt: HostRuntime) -> Result<(), Fail> {
+fn files_of_the_system_are_read_and_directories_are_refused(rt: HostRuntime) {
     let alloc = rt.alloc();
     let id = process::id(rt.process());
-    let path = format!(in alloc; "/tmp/scan_disk_{id}")?;
-    let found = on_disk(&rt, alloc, path.as_str())?;
-    fs::remove_file(&rt, path.as_str())?;
+    let path = format!(in alloc; "/tmp/scan_disk_{id}").expect(&rt, "format");
+    let Ok(found) = on_disk(&rt, alloc, path.as_str()) else {
+        panic!(rt; "not on disk");
+    };
+    fs::remove_file(&rt, path.as_str()).expect(&rt, "remove_file");
     assert_eq!(rt;
         found.as_str(),
         said(&rt, alloc, "<leaf> | <1> <2>").as_str()
     );
     assert!(rt; File::open(&rt, "/tmp/scan_disk/none").is_err());
-    let (one, other) = (File::open(&rt, "/")?, File::open(&rt, "/")?);
+    let one = File::open(&rt, "/").expect(&rt, "open");
+    let other = File::open(&rt, "/").expect(&rt, "open");
     let found = told(&rt, alloc, one, other, false, &[0]);
     // a directory has a size of its own on each system of files
     assert!(rt;
         found.as_str() == "Failed | failed 1" || found.as_str() == "Short | Short",
         "{found}"
     );
-    Ok(())
 }
 
 /// A file in memory that is another one after so many calls, or of which each further call fails.
