@@ -24,8 +24,9 @@ fn files_of_the_system_are_read_and_directories_are_refused(rt: HostRuntime) {
     let alloc = rt.alloc();
     let id = process::id(rt.process());
     let path = format!(in alloc; "/tmp/scan_disk_{id}").expect(&rt, "format");
-    let Ok(found) = on_disk(&rt, alloc, path.as_str()) else {
-        panic!(rt; "not on disk");
+    let found = match on_disk(&rt, alloc, path.as_str()) {
+        Ok(found) => found,
+        Err(_) => panic!(rt; "not on disk"),
     };
     fs::remove_file(&rt, path.as_str()).expect(&rt, "remove_file");
     assert_eq!(rt;

@@ -82,13 +82,14 @@ fn run_block(
     } else {
         "1"
     };
-    let mut verdict = "as wanted";
+    let mut is_right = true;
     for each in all.split_whitespace() {
         let input = input.replace(alloc, "<each>", each)?;
         if !ends_so(rt, alloc, hasher, &case, input.as_str(), lines.as_str())? {
-            verdict = "WRONG";
+            is_right = false;
         }
     }
+    let verdict = if is_right { "as wanted" } else { "WRONG" };
     let status = case.status;
     let title = case.title;
     println!(rt; "{status} {verdict}: {title}")

@@ -35,17 +35,18 @@ fn read_block(
 ) -> io::Result<()> {
     let (head, lines) = block.split_once('\n').unwrap_or((block, ""));
     let (kind, around) = head.split_once("; ").unwrap_or((head, "@"));
-    let mut verdict = "as wanted";
+    let mut is_right = true;
     for line in lines.lines() {
         match holds(alloc, kind, around, line) {
             Ok(true) => {}
             Ok(false) => {
                 println!(rt; "{line}")?;
-                verdict = "WRONG";
+                is_right = false;
             }
             Err(NoMemory) => return Err(Error::from(ErrorKind::OutOfMemory)),
         }
     }
+    let verdict = if is_right { "as wanted" } else { "WRONG" };
     println!(rt; "{verdict}: {head}")
 }
 
