@@ -63,10 +63,8 @@ fn run_examples(
 ) -> io::Result<()> {
     println!(rt; "{path}")?;
     let text = fs::read_to_string(rt, path)?;
-    let (names, examples) = text
-        .as_str()
-        .split_once("\n\n")
-        .unwrap_or(("", text.as_str()));
+    let text = text.as_str();
+    let (names, examples) = text.split_once("\n\n").unwrap_or(("", text));
     for example in examples.trim_end().split("\n\n") {
         run_example(rt, alloc, hasher, program, names, example)?;
     }
@@ -87,10 +85,8 @@ fn run_example(
         return println!(rt; "{first}: no example");
     };
     let text = expanded(alloc, names, rest)?;
-    let (input, lines) = text
-        .as_str()
-        .split_once('\n')
-        .unwrap_or((text.as_str(), ""));
+    let text = text.as_str();
+    let (input, lines) = text.split_once('\n').unwrap_or((text, ""));
     let each = match head.how.strip_prefix("each ") {
         Some(words) => words,
         None if input.contains("<each>") => "1 2 4",
