@@ -64,7 +64,9 @@ fn run_examples(
     println!(rt; "{path}")?;
     let text = fs::read_to_string(rt, path)?;
     let text = text.as_str();
-    let (names, examples) = text.split_once("\n\n").unwrap_or(("", text));
+    let Some((names, examples)) = text.split_once("\n\n") else {
+        return println!(rt; "{path}: no names");
+    };
     for example in examples.trim_end().split("\n\n") {
         run_example(rt, alloc, hasher, program, names, example)?;
     }
@@ -86,7 +88,9 @@ fn run_example(
     };
     let text = expanded(alloc, names, rest)?;
     let text = text.as_str();
-    let (input, lines) = text.split_once('\n').unwrap_or((text, ""));
+    let Some((input, lines)) = text.split_once('\n') else {
+        return println!(rt; "{first}: no input");
+    };
     let each = match head.how.strip_prefix("each ") {
         Some(words) => words,
         None if input.contains("<each>") => "1 2 4",
