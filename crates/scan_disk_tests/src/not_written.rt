@@ -61,12 +61,17 @@ impl BytesOut for Failing {
 }
 
 #[test]
-fn what_is_too_deep_not_well_formed_or_fails_is_told(rt: HostRuntime) {
+fn what_is_too_deep_or_not_well_formed_is_told(rt: HostRuntime) {
     let alloc = rt.alloc();
     assert_eq!(rt; nested_fault(&rt, alloc, 41), None);
     assert_eq!(rt; nested_fault(&rt, alloc, 42), Some(WriteFault::Depth));
     let wanted = WriteFault::Layout(LayoutFault::ChildDType);
     assert_eq!(rt; unserved(&rt, alloc), Some(wanted));
+}
+
+#[test]
+fn a_write_that_fails_is_told(rt: HostRuntime) {
+    let alloc = rt.alloc();
     let bytes = rows(&rt, alloc, &DType::u8(), "\"u8\"", "[1,2,3]");
     for left in 0..8 {
         let mut out = Failing { left };
@@ -81,7 +86,12 @@ fn what_is_too_deep_not_well_formed_or_fails_is_told(rt: HostRuntime) {
             "after {left}"
         );
     }
-    // segments have numbers from nought on
+}
+
+#[test]
+fn segments_have_numbers_from_nought_on(rt: HostRuntime) {
+    let alloc = rt.alloc();
+    let bytes = rows(&rt, alloc, &DType::u8(), "\"u8\"", "[1,2,3]");
     let mut segments = Segments::new(alloc);
     for size in [2, 4] {
         assert!(rt; encode_rows(alloc, &bytes, &TWO_ROWS, &mut segments).is_ok());

@@ -101,7 +101,7 @@ fn asks_again(alloc: Global, source: &mut FileSource<MemoryFile>) -> Result<Stri
 }
 
 #[test]
-fn openers_sources_and_files_tell_what_they_did_and_have(rt: HostRuntime) {
+fn an_opener_tells_what_it_did_and_its_file(rt: HostRuntime) {
     let alloc = rt.alloc();
     let mut opener = FileOpener::new(memory(&rt, alloc, &[0; 56]));
     assert_eq!(rt;
@@ -117,6 +117,11 @@ fn openers_sources_and_files_tell_what_they_did_and_have(rt: HostRuntime) {
         wanted
     );
     assert_eq!(rt; opener.file().size(), Ok(56));
+}
+
+#[test]
+fn a_source_tells_what_it_did_and_its_file(rt: HostRuntime) {
+    let alloc = rt.alloc();
     let file = memory(&rt, alloc, whole(&rt, alloc).as_slice());
     let mut source = FileSource::new(alloc, file, true);
     let first = match asks_again(alloc, &mut source) {
@@ -126,6 +131,11 @@ fn openers_sources_and_files_tell_what_they_did_and_have(rt: HostRuntime) {
     assert_eq!(rt; first.as_str(), FIRST);
     assert_eq!(rt; (source.refused(), source.fault_count()), (None, 0));
     assert_eq!(rt; source.file().size(), Ok(293));
+}
+
+#[test]
+fn a_buffer_is_filled_from_a_place_that_the_file_has(rt: HostRuntime) {
+    let alloc = rt.alloc();
     let file = memory(&rt, alloc, &[1, 2, 3]);
     for (offset, wanted, bytes) in [
         (0, Ok(()), [1, 2]),
