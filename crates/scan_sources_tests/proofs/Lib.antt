@@ -1,2 +1,1 @@
-pub mod Applying
-pub mod Idle
+pub mod Parting

@@ -1,31 +1,34 @@
-//! Worked examples of scans of one reader, of what their splits, streams and iterators ask, give and end with, set up at once
-//! or when they are first asked; and of sources of data, of one reader and of many files. All are lines of a text, each read
-//! and held to what it says.
+//! Worked examples of streams: what they ask, give and end with; and of sources of data, of one reader and of many files:
+//! what is known of their rows and bytes, what the parts of their scans give, and what is refused.
 #![tactic(auto)]
 
 #[cfg(test)]
-mod cases;
+mod columns;
 #[cfg(test)]
-mod claims;
+mod empties;
 #[cfg(test)]
-mod files;
+mod estimates;
 #[cfg(test)]
 mod iters;
 #[cfg(test)]
-mod lazily;
+mod limits;
 #[cfg(test)]
-mod many;
+mod maps;
 #[cfg(test)]
-mod scans;
+mod pairs;
 #[cfg(test)]
-mod setup;
+mod partitions;
 #[cfg(test)]
-mod sources;
+mod parts;
 #[cfg(test)]
-mod splits;
+mod requests;
+#[cfg(test)]
+mod rows;
+#[cfg(test)]
+mod six_rows;
+#[cfg(test)]
+mod stories;
 #[cfg(test)]
 mod streams;
 #[cfg(test)]
 mod told;
-#[cfg(test)]
-mod words;

@@ -1,125 +1,78 @@
-//! Streams of scans that are set up, over a source that is lent to them.
-ghost use Rattle.std.specs.Prelude.{◌≡◌, []};
-ghost use Rattle.scan_segments.specs.MemorySource.{source_state};
-ghost use Rattle.scan_segments.specs.Source.{none_live};
-ghost use Rattle.scan_streams.specs.Streams.{LiveAs};
-
-use crate::files::{Case, case_of, source};
-use crate::setup::refused;
-use crate::told::{Made, push_poll, push_source};
-use crate::words::{number, range};
-use scan_core::{Identity, MapStep, RepeatedScan, ScanStream};
-use scan_segments::MemorySource;
+//! Streams over a source in memory: what each story tells.
+use crate::six_rows::{source_of, stream_of};
+use crate::stories::{and_live, told};
 use std::alloc::Global;
-use std::fmt::Debug;
 use std::process::Abort;
-use std::string::String;
 
-/// What so many polls give.
-fn polls<T: Made + Drop, F: Debug + Drop, M: MapStep<Out = T, Fault = F> + Drop>(
-    rt: &impl Abort,
-    alloc: Global,
-    stream: &mut ScanStream<M>,
-    source: &mut MemorySource,
-    count: u64,
-    text: &mut String,
-)
-    requires step { (m : M) → M.can_apply m }
-    requires live { LiveAs (source_state source.old).live (stream.old.feed).live }
-    ensures live { LiveAs (source_state source.new).live (stream.new.feed).live }
-{
-    for _ in 0..count {
-        let poll = stream.poll_next(alloc, source);
-        push_poll(rt, alloc, &poll, text);
+/// What a stream tells that goes through a script.
+fn story(rt: &impl Abort, alloc: Global, case: &str, script: &str) -> String {
+    let mut source = source_of(rt, alloc, case);
+    let mut stream = stream_of(rt, alloc, case);
+    told(rt, alloc, &mut stream, &mut source, script)
+}
+
+/// Whether `CASE | SCRIPT -> TEXT` holds.
+fn holds(rt: &impl Abort, alloc: Global, line: &str) -> bool {
+    let Some((story_of, wanted)) = line.split_once(" -> ") else {
+        panic!(rt; "half a line");
+    };
+    let Some((case, script)) = story_of.split_once(" | ") else {
+        panic!(rt; "no script");
+    };
+    story(rt, alloc, case, script).as_str() == wanted
+}
+
+#[test]
+fn arrays_come_in_split_order_whatever_the_concurrency(rt: HostRuntime) {
+    for line in "at_once:1 | pppppal -> 1,2; 3; 4,5,6; end; end; asked 0 1 2; live 0
+at_once:2 | pppppal -> 1,2; 3; 4,5,6; end; end; asked 0 1 2; live 0
+at_once:4 | pppppal -> 1,2; 3; 4,5,6; end; end; asked 0 1 2; live 0
+at_once:100 | pppppal -> 1,2; 3; 4,5,6; end; end; asked 0 1 2; live 0"
+        .lines()
+    {
+        assert!(rt; holds(&rt, rt.alloc(), line), "at {line}");
     }
 }
 
-/// What so many polls for columns give.
-fn columns(
-    rt: &impl Abort,
-    alloc: Global,
-    stream: &mut ScanStream<Identity<u8>>,
-    source: &mut MemorySource,
-    count: u64,
-    text: &mut String,
-)
-    requires live { LiveAs (source_state source.old).live (stream.old.feed).live }
-    ensures live { LiveAs (source_state source.new).live (stream.new.feed).live }
-{
-    for _ in 0..count {
-        let poll = stream.poll_column(alloc, source);
-        push_poll(rt, alloc, &poll, text);
+// What is asked, what stays live, and where a stream ends.
+#[test]
+fn a_stream_asks_for_what_its_splits_want(rt: HostRuntime) {
+    for line in "at_once:1 wait:0,1 | pppapa -> pending; pending; 1,2; asked 0; 3; asked 0 1
+at_once:2 first:1 second:2 wait:0 | plppppa -> pending; live 1; 1; 2; 3,4,5,6; end; asked 0 1 2
+at_once:2 unordered wait:0 | pappp -> 3; asked 0 1; 1,2; 4,5,6; end
+at_once:3 fail:1 wait:0 | pppal -> source 1; end; end; asked 0 1 2; live 0
+at_once:1 segments:1 | ppp -> 1,2; corrupt 1; end"
+        .lines()
+    {
+        assert!(rt; holds(&rt, rt.alloc(), line), "at {line}");
     }
 }
 
-/// The dtype of a stream, what so many polls give, what was asked then, and how much is live after it is given up.
-#[tactic(auto, using(crate::proofs::Idle::idle_live))]
-pub(crate) fn drained<T: Made + Drop, F: Debug + Drop, M: MapStep<Out = T, Fault = F> + Drop>(
-    rt: &impl Abort,
-    alloc: Global,
-    stream: ScanStream<M>,
-    source: &mut MemorySource,
-    count: u64,
-) -> String
-    requires step { (m : M) → M.can_apply m }
-    requires fresh { (stream.feed).live ≡ [] }
-    requires idle { (source_state source.old).live ≡ none_live }
-    ensures idle { (source_state source.new).live ≡ none_live }
-{
-    let mut stream = stream;
-    let mut text = String::new(alloc);
-    let dtype = stream.dtype();
-    write!(text, " {dtype};").expect(rt, "write");
-    polls(rt, alloc, &mut stream, source, count, &mut text);
-    push_source(rt, source, &mut text);
-    stream.cancel(source);
-    let live = source.live().len();
-    write!(text, " live {live};").expect(rt, "write");
-    text
-}
-
-/// What a stream of a scan tells, of all rows or of those that are asked.
-pub(crate) fn streamed(
-    rt: &impl Abort,
-    alloc: Global,
-    scan: &mut RepeatedScan<Identity<u8>>,
-    text: &str,
-) -> String {
-    let Case {
-        segments,
-        calls,
-        ..
-    } = case_of(rt, alloc, text);
-    let mut source = source(alloc, segments, calls);
-    match scan.execute_array_stream(alloc, range(rt, text, "asked:")) {
-        Ok(stream) => {
-            let polls = number(rt, text, "polls:", 3);
-            drained(rt, alloc, stream, &mut source, polls)
-        }
-        Err(fault) => refused(rt, alloc, fault),
+// A map refuses arrays of so many rows; rows are trimmed before they are mapped.
+#[test]
+fn limits_trim_and_maps_refuse(rt: HostRuntime) {
+    for line in "limit:4 | ppppp -> 1,2; 3; 4; end; end
+limit:2 | ppa -> 1,2; end; asked 0
+at_once:3 refuse:1 wait:2 | ppppl -> 1,2; map 1; end; end; live 0
+limit:5 refuse:3 | pppp -> 1,2; 3; 4,5; end
+refuse:3 | pppp -> 1,2; 3; map 3; end"
+        .lines()
+    {
+        assert!(rt; holds(&rt, rt.alloc(), line), "at {line}");
     }
 }
 
-/// The same of so many polls for columns.
-#[tactic(auto, using(crate::proofs::Idle::idle_live))]
-pub(crate) fn in_columns(
-    rt: &impl Abort,
-    alloc: Global,
-    scan: &mut RepeatedScan<Identity<u8>>,
-    text: &str,
-) -> String {
-    let Case {
-        segments,
-        calls,
-        ..
-    } = case_of(rt, alloc, text);
-    let mut source = source(alloc, segments, calls);
-    let mut stream = scan
-        .execute_array_stream(alloc, None)
-        .expect(rt, "execute_array_stream");
-    let mut told = String::new(alloc);
-    let count = number(rt, text, "polls:", 7);
-    columns(rt, alloc, &mut stream, &mut source, count, &mut told);
-    push_source(rt, &source, &mut told);
-    told
+/// The same where the stream is given up at the end of the script.
+fn given_up(rt: &impl Abort, alloc: Global, case: &str, script: &str) -> String {
+    let mut source = source_of(rt, alloc, case);
+    let mut stream = stream_of(rt, alloc, case);
+    let text = told(rt, alloc, &mut stream, &mut source, script);
+    stream.cancel(&mut source);
+    and_live(rt, alloc, text, &source)
+}
+
+#[test]
+fn what_is_live_is_dropped_where_a_stream_is_given_up(rt: HostRuntime) {
+    let text = given_up(&rt, rt.alloc(), "at_once:3 wait:0,1,2", "pl");
+    assert_eq!(rt; text.as_str(), "pending; live 3; live 0");
 }

@@ -1,106 +1,146 @@
-//! What polls give, as a text: ` pending; 10,20; end;`.
-use scan_columns::Column;
-use scan_core::{SplitPoll, StreamFault, StreamPoll};
-use scan_segments::{MemorySource, SegmentId};
-use scan_values::Array;
+//! What scans of a source tell, as a text: each part as `0..4 limit 5 exact 4`, what it gives as ` gives 1 2`, of rows
+//! ` 1-10 2-20`.
+ghost use Rattle.std.specs.Prelude.{◌≡◌, []};
+
+use crate::rows::segments;
+use scan_readers::LayoutReader;
+use scan_segments::MemorySource;
+use scan_sources::{
+    LayoutReaderDataSource, LayoutReaderScan, LayoutReaderSplit, LayoutScan, Precision, ScanRequest,
+};
+use scan_streams::{ArrayIter, Identity, ScanStream, StreamFault};
+use scan_values::{Array, Value};
 use std::alloc::Global;
-use std::fmt::Debug;
 use std::process::Abort;
 use std::string::String;
 
-/// What is made of an array, to be told.
-pub(crate) trait Made {
-    /// Tells it.
-    fn push(&self, rt: &impl Abort, alloc: Global, text: &mut String);
-}
-
-impl Made for Array {
-    fn push(&self, rt: &impl Abort, _alloc: Global, text: &mut String) {
-        for (i, value) in self.as_slice().iter().enumerate() {
-            let mark = if i > 0 { "," } else { " " };
-            write!(text, "{mark}{value}").expect(rt, "write");
-        }
+/// A number that is known, estimated or not known.
+pub(crate) fn known(rt: &impl Abort, alloc: Global, count: Precision<u64>) -> String {
+    match count {
+        Precision::Exact(n) => format!(in alloc; "exact {n}").expect(rt, "format"),
+        Precision::Inexact(n) => format!(in alloc; "inexact {n}").expect(rt, "format"),
+        Precision::Absent => String::from_str(alloc, "absent").expect(rt, "from_str"),
     }
 }
 
-impl Made for Column {
-    fn push(&self, rt: &impl Abort, alloc: Global, text: &mut String) {
-        let column = self.try_clone(alloc).expect(rt, "try_clone");
-        let array = column.to_array(alloc).expect(rt, "to_array");
-        array.push(rt, alloc, text)
+fn limited(rt: &impl Abort, alloc: Global, limit: Option<u64>) -> String {
+    match limit {
+        Some(n) => format!(in alloc; " limit {n}").expect(rt, "format"),
+        None => String::new(alloc),
     }
 }
 
-impl Made for usize {
-    fn push(&self, rt: &impl Abort, _alloc: Global, text: &mut String) {
-        write!(text, " {self} rows").expect(rt, "write")
-    }
+/// A part: its rows, its limit and its count of rows.
+fn part(rt: &impl Abort, alloc: Global, split: &LayoutReaderSplit) -> String {
+    let rows = split.row_range();
+    let start = rows.start;
+    let end = rows.end;
+    let limit = limited(rt, alloc, split.limit());
+    let count = known(rt, alloc, split.row_count());
+    format!(in alloc; "{start}..{end}{limit} {count}").expect(rt, "format")
 }
 
-/// Tells a poll of a stream.
-pub(crate) fn push_poll<T: Made, F: Debug>(
+/// A scan of a source in parts, where that is what comes.
+pub(crate) fn parts<R: LayoutReader + Drop>(
     rt: &impl Abort,
     alloc: Global,
-    poll: &StreamPoll<T, F>,
-    text: &mut String,
-) {
-    match poll {
-        StreamPoll::Pending => text.push_str(" pending").expect(rt, "push_str"),
-        StreamPoll::Item(made) => made.push(rt, alloc, text),
-        StreamPoll::End => text.push_str(" end").expect(rt, "push_str"),
-        StreamPoll::Fault(fault) => write!(text, " {fault:?}").expect(rt, "write"),
+    source: &mut LayoutReaderDataSource<R>,
+    request: ScanRequest,
+) -> LayoutReaderScan {
+    match source.scan(alloc, request) {
+        Ok(LayoutScan::Splits(scan)) => scan,
+        Ok(LayoutScan::Empty(_)) => panic!(rt; "nothing is read"),
+        Err(_) => panic!(rt; "a refusal"),
     }
-    text.push_str(";").expect(rt, "push_str")
 }
 
-/// Tells what comes next of an iterator.
-pub(crate) fn push_next<T: Made, F: Debug>(
+// A number, or the two numbers of a row.
+fn push_value(rt: &impl Abort, alloc: Global, value: &Value, text: &mut String) {
+    let told = match value {
+        Value::Int(number) => format!(in alloc; " {number}").expect(rt, "format"),
+        Value::Struct(values) => match values.as_slice() {
+            [Value::Int(a), Value::Int(b)] => format!(in alloc; " {a}-{b}").expect(rt, "format"),
+            _ => panic!(rt; "no two numbers"),
+        },
+        _ => panic!(rt; "not a number"),
+    };
+    text.push_str(told.as_str()).expect(rt, "push_str");
+}
+
+fn push_array(rt: &impl Abort, alloc: Global, array: &Array, text: &mut String) {
+    for value in array.as_slice() {
+        push_value(rt, alloc, value, text);
+    }
+}
+
+/// Tells an array, and whether there was one.
+fn push_next(
     rt: &impl Abort,
     alloc: Global,
-    next: &Option<Result<T, StreamFault<F>>>,
+    next: &Option<Result<Array, StreamFault<()>>>,
     text: &mut String,
-) {
+) -> bool {
     match next {
-        Some(Ok(made)) => made.push(rt, alloc, text),
-        Some(Err(fault)) => write!(text, " {fault:?}").expect(rt, "write"),
-        None => text.push_str(" none").expect(rt, "push_str"),
-    }
-    text.push_str(";").expect(rt, "push_str")
-}
-
-fn push_ids(rt: &impl Abort, ids: &[SegmentId], text: &mut String) {
-    for id in ids {
-        let number: u32 = **id;
-        write!(text, " {number}").expect(rt, "write");
+        Some(Ok(array)) => {
+            push_array(rt, alloc, array, text);
+            true
+        }
+        Some(Err(_)) => panic!(rt; "a fault"),
+        None => false,
     }
 }
 
-/// Tells a poll of a split.
-pub(crate) fn push_split<T: Made, F: Debug>(
+fn push_arrays(
     rt: &impl Abort,
     alloc: Global,
-    poll: &SplitPoll<T, F>,
+    arrays: &mut ArrayIter<Identity<()>, MemorySource>,
     text: &mut String,
 ) {
-    match poll {
-        SplitPoll::Pending(ids) => {
-            text.push_str(" wants").expect(rt, "push_str");
-            push_ids(rt, ids.as_slice(), text)
+    for _ in 0..4 {
+        let next = arrays.next(alloc);
+        if !push_next(rt, alloc, &next, text) {
+            return ();
         }
-        SplitPoll::Ready(Some(made)) => made.push(rt, alloc, text),
-        SplitPoll::Ready(None) => text.push_str(" none").expect(rt, "push_str"),
-        SplitPoll::Corrupt(id) => write!(text, " corrupt {id}").expect(rt, "write"),
-        SplitPoll::Map(fault) => write!(text, " map {fault:?}").expect(rt, "write"),
-        SplitPoll::Overflow => text.push_str(" overflow").expect(rt, "push_str"),
-        SplitPoll::NoMemory => panic!(rt; "no memory"),
     }
-    text.push_str(";").expect(rt, "push_str")
+    panic!(rt; "more than four arrays")
 }
 
-/// What was asked of a source, in its order, and how many requests have not ended: ` asked 0 2, live 2;`.
-pub(crate) fn push_source(rt: &impl Abort, source: &MemorySource, text: &mut String) {
-    text.push_str(" asked").expect(rt, "push_str");
-    push_ids(rt, source.asked(), text);
-    let live = source.live().len();
-    write!(text, ", live {live};").expect(rt, "write")
+/// The rows that a stream gives.
+pub(crate) fn push_stream(
+    rt: &impl Abort,
+    alloc: Global,
+    stream: ScanStream<Identity<()>>,
+    text: &mut String,
+)
+    requires { (stream.feed).live ≡ [] }
+{
+    let mut arrays = ArrayIter::new(stream, segments(rt, alloc));
+    push_arrays(rt, alloc, &mut arrays, text)
+}
+
+/// The numbers that a part gives.
+pub(crate) fn push_given(
+    rt: &impl Abort,
+    alloc: Global,
+    split: LayoutReaderSplit,
+    text: &mut String,
+) {
+    text.push_str(" gives").expect(rt, "push_str");
+    push_stream(rt, alloc, split.execute(alloc).expect(rt, "execute"), text)
+}
+
+/// Each part of a scan, up to nine of them, and what it gives.
+pub(crate) fn given(rt: &impl Abort, alloc: Global, scan: LayoutReaderScan) -> String {
+    let mut scan = scan;
+    let mut text = String::new(alloc);
+    for _ in 0..9 {
+        let Some(split) = scan.next_partition(alloc).expect(rt, "next_partition") else {
+            break;
+        };
+        text.push_str(part(rt, alloc, &split).as_str())
+            .expect(rt, "push_str");
+        push_given(rt, alloc, split, &mut text);
+        text.push_str(";").expect(rt, "push_str");
+    }
+    text
 }

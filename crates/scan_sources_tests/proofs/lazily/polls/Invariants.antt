@@ -1,7 +1,0 @@
-use Rattle.scan_segments.specs.MemorySource.{source_state}
-use Rattle.scan_streams.specs.Streams.{LiveAs}
-use Rattle.scan_core.specs.LazyData.{lazy_live}
-use Rattle.scan_sources_tests.proofs.lazily.polls.Given as goal
-
-abbrev pub invariant-loop : goal.invariant-loop
-invariant-loop g l = LiveAs (source_state l.source).live (lazy_live l.stream)
